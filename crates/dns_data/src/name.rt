@@ -1,0 +1,243 @@
+ghost use Rattle.std.specs.Prelude.{◌≡◌, ℕ, ◌+◌, ◌<◌, ◌≤◌, List, [], ◌∷◌, ◌++◌, length, slice_get, slice_index, take, OnOk, OnErr, IfOk, IsTrue, ◌↔◌, drop};
+ghost use Rattle.dns_data.specs.Name.{IsLabel, IsName, IsWire, IsWithin, wire_length, spelled, labels_of, lowered, same_labels};
+
+use crate::ascii::same_letters;
+use crate::{Copies, Labels, NoMemory};
+use std::alloc::Global;
+use std::marker::Model;
+
+/// A domain name (RFC 1035, section 3.1): labels of 1 to 63 bytes, at most 255 bytes in wire form, with the letters that
+/// it came with. Contracts see the list of its labels.
+#[derive(Debug, Drop)]
+pub struct Name {
+    // Each label behind its length byte, without the final zero byte.
+    wire: Vec<u8>,
+}
+
+impl Model for Name {
+    ghost use Rattle.std.specs.Prelude.{ℕ, List};
+    ghost use Rattle.dns_data.specs.Name.{IsWire, labels_of};
+
+    ghost Value = { List (List ℕ) };
+
+    ghost view = { λ n. labels_of n.wire.items };
+
+    ghost invariant = { λ n. IsWire n.wire.items };
+}
+
+impl Name {
+    /// The name without labels, which takes no memory.
+    pub fn root(alloc: Global) -> Name
+        ensures { result ≡ [] }
+    {
+        Name {
+            wire: Vec::new(alloc),
+        }
+    }
+
+    /// The name that bytes spell in wire form, without the final zero byte.
+    pub fn of_wire(alloc: Global, wire: &[u8]) -> Result<Name, NoMemory>
+        requires { IsWire wire.now }
+        ensures { IfOk result (λ n. n ≡ labels_of wire.now) }
+    {
+        Ok(Name {
+            wire: Vec::from_slice(alloc, wire)?,
+        })
+    }
+
+    /// How many bytes it takes in wire form, the final zero byte included.
+    pub fn wire_len(&self) -> usize
+        ensures value { result ≡ wire_length self.now }
+        ensures proper { IsName self.now }
+    {
+        self.wire.len() + 1
+    }
+
+    /// The wire form without the final zero byte.
+    pub fn as_wire(&self) -> &[u8]
+        ensures value { result.now ≡ spelled self.now }
+        ensures proper { IsName self.now }
+    {
+        &self.wire
+    }
+
+    /// Its labels from the first on.
+    pub fn labels(&self) -> Labels<'_>
+        ensures { result ≡ self.now }
+    {
+        Labels::of(self)
+    }
+
+    /// Adds a label at the end, next to the root.
+    pub fn push(&mut self, label: &[u8]) -> Result<(), NoMemory>
+        requires label { IsLabel label.now }
+        requires room { wire_length self.old + length label.now + 1 ≤ 255 }
+        ensures ok { OnOk result (self.new ≡ self.old ++ label.now ∷ []) }
+        ensures err { OnErr result (self.new ≡ self.old) }
+    {
+        self.wire.reserve(label.len() + 1)?;
+        self.wire.push(label.len() as u8)?;
+        self.wire.extend_from_slice(label)?;
+        Ok(())
+    }
+
+    /// The name with a label before it.
+    pub fn below(&self, alloc: Global, label: &[u8]) -> Result<Name, NoMemory>
+        requires label { IsLabel label.now }
+        requires room { wire_length self.now + length label.now + 1 ≤ 255 }
+        ensures { IfOk result (λ n. n ≡ label.now ∷ self.now) }
+    {
+        let mut wire = Vec::with_capacity(alloc, self.wire.len() + label.len() + 1)?;
+        wire.push(label.len() as u8)?;
+        wire.extend_from_slice(label)?;
+        wire.extend_from_slice(&self.wire)?;
+        Ok(Name { wire })
+    }
+
+    /// The name with every ASCII capital made small.
+    pub fn lower(&self, alloc: Global) -> Result<Name, NoMemory>
+        ensures { IfOk result (λ n. n ≡ lowered self.now) }
+    {
+        Ok(Name {
+            wire: self.wire.to_ascii_lowercase(alloc)?,
+        })
+    }
+
+    /// Makes every ASCII capital small.
+    pub fn make_lower(&mut self)
+        ensures { self.new ≡ lowered self.old }
+    {
+        self.wire.make_ascii_lowercase();
+    }
+
+    /// Becomes the name that bytes spell, in the room that is there.
+    pub fn set_wire(&mut self, wire: &[u8]) -> Result<(), NoMemory>
+        requires { IsWire wire.now }
+        ensures ok { OnOk result (self.new ≡ labels_of wire.now) }
+        ensures err { OnErr result (self.new ≡ self.old) }
+    {
+        self.wire.reserve(wire.len())?;
+        self.wire.clear();
+        self.wire.extend_from_slice(wire)?;
+        Ok(())
+    }
+
+    /// Drops all labels, and keeps the room.
+    pub fn clear(&mut self)
+        ensures { self.new ≡ [] }
+    {
+        self.wire.clear();
+    }
+
+    /// Adds labels in wire form at the end, next to the root, by one copy.
+    pub fn append(&mut self, wire: &[u8]) -> Result<(), NoMemory>
+        requires labels { IsWire wire.now }
+        requires room { wire_length self.old + length wire.now ≤ 255 }
+        ensures ok { OnOk result (self.new ≡ self.old ++ labels_of wire.now) }
+        ensures err { OnErr result (self.new ≡ self.old) }
+    {
+        self.wire.extend_from_slice(wire)?;
+        Ok(())
+    }
+
+    /// Becomes another name, in the room that is there.
+    pub fn set(&mut self, other: &Name) -> Result<(), NoMemory>
+        ensures ok { OnOk result (self.new ≡ other.now) }
+        ensures err { OnErr result (self.new ≡ self.old) }
+    {
+        self.set_wire(&other.wire)
+    }
+
+    /// Whether the names are equal byte for byte.
+    pub fn equals(&self, other: &Name) -> bool
+        ensures test { result ≡ same_labels self.now other.now }
+        ensures same { IsTrue result ↔ (self.now ≡ other.now) }
+    {
+        self.wire.as_slice() == other.wire.as_slice()
+    }
+
+    /// Whether the names are equal, ASCII case aside (RFC 4343).
+    pub fn same(&self, other: &Name) -> bool
+        ensures { IsTrue result ↔ (lowered self.now ≡ lowered other.now) }
+    {
+        same_letters(&self.wire, &other.wire)
+    }
+
+    /// Whether the zone is a suffix of the name on whole labels, ASCII case aside.
+    pub fn is_within(&self, zone: &Name) -> bool
+        ensures { IsTrue result ↔ IsWithin self.now zone.now }
+    {
+        let mut rest = self.wire.as_slice();
+        while zone.wire.len() < rest.len() {
+            rest = behind_first(rest);
+        }
+        same_letters(rest, &zone.wire)
+    }
+
+    /// How many labels it has. This is a walk.
+    pub fn label_count(&self) -> usize
+        ensures { result ≡ length self.now }
+    {
+        let mut rest = self.wire.as_slice();
+        let mut count = 0;
+        while 0 < rest.len() {
+            rest = behind_first(rest);
+            count += 1;
+        }
+        count
+    }
+
+    /// The label at an index. This is a walk from the first label on: go over all of them by `labels`.
+    pub fn label(&self, index: usize) -> &[u8]
+        requires { index < length self.now }
+        ensures value { slice_get self.now index ≡ Some result.now }
+        ensures label { IsLabel result.now }
+    {
+        first_label(behind(&self.wire, index))
+    }
+
+    /// The name without its first labels.
+    pub fn suffix(&self, alloc: Global, from: usize) -> Result<Name, NoMemory>
+        requires { from ≤ length self.now }
+        ensures { IfOk result (λ n. n ≡ drop from self.now) }
+    {
+        Name::of_wire(alloc, behind(&self.wire, from))
+    }
+}
+
+impl Copies for Name {
+    fn copy(&self, alloc: Global) -> Result<Name, NoMemory> {
+        Name::of_wire(alloc, &self.wire)
+    }
+}
+
+// What stands behind the first labels.
+fn behind(wire: &[u8], count: usize) -> &[u8]
+    requires wire { IsWire wire.now }
+    requires inside { count ≤ length (labels_of wire.now) }
+    ensures { result.now ≡ spelled (drop count (labels_of wire.now)) }
+{
+    let mut rest = wire;
+    for index in 0..count {
+        rest = behind_first(rest);
+    }
+    rest
+}
+
+// What stands behind the label at the head.
+#[inline]
+pub(crate) fn behind_first(rest: &[u8]) -> &[u8]
+    requires { slice_index rest.now 0 + 1 ≤ length rest.now }
+    ensures { result.now ≡ drop (slice_index rest.now 0 + 1) rest.now }
+{
+    &rest[rest[0] as usize + 1..]
+}
+
+// The label at the head.
+#[inline]
+pub(crate) fn first_label(rest: &[u8]) -> &[u8]
+    requires { slice_index rest.now 0 + 1 ≤ length rest.now }
+    ensures { result.now ≡ take (slice_index rest.now 0) (drop 1 rest.now) }
+{
+    &rest[1..rest[0] as usize + 1]
+}

@@ -1,4 +1,4 @@
-ghost use Rattle.std.specs.Prelude.{◌≡◌, ℕ, ◌<◌, List, [], ◌∷◌, ◌++◌, length, slice_index, OnOk, OnErr, IfOk};
+ghost use Rattle.std.specs.Prelude.{◌≡◌, ◌↔◌, ℕ, ◌<◌, List, [], ◌∷◌, ◌++◌, length, slice_index, OnOk, OnErr, IfOk, IsTrue};
 
 use crate::{Copies, NoMemory};
 use std::alloc::Global;
@@ -75,6 +75,13 @@ impl Bytes {
         ensures { result ≡ slice_index self.now index }
     {
         self.items[index]
+    }
+
+    /// Whether these are the bytes.
+    pub fn is(&self, bytes: &[u8]) -> bool
+        ensures { IsTrue result ↔ (self.now ≡ bytes.now) }
+    {
+        self.items.as_slice() == bytes
     }
 
     pub fn as_slice(&self) -> &[u8]

@@ -31,6 +31,15 @@ impl<T> Seq<T> {
         }
     }
 
+    /// An empty list with room for so many items.
+    pub fn with_capacity(alloc: Global, items: usize) -> Result<Seq<T>, NoMemory>
+        ensures { IfOk result (λ s. s ≡ []) }
+    {
+        Ok(Seq {
+            items: Vec::with_capacity(alloc, items)?,
+        })
+    }
+
     /// The items of a `Vec`, which are moved and not copied.
     pub fn of(items: Vec<T>) -> Seq<T>
         ensures { result ≡ items.items }

@@ -1,0 +1,6 @@
+pub mod Blocks
+pub mod Numbers
+pub mod Openings
+pub mod Pieces
+pub mod WhoamiLemmas
+pub mod Working

@@ -1,0 +1,9 @@
+pub mod Number
+pub mod Command
+pub mod Corefile
+pub mod Whoami
+pub mod Serve
+pub mod Turn
+pub mod Worker
+pub mod Opening
+pub mod Report

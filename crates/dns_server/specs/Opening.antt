@@ -1,0 +1,80 @@
+-- The opening of a run: the reads that give the first bundle, and its publication. This server's own rule.
+use Rattle.std.specs.Prelude.{◌≡◌, ◌⊎◌, ℕ, List, [], ◌∷◌, Option, Some, None, Result, Ok, Err}
+use Rattle.dns_data.specs.declared.message.Transport.TheVariants.{Udp}
+use Rattle.outside.specs.declared.watch.ReadOut.{ReadOut}
+use Rattle.outside.specs.declared.watch.ReadOut.TheVariants as readout
+use Rattle.outside.specs.declared.mark.WatchMark.{WatchMark}
+use Rattle.outside.specs.declared.mark.WatchMark.TheVariants.{Read, Published}
+use Rattle.outside.specs.Causes.{Rose}
+use Rattle.outside.specs.Hosts.{OpenedSide}
+use Rattle.outside.specs.WatchMarks.{WatchState, AddsWatch}
+use Rattle.dns_server.specs.declared.chain.Chain.{Chain}
+use Rattle.dns_server.specs.declared.corefile.Bundle.{Bundle}
+use Rattle.dns_server.specs.declared.corefile.Corefile.{Corefile}
+use Rattle.dns_server.specs.declared.first.FirstFault.{FirstFault}
+use Rattle.dns_server.specs.declared.first.FirstFault.TheVariants as fault
+use Rattle.dns_server.specs.Corefile.{IsCorefile}
+use Rattle.dns_server.specs.Serve.{IsAccepted, IsChain}
+
+-- the one read of the Corefile, whatever it gave
+pub record IsOneRead (conf : List ℕ) (journal : List WatchMark) : Type 0 where
+  pub out : ReadOut
+  pub is : journal ≡ Read conf out ∷ []
+
+-- the watch's journal: the read that gave the first bundle and its publication, or at most that read
+abbrev pub OpensWith : List ℕ → List Bundle → List WatchMark → Type 0
+OpensWith conf [] journal = (journal ≡ []) ⊎ IsOneRead conf journal
+OpensWith conf (bundle ∷ []) journal = journal ≡ Read conf (readout.Got bundle.conf) ∷ Published 0 ∷ []
+OpensWith conf (bundle ∷ other ∷ others) journal = ⊥
+
+-- the sides of a Corefile: one for the port of its block
+abbrev pub endpoints_of : Option ℕ → List OpenedSide
+endpoints_of None = []
+endpoints_of (Some port) = record { port = port; by = Udp; number = 0 } ∷ []
+
+-- the first bundle is accepted, and these are the sides that its text wants
+pub record WantsSides (default_port : ℕ) (bundle : Bundle) (sides : List OpenedSide) : Type 0 where
+  pub corefile : Corefile
+  pub accepted : IsAccepted bundle default_port corefile
+  pub are : sides ≡ endpoints_of corefile.port
+
+abbrev pub OpensSides : ℕ → List Bundle → List OpenedSide → Type 0
+OpensSides default_port [] sides = sides ≡ []
+OpensSides default_port (bundle ∷ others) sides = WantsSides default_port bundle sides
+
+-- what reading the first bundle answers, and the marks that it adds to the watch's journal
+pub record ReadsUnbuilt (conf : List ℕ) (default_port : ℕ) (old new : WatchState) : Type 0 where
+  pub bytes : List ℕ
+  pub told : AddsWatch old new (Read conf (readout.Got bytes) ∷ [])
+  pub no_corefile : (corefile : Corefile) → IsCorefile default_port bytes corefile → ⊥
+
+-- a read may be told before want of memory comes
+pub record ReadsAtMost (conf : List ℕ) (old new : WatchState) : Type 0 where
+  pub marks : List WatchMark
+  pub told : AddsWatch old new marks
+  pub are : (marks ≡ []) ⊎ IsOneRead conf marks
+
+pub record ReadsChain (conf : List ℕ) (default_port : ℕ) (old new : WatchState) (chain : Chain) : Type 0 where
+  pub told : AddsWatch old new (Read conf (readout.Got chain.bundle.conf) ∷ [])
+  pub port : chain.default_port ≡ default_port
+  pub is : IsChain chain
+
+abbrev pub ReadsFirst : List ℕ → ℕ → WatchState → WatchState → Result Chain FirstFault → Type 0
+ReadsFirst conf default_port old new (Ok chain) = ReadsChain conf default_port old new chain
+ReadsFirst conf default_port old new (Err fault.NoCorefile) = AddsWatch old new (Read conf readout.Missing ∷ [])
+ReadsFirst conf default_port old new (Err fault.Unbuilt) = ReadsUnbuilt conf default_port old new
+ReadsFirst conf default_port old new (Err fault.ReadFailed) = AddsWatch old new (Read conf readout.Failed ∷ []) × Rose old.counts.reads new.counts.reads
+ReadsFirst conf default_port old new (Err fault.NoMemory) = ReadsAtMost conf old new
+
+-- what the bytes of a first bundle make
+pub record IsMade (conf : List ℕ) (default_port : ℕ) (chain : Chain) : Type 0 where
+  pub conf_is : chain.bundle.conf ≡ conf
+  pub port : chain.default_port ≡ default_port
+  pub is : IsChain chain
+
+abbrev pub MakesChain : List ℕ → ℕ → Result Chain FirstFault → Type 0
+MakesChain conf default_port (Ok chain) = IsMade conf default_port chain
+MakesChain conf default_port (Err fault.NoCorefile) = ⊥
+MakesChain conf default_port (Err fault.Unbuilt) = (corefile : Corefile) → IsCorefile default_port conf corefile → ⊥
+MakesChain conf default_port (Err fault.ReadFailed) = ⊥
+MakesChain conf default_port (Err fault.NoMemory) = Unit {0}

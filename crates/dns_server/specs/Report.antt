@@ -1,0 +1,189 @@
+-- What a run reports: how each side worked, what was published, and the cause of its status. This server's own rule.
+use Rattle.std.specs.Prelude.{◌≡◌, ◌<◌, ◌≢◌, ◌⊎◌, ℕ, List, [], ◌∷◌, length, map, Option, None, IfSome, option_map}
+use Rattle.std.specs.List.{AllByRecursion}
+use Rattle.outside.specs.declared.mark.Mark.{Mark}
+use Rattle.outside.specs.declared.mark.WatchMark.{WatchMark}
+use Rattle.outside.specs.declared.mark.WatchMark.TheVariants.{Read}
+use Rattle.outside.specs.declared.watch.ReadOut.TheVariants as readout
+use Rattle.outside.specs.Causes.{Rose, RoseBy, SideCounts, HostCounts}
+use Rattle.outside.specs.Hosts.{HostTold, OpenedSide, AddsHost}
+use Rattle.outside.specs.WatchMarks.{WatchState}
+use Rattle.dns_server.specs.declared.corefile.Bundle.{Bundle}
+use Rattle.dns_server.specs.declared.corefile.Corefile.{Corefile}
+use Rattle.dns_server.specs.declared.first.FirstFault.{FirstFault}
+use Rattle.dns_server.specs.declared.first.FirstFault.TheVariants as fault
+use Rattle.dns_server.specs.declared.report.Done.{Done}
+use Rattle.dns_server.specs.declared.report.Refusal.TheVariants.{NoCorefile, Unbuilt}
+use Rattle.dns_server.specs.declared.report.Status.{Status}
+use Rattle.dns_server.specs.declared.report.Status.TheVariants as status
+use Rattle.dns_server.specs.declared.worker.WorkEnd.{WorkEnd}
+use Rattle.dns_server.specs.declared.worker.WorkEnd.TheVariants as ends
+use Rattle.dns_server.specs.Command.{CommandData, IsCommand}
+use Rattle.dns_server.specs.Corefile.{IsCorefile}
+use Rattle.dns_server.specs.Opening.{OpensWith, OpensSides}
+use Rattle.dns_server.specs.Worker.{WorkerRun}
+
+-- a side's journal where it tells one, its counts, how its worker ended, its pins, the last serial that it has seen, and
+-- how often it met want of memory
+pub record SideRun : Type 0 where
+  pub journal : Option (List Mark)
+  pub counts : SideCounts
+  pub end : WorkEnd
+  pub pins : ℕ
+  pub seen : ℕ
+  pub starved : ℕ
+
+-- what a report has
+pub record RunData : Type 0 where
+  pub status : Status
+  pub sides : List SideRun
+  pub watch : Option WatchState
+  pub published : ℕ
+  pub starved : ℕ
+
+-- how a side's worker ended, by what the side's type tells
+abbrev pub side_run : {S : Type 0} → (S → Option (List Mark)) → (S → SideCounts) → Done S → SideRun
+side_run journal counts done = record { journal = journal done.side; counts = counts done.side; end = done.end; pins = done.pins; seen = done.seen; starved = done.starved }
+
+-- what a report has, by what the types of its sides and its watch tell
+abbrev pub run_data : {S W : Type 0} → (S → Option (List Mark)) → (S → SideCounts) → (W → WatchState) → Status → List (Done S) → Option W → ℕ → ℕ → RunData
+run_data journal counts state how sides watch published starved =
+    record { status = how; sides = map (side_run journal counts) sides; watch = option_map state watch; published = published; starved = starved }
+
+-- a side that tells its journal tells a worker's run by the published bundles; a worker that could not receive met 64
+-- failing calls
+pub record TellsRun (bundles : List Bundle) (default_port most : ℕ) (side : SideRun) : Type 0 where
+  pub run : IfSome side.journal (WorkerRun bundles default_port most side.pins side.seen side.starved side.end)
+  pub seen : side.seen < length bundles
+  pub failed : side.end ≡ ends.RecvFailed → RoseBy 64 0 side.counts.recv
+
+-- each published bundle is accepted
+pub record IsServed (default_port : ℕ) (bundle : Bundle) : Type 0 where
+  pub corefile : Corefile
+  pub accepted : IsCorefile default_port bundle.conf corefile
+
+-- a run by a command: one list of published bundles stands behind the watch's journal, the sides that were opened, and
+-- each side's journal
+pub record ServesBy (command : CommandData) (default_port : ℕ) (run : RunData) (before after : Option HostTold) : Type 0 where
+  pub bundles : List Bundle
+  pub count : length bundles ≡ run.published
+  pub accepted : AllByRecursion (IsServed default_port) bundles
+  pub opening : IfSome run.watch (λ w. IfSome w.journal (OpensWith command.conf bundles))
+  pub endpoints : List OpenedSide
+  pub opened : OpensSides default_port bundles endpoints
+  pub told : AddsHost before after [] endpoints
+  pub one_each : length run.sides ≡ length endpoints
+  pub sides : AllByRecursion (TellsRun bundles default_port command.most) run.sides
+
+-- no words are a command
+abbrev pub IsUsage : List (List ℕ) → Type 0
+IsUsage words = (command : CommandData) → IsCommand words command → ⊥
+
+-- where the watch tells its journal, it is the one read of the Corefile, which gave this
+abbrev pub HasRead : Option WatchState → List WatchMark → Type 0
+HasRead watch journal = IfSome watch (λ w. IfSome w.journal (λ told. told ≡ journal))
+
+-- nothing was published
+pub record IsRefused (run : RunData) (P : Type 0) : Type 0 where
+  pub published : run.published ≡ 0
+  pub watch : run.watch ≢ None
+  pub why : P
+
+-- the first bundle's text is no Corefile
+pub record IsUnbuilt (command : CommandData) (default_port : ℕ) (run : RunData) : Type 0 where
+  pub conf : List ℕ
+  pub read : HasRead run.watch (Read command.conf (readout.Got conf) ∷ [])
+  pub no_corefile : (corefile : Corefile) → IsCorefile default_port conf corefile → ⊥
+
+-- the first bundle's text is a Corefile without a block, so that there is nothing to serve
+pub record HasNoBlock (command : CommandData) (default_port : ℕ) (run : RunData) : Type 0 where
+  pub watch : run.watch ≢ None
+  pub conf : List ℕ
+  pub read : HasRead run.watch (Read command.conf (readout.Got conf) ∷ [])
+  pub corefile : Corefile
+  pub is : IsCorefile default_port conf corefile
+  pub no_block : corefile.port ≡ None
+
+-- a worker took its last datagram, and met no want of memory
+pub record TookAll (side : SideRun) : Type 0 where
+  pub end : side.end ≡ ends.End
+  pub fed : side.starved ≡ 0
+
+-- a worker took its last datagram or could not receive any more, and met no want of memory
+pub record MetNoWant (side : SideRun) : Type 0 where
+  pub end : (side.end ≡ ends.End) ⊎ (side.end ≡ ends.RecvFailed)
+  pub fed : side.starved ≡ 0
+
+abbrev pub SomeFailed : List SideRun → Type 0
+SomeFailed [] = ⊥
+SomeFailed (side ∷ sides) = (side.end ≡ ends.RecvFailed) ⊎ SomeFailed sides
+
+-- every worker took its last datagram; without a side there was nothing to serve
+pub record HasEnded (command : CommandData) (default_port : ℕ) (run : RunData) : Type 0 where
+  pub sides : AllByRecursion TookAll run.sides
+  pub fed : run.starved ≡ 0
+  pub nothing : run.published ≡ 0 → HasNoBlock command default_port run
+
+-- some worker could not receive any more, and nothing met want of memory
+pub record HasFailed (run : RunData) : Type 0 where
+  pub sides : AllByRecursion MetNoWant run.sides
+  pub fed : run.starved ≡ 0
+  pub some : SomeFailed run.sides
+
+-- the cause of each status of a run by a command. Want of memory is always allowed.
+abbrev pub CauseOf : Status → CommandData → ℕ → RunData → HostCounts → HostCounts → Type 0
+CauseOf status.Usage command default_port run before after = ⊥
+CauseOf (status.ReadFailed name) command default_port run before after =
+    (name ≡ command.conf) × IsRefused run (IfSome run.watch (λ w. Rose 0 w.counts.reads))
+CauseOf status.OpenFailed command default_port run before after = (run.published ≡ 0) × Rose before.opens after.opens
+CauseOf (status.Refused NoCorefile) command default_port run before after = IsRefused run (HasRead run.watch (Read command.conf readout.Missing ∷ []))
+CauseOf (status.Refused Unbuilt) command default_port run before after = IsRefused run (IsUnbuilt command default_port run)
+CauseOf status.NoMemory command default_port run before after = Unit {0}
+CauseOf status.WorkerFailed command default_port run before after = HasFailed run
+CauseOf status.Ended command default_port run before after = HasEnded command default_port run
+
+-- a run by a command
+pub record RunsCommand (command : CommandData) (default_port : ℕ) (run : RunData) (told_before told_after : Option HostTold) (before after : HostCounts) : Type 0 where
+  pub served : ServesBy command default_port run told_before told_after
+  pub cause : CauseOf run.status command default_port run before after
+
+-- words that are no command open nothing and tell nothing
+pub record IsIdle (words : List (List ℕ)) (run : RunData) (told_before told_after : Option HostTold) : Type 0 where
+  pub usage : IsUsage words
+  pub status_is : run.status ≡ status.Usage
+  pub sides : run.sides ≡ []
+  pub watch : run.watch ≡ None
+  pub published : run.published ≡ 0
+  pub told : AddsHost told_before told_after [] []
+
+-- the words are a command, and the run is by it
+pub record IsByCommand (words : List (List ℕ)) (default_port : ℕ) (run : RunData) (told_before told_after : Option HostTold) (before after : HostCounts) : Type 0 where
+  pub command : CommandData
+  pub words_are : IsCommand words command
+  pub runs : RunsCommand command default_port run told_before told_after before after
+
+-- the status of a run with one side
+abbrev pub IsEndStatus : WorkEnd → ℕ → Status → Type 0
+IsEndStatus end starved status.Usage = ⊥
+IsEndStatus end starved (status.ReadFailed name) = ⊥
+IsEndStatus end starved status.OpenFailed = ⊥
+IsEndStatus end starved (status.Refused refusal) = ⊥
+IsEndStatus end starved status.NoMemory = Unit {0}
+IsEndStatus end starved status.WorkerFailed = (end ≡ ends.RecvFailed) × (starved ≡ 0)
+IsEndStatus end starved status.Ended = (end ≡ ends.End) × (starved ≡ 0)
+
+-- the status of a run without a first configuration
+abbrev pub IsFirstStatus : FirstFault → List ℕ → Status → Type 0
+IsFirstStatus fault.NoCorefile conf how = how ≡ status.Refused NoCorefile
+IsFirstStatus fault.Unbuilt conf how = how ≡ status.Refused Unbuilt
+IsFirstStatus fault.ReadFailed conf how = (how ≡ status.ReadFailed conf) ⊎ (how ≡ status.NoMemory)
+IsFirstStatus fault.NoMemory conf how = how ≡ status.NoMemory
+
+-- what a run is, by its words
+abbrev pub IsRunOf : List (List ℕ) → ℕ → RunData → Option HostTold → Option HostTold → HostCounts → HostCounts → Type 0
+IsRunOf words default_port run told_before told_after before after =
+    IsIdle words run told_before told_after ⊎ IsByCommand words default_port run told_before told_after before after
+
+-- a run that ended before anything was served
+abbrev pub stopped_run : Status → Option WatchState → RunData
+stopped_run how watch = record { status = how; sides = []; watch = watch; published = 0; starved = 0 }

@@ -1,0 +1,25 @@
+//! The server: words of the command line in, a report out. It reads a Corefile, opens a side for its port, and answers
+//! each datagram by the meaning of the Corefile's text.
+#![tactic(auto)]
+
+mod chain;
+mod command;
+mod corefile;
+mod cutting;
+mod first;
+mod number;
+mod report;
+mod running;
+mod serving;
+mod whoami;
+mod worker;
+
+pub use chain::Chain;
+pub use command::{Command, MOST_DATAGRAMS, read_command};
+pub use corefile::{Bundle, Corefile, CorefileFault, read_corefile};
+pub use first::{FirstFault, read_first};
+pub use report::{Done, Refusal, Report, Status};
+pub use running::{DEFAULT_PORT, run};
+pub use serving::{Served, Silence, serve};
+pub use whoami::whoami_answer;
+pub use worker::{MOST_FAILURES, Turned, WorkEnd, Worker, take_turn, work};

@@ -1,0 +1,61 @@
+ghost use Rattle.std.specs.Prelude.{◌≡◌, ◌≤◌, ◌++◌, IfOk, OnOk, length};
+ghost use Rattle.dns_server.specs.Whoami.{whoami_of, service_name, service_records, address_data, HasFewRecords};
+
+use dns_data::{
+    Addr, Answer, Copies, Name, NoMemory, Query, Rdata, Record, Records, Seq, Transport,
+};
+use std::alloc::Global;
+
+/// Tells the client its own address, in an A or AAAA record at the query name, and its port, in an SRV record below it.
+/// Both have TTL 0.
+#[tactic(auto, using(crate::proofs::WhoamiLemmas::few_records), unfolding(crate::specs::Whoami::whoami_of))]
+pub fn whoami_answer(alloc: Global, query: &Query) -> Result<Answer, NoMemory>
+    ensures value { IfOk result (λ answer. answer ≡ whoami_of query.now) }
+    ensures few { IfOk result HasFewRecords }
+{
+    let mut additional = Seq::with_capacity(alloc, 2)?;
+    additional.push(Record::new(query.name.copy(alloc)?, 1, 0, address(query.client)))?;
+    push_service(alloc, query, &mut additional)?;
+    Ok(Answer {
+        rcode: 0,
+        aa: true,
+        ra: false,
+        tc: false,
+        answer: Seq::new(alloc),
+        authority: Seq::new(alloc),
+        additional,
+    })
+}
+
+fn address(client: Addr) -> Rdata
+    ensures { result ≡ address_data client }
+{
+    match client {
+        Addr::V4(bits) => Rdata::A(bits),
+        Addr::V6(bits) => Rdata::Aaaa(bits),
+    }
+}
+
+// The name with the transport's label before it, where that is a name.
+fn service_name(alloc: Global, by: Transport, name: &Name) -> Result<Option<Name>, NoMemory>
+    ensures { IfOk result (λ made. made ≡ service_name by name.now) }
+{
+    if 250 < name.wire_len() {
+        return Ok(None);
+    }
+    Ok(Some(match by {
+        Transport::Udp => name.below(alloc, b"_udp")?,
+        Transport::Tcp => name.below(alloc, b"_tcp")?,
+    }))
+}
+
+// Adds the SRV record, where its owner is a name.
+fn push_service(alloc: Global, query: &Query, additional: &mut Records) -> Result<(), NoMemory>
+    ensures { OnOk result (additional.new ≡ additional.old ++ service_records (service_name query.now.by query.now.name) query.now.port) }
+{
+    if let Some(owner) = service_name(alloc, query.by, &query.name)? {
+        let data = Rdata::Srv(0, 0, query.port, Name::root(alloc));
+        additional.push(Record::new(owner, 1, 0, data))?;
+    }
+    Ok(())
+}

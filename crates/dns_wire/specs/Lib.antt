@@ -1,0 +1,3 @@
+pub mod Wire
+pub mod Query
+pub mod Written

@@ -1,0 +1,131 @@
+-- Scripts: what an outside in memory is to give, and that its answers are those of its script. This server's own rule.
+use Rattle.std.specs.Prelude.{◌≡◌, ℕ, zero, suc, ◌+◌, ◌-◌, ◌==◌, Bool, not, List, [], ◌∷◌, ◌++◌, length, min, slice_get, slice_index, Option, IfSome, Some, None, cond, ◌≢◌}
+use Rattle.std.specs.List.{list_any}
+use Rattle.outside.specs.declared.datagram.Datagram.{Datagram}
+use Rattle.outside.specs.declared.datagram.Outcome.{Outcome}
+use Rattle.outside.specs.declared.datagram.Outcome.TheVariants as outcome
+use Rattle.outside.specs.declared.entry.InnerMark.TheVariants as inner
+use Rattle.outside.specs.declared.mark.Mark.{Mark}
+use Rattle.outside.specs.declared.mark.Mark.TheVariants.{Got, RecvEnd, RecvFailed, Now, Inner, Sent, Noted}
+use Rattle.outside.specs.declared.script.FileSet.{FileSet}
+use Rattle.outside.specs.Causes.{SideCounts}
+
+pub record SideScriptData : Type 0 where
+  pub gets : List Datagram
+  pub nows : List ℕ
+  pub words : List ℕ
+  pub asks : List Outcome
+  pub fail_recv : List ℕ
+  pub fail_send : List ℕ
+  pub fail_ask : List ℕ
+  pub fail_note : List ℕ
+
+pub record WatchScriptData : Type 0 where
+  pub looks : List FileSet
+  pub fail_read : List ℕ
+  pub fail_note : List ℕ
+
+-- whether the call of this number is to fail
+abbrev pub is_to_fail : List ℕ → ℕ → Bool
+is_to_fail fails call = list_any (λ fail. fail == call) fails
+
+-- how many of the first calls are not to fail, each of which uses up an item
+abbrev pub used_up : List ℕ → ℕ → ℕ
+used_up fails zero = 0
+used_up fails (suc calls) = cond (is_to_fail fails calls) 0 1 + used_up fails calls
+
+-- the reading of this number: the last one is repeated, and without one it is 0
+abbrev pub reading : List ℕ → ℕ → ℕ
+reading readings call = slice_index readings (min call (length readings - 1))
+
+-- the datagram, or the end behind the last one
+abbrev pub got_or_end : Option Datagram → Mark
+got_or_end (Some datagram) = Got datagram
+got_or_end None = RecvEnd
+
+-- the mark of the call of recv with this number
+abbrev pub recv_answer : SideScriptData → ℕ → Mark
+recv_answer script call =
+    cond (is_to_fail script.fail_recv call) RecvFailed (got_or_end (slice_get script.gets (used_up script.fail_recv call)))
+
+-- the outcome, or silence behind the last one
+abbrev pub outcome_or_silence : Option Outcome → Outcome
+outcome_or_silence (Some result) = result
+outcome_or_silence None = outcome.Silence
+
+-- the outcome of the call of ask or more with this number
+abbrev pub ask_answer : SideScriptData → ℕ → Outcome
+ask_answer script call =
+    cond (is_to_fail script.fail_ask call) outcome.Failed (outcome_or_silence (slice_get script.asks (used_up script.fail_ask call)))
+
+-- how many of the marks are of calls of recv, send, note, now and word
+abbrev pub recvs_in : List Mark → ℕ
+recvs_in [] = 0
+recvs_in (Got datagram ∷ marks) = 1 + recvs_in marks
+recvs_in (RecvEnd ∷ marks) = 1 + recvs_in marks
+recvs_in (RecvFailed ∷ marks) = 1 + recvs_in marks
+recvs_in (mark ∷ marks) = recvs_in marks
+
+abbrev pub sends_in : List Mark → ℕ
+sends_in [] = 0
+sends_in (Sent reply flag ∷ marks) = 1 + sends_in marks
+sends_in (mark ∷ marks) = sends_in marks
+
+abbrev pub notes_in : List Mark → ℕ
+notes_in [] = 0
+notes_in (Noted line flag ∷ marks) = 1 + notes_in marks
+notes_in (mark ∷ marks) = notes_in marks
+
+abbrev pub nows_in : List Mark → ℕ
+nows_in [] = 0
+nows_in (Now moment ∷ marks) = 1 + nows_in marks
+nows_in (mark ∷ marks) = nows_in marks
+
+abbrev pub words_in : List Mark → ℕ
+words_in [] = 0
+words_in (Inner (inner.Word word) ∷ marks) = 1 + words_in marks
+words_in (mark ∷ marks) = words_in marks
+
+-- the outcomes of ask and more, in order
+abbrev pub outcomes_in : List Mark → List Outcome
+outcomes_in [] = []
+outcomes_in (Inner (inner.Asked to by message result) ∷ marks) = result ∷ outcomes_in marks
+outcomes_in (Inner (inner.More result) ∷ marks) = result ∷ outcomes_in marks
+outcomes_in (mark ∷ marks) = outcomes_in marks
+
+-- the mark is the one that the script gives behind these marks; asks are said of below
+abbrev pub IsGiven : SideScriptData → List Mark → Mark → Type 0
+IsGiven script before (Got datagram) = Got datagram ≡ recv_answer script (recvs_in before)
+IsGiven script before RecvEnd = RecvEnd ≡ recv_answer script (recvs_in before)
+IsGiven script before RecvFailed = RecvFailed ≡ recv_answer script (recvs_in before)
+IsGiven script before (Now moment) = moment ≡ reading script.nows (nows_in before)
+IsGiven script before (Inner (inner.Word word)) = word ≡ reading script.words (words_in before)
+IsGiven script before (Sent reply flag) = flag ≡ not (is_to_fail script.fail_send (sends_in before))
+IsGiven script before (Noted line flag) = flag ≡ not (is_to_fail script.fail_note (notes_in before))
+IsGiven script before mark = Unit {0}
+
+-- the outcomes of so many calls that count, among them outcomes for want of memory, which don't count
+pub data AreGiven (script : SideScriptData) : List Outcome → ℕ → Type 0 where
+  no_ask : AreGiven script [] 0
+  one_ask : {before after : List Outcome} {calls next : ℕ} → AreGiven script before calls → after ≡ before ++ ask_answer script calls ∷ [] → next ≡ calls + 1 → AreGiven script after next
+  starved_ask : {before after : List Outcome} {calls : ℕ} → AreGiven script before calls → after ≡ before ++ outcome.NoMemory ∷ [] → AreGiven script after calls
+
+-- the answers in a journal are those of the script
+pub record FollowsScript (script : SideScriptData) (journal : List Mark) : Type 0 where
+  pub each : (before : List Mark) (mark : Mark) (after : List Mark) → journal ≡ before ++ mark ∷ after → IsGiven script before mark
+  pub calls : ℕ
+  pub asks : AreGiven script (outcomes_in journal) calls
+
+-- where script and journal are told
+abbrev pub AnsweredSide : Option SideScriptData → Option (List Mark) → Type 0
+AnsweredSide script journal = IfSome script (λ s. IfSome journal (FollowsScript s))
+
+-- a count without failing calls in the script is 0
+pub record HasNoOtherFaults (script : SideScriptData) (counts : SideCounts) : Type 0 where
+  pub recv : script.fail_recv ≡ [] → counts.recv ≡ 0
+  pub send : script.fail_send ≡ [] → counts.send ≡ 0
+  pub note : script.fail_note ≡ [] → counts.note ≡ 0
+  pub ask : script.fail_ask ≡ [] → ((call : ℕ) → slice_get script.asks call ≢ Some outcome.Failed) → counts.ask ≡ 0
+
+abbrev pub QuietSide : Option SideScriptData → SideCounts → Type 0
+QuietSide script counts = IfSome script (λ s. HasNoOtherFaults s counts)

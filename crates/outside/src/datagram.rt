@@ -1,0 +1,58 @@
+use dns_data::{Addr, Bytes, Copies, NoMemory, Transport};
+use std::alloc::Global;
+
+/// A message as it came from a client, with where it came from and where it arrived.
+#[derive(Debug, Drop)]
+pub struct Datagram {
+    pub bytes: Bytes,
+    pub client: Addr,
+    /// The client's port.
+    pub port: u16,
+    pub by: Transport,
+    /// The port of the server at which it arrived.
+    pub local: u16,
+}
+
+impl Copies for Datagram {
+    fn copy(&self, alloc: Global) -> Result<Datagram, NoMemory> {
+        Ok(Datagram {
+            bytes: self.bytes.copy(alloc)?,
+            client: self.client,
+            port: self.port,
+            by: self.by,
+            local: self.local,
+        })
+    }
+}
+
+/// A server that is asked on behalf of a client.
+#[derive(Clone, Copy, Debug, PartialEq, Eq)]
+pub struct Upstream {
+    pub addr: Addr,
+    pub port: u16,
+}
+
+/// What a look for the next datagram gave. End is for good.
+#[derive(Debug, Drop)]
+pub enum Received {
+    Got(Datagram),
+    End,
+    Failed,
+    NoMemory,
+}
+
+/// What an upstream answered. Silence: nothing came in time.
+#[derive(Debug, Drop)]
+pub enum Outcome {
+    Got(Bytes),
+    Silence,
+    Failed,
+    NoMemory,
+}
+
+/// Whether what was handed out went out.
+#[derive(Clone, Copy, Debug, PartialEq, Eq)]
+pub enum Wrote {
+    Ok,
+    Failed,
+}

@@ -1,0 +1,62 @@
+use crate::{Outcome, Upstream};
+use dns_data::{Answer, Bytes, Name, Query, Seq, Transport};
+use std::marker::Model;
+
+/// What kind of answer an entry of a cache keeps.
+#[derive(Clone, Copy, Debug, PartialEq, Eq)]
+pub enum Class {
+    Success,
+    Denial,
+    Servfail,
+}
+
+/// Under what a cache keeps an answer: the name in small letters, the type, and the client's DO and CD bits.
+#[derive(Debug, Drop)]
+pub struct Key {
+    pub name: Name,
+    pub kind: u16,
+    pub dnssec: bool,
+    pub cd: bool,
+}
+
+/// What the plugins behind a cache took from the outside: a random word, an ask with its outcome, or a look for a
+/// further datagram of the last ask.
+#[derive(Debug, Drop)]
+pub enum InnerMark {
+    Word(u64),
+    Asked(Upstream, Transport, Bytes, Outcome),
+    More(Outcome),
+}
+
+pub type InnerMarks = Seq<InnerMark>;
+
+/// An answer that a cache keeps, with the query and the marks that led to it.
+#[derive(Debug, Drop)]
+pub struct Entry {
+    pub class: Class,
+    /// When it was made, in milliseconds.
+    pub born: u64,
+    /// How long it lives, in seconds, below 2^31.
+    pub life: u32,
+    pub answer: Answer,
+    pub origin: Query,
+    pub inner: InnerMarks,
+}
+
+impl Model for Entry {
+    ghost use Rattle.std.specs.Prelude.{◌<◌, ◌^◌};
+    ghost use Rattle.outside.specs.Entry.{EntryData};
+
+    ghost Value = { EntryData };
+
+    ghost view = { λ e. record {
+      class = e.class;
+      born = e.born;
+      life = e.life;
+      answer = e.answer;
+      origin = e.origin;
+      inner = e.inner;
+    } };
+
+    ghost invariant = { λ e. e.life < 2 ^ 31 };
+}

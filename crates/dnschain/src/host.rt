@@ -1,0 +1,92 @@
+ghost use Rattle.std.specs.Prelude.{None};
+
+use crate::receive_buffer::widen;
+use crate::udp::UdpSide;
+use crate::watch::FileWatch;
+use dns_data::Transport;
+use outside::{Host, OpenFault, Wrote};
+use std::alloc::Global;
+use std::io;
+use std::net::{Ipv4Addr, Ipv6Addr, Net, SocketAddr, UdpSocket};
+use std::random::RandomSource;
+use std::rt::Files;
+use std::time::Clock;
+
+/// The host over the system: UDP sockets at every address, files, standard output and standard error. It tells no lines,
+/// no opened sides and no supply, and counts its failing calls.
+#[derive(Drop)]
+pub struct SystemHost<R: Net + Files + Clock + RandomSource + Print + Eprint + Copy + Send + Drop> {
+    rt: R,
+    alloc: Global,
+    open_faults: u64,
+    tell_faults: u64,
+}
+
+impl<R: Net + Files + Clock + RandomSource + Print + Eprint + Copy + Send + Drop> SystemHost<R> {
+    pub fn new(rt: R, alloc: Global) -> SystemHost<R> {
+        SystemHost {
+            rt,
+            alloc,
+            open_faults: 0,
+            tell_faults: 0,
+        }
+    }
+}
+
+impl<R: Net + Files + Clock + RandomSource + Print + Eprint + Copy + Send + Drop> Host
+    for SystemHost<R> {
+    type Side = UdpSide<R>;
+
+    type Watch = FileWatch<R>;
+
+    ghost told = { λ _. None };
+
+    ghost counts = { λ h. record { opens = h.open_faults; tells = h.tell_faults } };
+
+    ghost supply = { λ _. None };
+
+    fn open_watch(&mut self) -> Result<FileWatch<R>, OpenFault> {
+        Ok(FileWatch::new(self.rt, self.alloc))
+    }
+
+    fn open_side(
+        &mut self,
+        port: u16,
+        by: Transport,
+        _number: u32,
+    ) -> Result<UdpSide<R>, OpenFault> {
+        match open_udp(&self.rt, port, by) {
+            Ok(socket) => match UdpSide::new(self.rt, self.alloc, socket, port) {
+                Ok(side) => Ok(side),
+                Err(_) => Err(OpenFault::NoMemory),
+            },
+            Err(_) => {
+                self.open_faults = self.open_faults.saturating_add(1);
+                Err(OpenFault::Failed)
+            }
+        }
+    }
+
+    fn tell(&mut self, line: &[u8]) -> Wrote {
+        if let Ok(text) = std::str::from_utf8(line) {
+            if self.rt.println(text).is_ok() {
+                return Wrote::Ok;
+            }
+        }
+        self.tell_faults = self.tell_faults.saturating_add(1);
+        Wrote::Failed
+    }
+}
+
+// A socket at every address of both families, or of IPv4 alone where the system has no IPv6. TCP isn't built yet.
+fn open_udp(net: &impl Net, port: u16, by: Transport) -> io::Result<UdpSocket> {
+    if by == Transport::Tcp {
+        return Err(io::Error::from(io::ErrorKind::Unsupported));
+    }
+    let socket = match UdpSocket::bind(net, SocketAddr::from((Ipv6Addr::UNSPECIFIED, port))) {
+        Ok(socket) => socket,
+        Err(_) => UdpSocket::bind(net, SocketAddr::from((Ipv4Addr::UNSPECIFIED, port)))?,
+    };
+    widen(&socket);
+    Ok(socket)
+}

@@ -1,0 +1,58 @@
+//! The program: `dnschain serve --conf FILE [--queries N]`, over the sockets, files and streams of the system. It ends
+//! with a number that says how the run ended: README.md.
+#![tactic(auto)]
+
+mod host;
+mod receive_buffer;
+mod udp;
+mod watch;
+
+ghost use Rattle.std.specs.Prelude.{◌≡◌};
+ghost use Rattle.dnschain.specs.Exit.{exit_number};
+
+use dns_data::Text;
+use dns_server::{Status, run};
+use host::SystemHost;
+use std::alloc::Global;
+use std::env;
+use std::process::ExitCode;
+use std::rt::Env;
+
+fn main(rt: HostRuntime) -> ExitCode {
+    match words(&rt, rt.alloc()) {
+        Ok(words) => {
+            let mut host = SystemHost::new(rt, rt.alloc());
+            let report = run(rt.alloc(), words.as_slice(), &mut host);
+            ExitCode::from(number_of(&report.status))
+        }
+        Err(fault) => ExitCode::from(number_of(&fault)),
+    }
+}
+
+// The words behind the program's own name. Words that aren't UTF-8 are no command.
+fn words(rt: &(impl Env + AllocGlobal), alloc: Global) -> Result<Vec<Text>, Status> {
+    let Ok(args) = env::args(rt) else {
+        return Err(Status::Usage);
+    };
+    let mut words = Vec::new(alloc);
+    for (index, word) in args.enumerate() {
+        if index != 0 && words.push(Text::of(word)).is_err() {
+            return Err(Status::NoMemory);
+        }
+    }
+    Ok(words)
+}
+
+// The number with which the program ends.
+fn number_of(status: &Status) -> u8
+    ensures { result ≡ exit_number status.now }
+{
+    match status {
+        Status::Ended => 0,
+        Status::Refused(_) => 1,
+        Status::Usage => 2,
+        Status::ReadFailed(_) | Status::OpenFailed => 3,
+        Status::NoMemory => 4,
+        Status::WorkerFailed => 6,
+    }
+}

@@ -1,0 +1,146 @@
+ghost use Rattle.std.specs.Prelude.{◌≡◌, None, IfOk};
+
+use dns_data::{Addr, Bytes, Transport};
+use outside::{Datagram, Outcome, Received, Seen, Side, Upstream, Wrote};
+use std::alloc::{AllocError, Global};
+use std::net::{IpAddr, SocketAddr, UdpSocket};
+use std::random::RandomSource;
+use std::time::Clock;
+
+// As many bytes as a UDP datagram can carry.
+const LARGEST: usize = 65_535;
+
+/// A worker's side over a UDP socket. It tells no journal and no script, and counts its failing calls.
+#[derive(Drop)]
+pub struct UdpSide<R: Clock + RandomSource + Eprint + Drop> {
+    rt: R,
+    alloc: Global,
+    socket: UdpSocket,
+    // The port at which it receives.
+    local: u16,
+    packet: Vec<u8>,
+    // The sender of the last datagram.
+    from: Option<SocketAddr>,
+    recv_faults: u64,
+    send_faults: u64,
+    ask_faults: u64,
+    note_faults: u64,
+}
+
+impl<R: Clock + RandomSource + Eprint + Drop> UdpSide<R> {
+    pub fn new(
+        rt: R,
+        alloc: Global,
+        socket: UdpSocket,
+        local: u16,
+    ) -> Result<UdpSide<R>, AllocError>
+        ensures { IfOk result (λ s. (s.recv_faults ≡ 0) × (s.send_faults ≡ 0) × (s.ask_faults ≡ 0) × (s.note_faults ≡ 0)) }
+    {
+        let packet = Vec::from_elem(alloc, 0u8, LARGEST)?;
+        Ok(UdpSide {
+            rt,
+            alloc,
+            socket,
+            local,
+            packet,
+            from: None,
+            recv_faults: 0,
+            send_faults: 0,
+            ask_faults: 0,
+            note_faults: 0,
+        })
+    }
+}
+
+impl<R: Clock + RandomSource + Eprint + Drop> Side for UdpSide<R> {
+    ghost journal = { λ _. None };
+
+    ghost counts = { λ s. record { recv = s.recv_faults; send = s.send_faults; ask = s.ask_faults; silences = 0; note = s.note_faults } };
+
+    ghost script = { λ _. None };
+
+    ghost quiet = { λ _. tt };
+
+    ghost answered = { λ _. tt };
+
+    fn recv(&mut self) -> Received {
+        let Ok((count, from)) = self.socket.recv_from(self.packet.as_mut_slice()) else {
+            self.recv_faults = self.recv_faults.saturating_add(1);
+            return Received::Failed;
+        };
+        self.from = Some(from);
+        match Bytes::from_slice(self.alloc, &self.packet[..count]) {
+            Ok(bytes) => Received::Got(Datagram {
+                bytes,
+                client: address(from.ip()),
+                port: from.port(),
+                by: Transport::Udp,
+                local: self.local,
+            }),
+            Err(_) => Received::NoMemory,
+        }
+    }
+
+    fn send(&mut self, reply: &[u8]) -> Wrote {
+        if let Some(to) = self.from {
+            if self.socket.send_to(reply, to).is_ok() {
+                return Wrote::Ok;
+            }
+        }
+        self.send_faults = self.send_faults.saturating_add(1);
+        Wrote::Failed
+    }
+
+    /// The time since some start, which never goes back. A clock that can't be read gives 0.
+    fn now(&mut self) -> u64 {
+        match self.rt.monotonic() {
+            Ok(time) => u64::try_from(time.as_millis()).unwrap_or(u64::MAX),
+            Err(_) => 0,
+        }
+    }
+
+    /// A word of the system's random source, or 0 where that fails.
+    fn word(&mut self) -> u64 {
+        let mut bytes = [0u8; 8];
+        match self.rt.fill_bytes(&mut bytes) {
+            Ok(()) => u64::from_ne_bytes(bytes),
+            Err(_) => 0,
+        }
+    }
+
+    /// No plugin that is built asks an upstream, and none is asked: every ask fails.
+    fn ask(&mut self, _to: &Upstream, _by: Transport, _message: &[u8]) -> Outcome {
+        self.ask_faults = self.ask_faults.saturating_add(1);
+        Outcome::Failed
+    }
+
+    fn more(&mut self) -> Outcome {
+        self.ask_faults = self.ask_faults.saturating_add(1);
+        Outcome::Failed
+    }
+
+    fn note(&mut self, line: &[u8]) -> Wrote {
+        if let Ok(text) = std::str::from_utf8(line) {
+            if self.rt.eprintln(text).is_ok() {
+                return Wrote::Ok;
+            }
+        }
+        self.note_faults = self.note_faults.saturating_add(1);
+        Wrote::Failed
+    }
+
+    fn saw(&mut self, _what: Seen<'_>) {}
+
+    fn leave(&mut self) {}
+}
+
+// An IPv4 client of a socket for both families comes as an IPv6 address that holds the IPv4 one.
+fn address(ip: IpAddr) -> Addr {
+    match ip {
+        IpAddr::V4(ip) => Addr::V4(ip.to_bits()),
+        IpAddr::V6(ip) => match ip.to_ipv4_mapped() {
+            Some(ip) => Addr::V4(ip.to_bits()),
+            None => Addr::V6(ip.to_bits()),
+        },
+    }
+}

@@ -7,6 +7,7 @@ use dns_data::Transport;
 use outside::{Host, OpenFault, Wrote};
 use std::alloc::Global;
 use std::io;
+use std::io::ErrorKind;
 use std::net::{Ipv4Addr, Ipv6Addr, Net, SocketAddr, UdpSocket};
 use std::random::RandomSource;
 use std::rt::Files;
@@ -81,11 +82,15 @@ impl<R: Net + Files + Clock + RandomSource + Print + Eprint + Copy + Send + Drop
 // A socket at every address of both families, or of IPv4 alone where the system has no IPv6. TCP isn't built yet.
 fn open_udp(net: &impl Net, port: u16, by: Transport) -> io::Result<UdpSocket> {
     if by == Transport::Tcp {
-        return Err(io::Error::from(io::ErrorKind::Unsupported));
+        return Err(io::Error::from(ErrorKind::Unsupported));
     }
-    let socket = match UdpSocket::bind(net, SocketAddr::from((Ipv6Addr::UNSPECIFIED, port))) {
+    let both = UdpSocket::bind(net, SocketAddr::from((Ipv6Addr::UNSPECIFIED, port)));
+    let socket = match both {
         Ok(socket) => socket,
-        Err(_) => UdpSocket::bind(net, SocketAddr::from((Ipv4Addr::UNSPECIFIED, port)))?,
+        Err(fault) => match fault.kind() {
+            ErrorKind::AddrInUse | ErrorKind::PermissionDenied => return Err(fault),
+            _ => UdpSocket::bind(net, SocketAddr::from((Ipv4Addr::UNSPECIFIED, port)))?,
+        },
     };
     widen(&socket);
     Ok(socket)

@@ -1,0 +1,125 @@
+"""The program over real sockets: one query and its reply, what gets no reply, random datagrams, and how a run ends."""
+import os
+import random
+import shutil
+import socket
+import struct
+import subprocess
+import sys
+import tempfile
+
+sys.path.insert(0, os.path.join(os.path.dirname(os.path.abspath(__file__)), "lib"))
+from program import PROGRAM, Client, Rows, Served, corefile, free_port, needs_program, status_of  # noqa: E402
+
+NAME = bytes.fromhex("076578616d706c65036f726700")
+QUESTION = NAME + bytes.fromhex("00010001")
+QUERY = bytes.fromhex("123401000001000000000000") + QUESTION
+WHOAMI = ".:{port} {\n\twhoami\n}\n"
+
+
+def reply(port, address):
+    """The reply to QUERY for a client at this address and port, by hand (RFC 1035, section 4.1)."""
+    kind = b"\x00\x01" if len(address) == 4 else b"\x00\x1c"
+    return (
+        bytes.fromhex("123485000001000000000002")
+        + QUESTION
+        + bytes.fromhex("c00c") + kind + bytes.fromhex("000100000000") + struct.pack(">H", len(address)) + address
+        + bytes.fromhex("045f756470c00c00210001000000000007") + bytes(4) + struct.pack(">H", port) + b"\x00"
+    )
+
+
+def serves(rows):
+    with Served(WHOAMI) as server:
+        rows.row("the program serves", server.is_serving(QUERY))
+        with Client(server.port) as client:
+            got = client.ask(QUERY)
+            rows.equal("a query gets the 69 bytes of its reply", got, reply(client.port, bytes([127, 0, 0, 1])))
+            rows.equal("11 bytes get no reply", client.ask(QUERY[:11], 0.3), None)
+            rows.equal("a response gets no reply", client.ask(QUERY[:2] + b"\x81" + QUERY[3:], 0.3), None)
+            rows.equal("a query with bytes behind it gets no reply", client.ask(QUERY + b"\x00", 0.3), None)
+            rows.equal("an empty datagram gets no reply", client.ask(b"", 0.3), None)
+        over_ipv6(rows, server)
+        with_dig(rows, server)
+        random_datagrams(rows, server)
+
+
+def over_ipv6(rows, server):
+    try:
+        client = Client(server.port, socket.AF_INET6)
+    except OSError:
+        print("skipped: there is no IPv6 on loopback")
+        return
+    with client:
+        rows.equal("a client over IPv6 gets an AAAA record", client.ask(QUERY), reply(client.port, bytes(15) + b"\x01"))
+
+
+def with_dig(rows, server):
+    if shutil.which("dig") is None:
+        print("skipped: there is no dig")
+        return
+    words = ["dig", "+noedns", "+noall", "+additional", "+time=2", "+tries=2", "@127.0.0.1", "-p", str(server.port), "example.org"]
+    lines = subprocess.run(words, capture_output=True, text=True, timeout=10).stdout.split("\n")
+    found = [line.split() for line in lines if line and not line.startswith(";")]
+    rows.row("dig is told its address", ["example.org.", "0", "IN", "A", "127.0.0.1"] in found, lines)
+    rows.row("dig is told its port", any(row[:6] == ["_udp.example.org.", "0", "IN", "SRV", "0", "0"] for row in found), lines)
+
+
+def random_datagrams(rows, server):
+    made = random.Random(1)
+    with Client(server.port) as client:
+        for _ in range(10_000):
+            client.send(made.randbytes(made.randint(0, 600)))
+    rows.row("10,000 random datagrams don't end the server", server.is_serving(QUERY))
+    rows.equal("it still runs", server.process.poll(), None)
+
+
+def ends(rows):
+    with Served(WHOAMI, "--queries", "1") as server:
+        rows.row("--queries 1: one query is answered", server.is_serving(QUERY))
+        rows.equal("--queries 1: the run ends with status 0", server.status(), 0)
+    silent = (b"", b"")
+    with tempfile.TemporaryDirectory() as room:
+        for text, words, want in [
+            ("no words", [], 2),
+            ("no file", ["serve", "--conf"], 2),
+            ("a file twice", ["serve", "--conf", "a", "--conf", "b"], 2),
+            ("help", ["--help"], 2),
+            ("queries 0", ["serve", "--conf", "a", "--queries", "0"], 2),
+            ("words that aren't UTF-8", ["serve", "--conf", b"\xff"], 2),
+            ("a missing Corefile", ["serve", "--conf", os.path.join(room, "none")], 1),
+            ("a Corefile that can't be read", ["serve", "--conf", room], 3),
+        ]:
+            got = status_of(*words)
+            rows.equal(f"{text}: status {want}, and nothing written", got, (want, *silent))
+        for text, conf, want in [
+            ("an empty Corefile", "", 0),
+            ("a Corefile of blanks", " \n\t\n", 0),
+            ("another plugin", ".:5300 {\nwhoamy\n}\n", 1),
+            ("two blocks", ".:5300 {\nwhoami\n}\n.:5301 {\nwhoami\n}\n", 1),
+            ("port 65536", ".:65536 {\nwhoami\n}\n", 1),
+            ("bytes that aren't UTF-8", b"\xff\n", 1),
+            ("more than 1 MiB", b"\n" * 1_048_577, 1),
+        ]:
+            rows.equal(f"{text}: status {want}", status_of("serve", "--conf", corefile(room, conf))[0], want)
+        with socket.socket(socket.AF_INET, socket.SOCK_DGRAM) as taken, socket.socket(socket.AF_INET6, socket.SOCK_DGRAM) as six:
+            port = free_port()
+            taken.bind(("0.0.0.0", port))
+            six.setsockopt(socket.IPPROTO_IPV6, socket.IPV6_V6ONLY, 1)
+            try:
+                six.bind(("::", port))
+            except OSError:
+                pass
+            path = corefile(room, WHOAMI.replace("{port}", str(port)))
+            rows.equal("a taken port: status 3", status_of("serve", "--conf", path)[0], 3)
+
+
+def main():
+    needs_program()
+    rows = Rows()
+    serves(rows)
+    ends(rows)
+    rows.end()
+
+
+if __name__ == "__main__":
+    main()

@@ -1,0 +1,7 @@
+pub mod Before
+pub mod Cuts
+pub mod Numbers
+pub mod Variables
+pub mod Steps
+pub mod Texts
+pub mod BadLines

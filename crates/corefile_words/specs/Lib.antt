@@ -1,0 +1,4 @@
+pub mod Lines
+pub mod Variables
+pub mod Words
+pub mod BadBytes

@@ -1,0 +1,16 @@
+//! The lines of words of a Corefile, with the variables of the environment put in.
+#![tactic(auto)]
+
+mod fault;
+mod line;
+mod lines;
+mod quoted;
+mod reading;
+#[cfg(test)]
+mod tests;
+mod variable;
+mod word;
+
+pub use fault::WordsFault;
+pub use reading::read_words;
+pub use word::{Pair, Pairs, Word, WordLine, WordLines, Words};

@@ -9,12 +9,13 @@ import sys
 import tempfile
 
 sys.path.insert(0, os.path.join(os.path.dirname(os.path.abspath(__file__)), "lib"))
-from program import PROGRAM, Client, Rows, Served, corefile, free_port, needs_program, status_of  # noqa: E402
+from program import PROGRAM, SECONDS, Client, Rows, Served, corefile, free_port, needs_program, status_of  # noqa: E402
 
 NAME = bytes.fromhex("076578616d706c65036f726700")
 QUESTION = NAME + bytes.fromhex("00010001")
 QUERY = bytes.fromhex("123401000001000000000000") + QUESTION
 WHOAMI = ".:{port} {\n\twhoami\n}\n"
+USAGE = "usage: dnschain serve --conf FILE [--port N] [--workers N] [--queries N], or dnschain load N"
 
 
 def reply(port, address):
@@ -77,30 +78,30 @@ def ends(rows):
     with Served(WHOAMI, "--queries", "1") as server:
         rows.row("--queries 1: one query is answered", server.is_serving(QUERY))
         rows.equal("--queries 1: the run ends with status 0", server.status(), 0)
-    silent = (b"", b"")
     with tempfile.TemporaryDirectory() as room:
-        for text, words, want in [
-            ("no words", [], 2),
-            ("no file", ["serve", "--conf"], 2),
-            ("a file twice", ["serve", "--conf", "a", "--conf", "b"], 2),
-            ("help", ["--help"], 2),
-            ("queries 0", ["serve", "--conf", "a", "--queries", "0"], 2),
-            ("words that aren't UTF-8", ["serve", "--conf", b"\xff"], 2),
-            ("a missing Corefile", ["serve", "--conf", os.path.join(room, "none")], 1),
-            ("a Corefile that can't be read", ["serve", "--conf", room], 3),
+        for text, words, want, line in [
+            ("no words", [], 2, USAGE),
+            ("no file", ["serve", "--conf"], 2, USAGE),
+            ("a file twice", ["serve", "--conf", "a", "--conf", "b"], 2, USAGE),
+            ("help", ["--help"], 2, USAGE),
+            ("queries 0", ["serve", "--conf", "a", "--queries", "0"], 2, USAGE),
+            ("words that aren't UTF-8", ["serve", "--conf", b"\xff"], 2, USAGE),
+            ("a missing Corefile", ["serve", "--conf", os.path.join(room, "none")], 1, "no corefile"),
+            ("a Corefile that can't be read", ["serve", "--conf", room], 3, f"cannot read {room}"),
         ]:
-            got = status_of(*words)
-            rows.equal(f"{text}: status {want}, and nothing written", got, (want, *silent))
-        for text, conf, want in [
-            ("an empty Corefile", "", 0),
-            ("a Corefile of blanks", " \n\t\n", 0),
-            ("another plugin", ".:5300 {\nwhoamy\n}\n", 1),
-            ("two blocks", ".:5300 {\nwhoami\n}\n.:5301 {\nwhoami\n}\n", 1),
-            ("port 65536", ".:65536 {\nwhoami\n}\n", 1),
-            ("bytes that aren't UTF-8", b"\xff\n", 1),
-            ("more than 1 MiB", b"\n" * 1_048_577, 1),
+            rows.equal(f"{text}: status {want} and its line", status_of(*words), told(want, line))
+        for text, conf, want, line in [
+            ("an empty Corefile", "", 0, None),
+            ("a Corefile of blanks", " \n\t\n", 0, None),
+            ("another plugin", ".:5300 {\nwhoamy\n}\n", 1, "not built yet"),
+            ("two blocks", ".:5300 {\nwhoami\n}\n.:5301 {\nwhoami\n}\n", 1, "not built yet"),
+            ("port 65536", ".:65536 {\nwhoami\n}\n", 1, "not built yet"),
+            ("bytes that aren't UTF-8", b"\xff\n", 1, "not built yet"),
+            ("more than 1 MiB", b"\n" * 1_048_577, 1, "not built yet"),
         ]:
-            rows.equal(f"{text}: status {want}", status_of("serve", "--conf", corefile(room, conf))[0], want)
+            got = status_of("serve", "--conf", corefile(room, conf))
+            rows.equal(f"{text}: status {want} and its line", got, told(want, line))
+        mute(rows, room)
         with socket.socket(socket.AF_INET, socket.SOCK_DGRAM) as taken, socket.socket(socket.AF_INET6, socket.SOCK_DGRAM) as six:
             port = free_port()
             taken.bind(("0.0.0.0", port))
@@ -110,7 +111,27 @@ def ends(rows):
             except OSError:
                 pass
             path = corefile(room, WHOAMI.replace("{port}", str(port)))
-            rows.equal("a taken port: status 3", status_of("serve", "--conf", path)[0], 3)
+            rows.equal("a taken port: status 3 and its line", status_of("serve", "--conf", path), told(3, "cannot open"))
+
+
+def told(status, line):
+    """A status and what is written with it: its line, or nothing."""
+    return status, b"" if line is None else line.encode() + b"\n", b""
+
+
+def mute(rows, room):
+    """Where standard output takes nothing, a refusal's status gives way to that, and Usage stays."""
+    if not os.path.exists("/dev/full"):
+        print("skipped: there is no /dev/full")
+        return
+    with open("/dev/full", "wb") as full:
+        for text, words, want in [
+            ("a missing Corefile", ["serve", "--conf", os.path.join(room, "none")], 3),
+            ("no words", [], 2),
+            ("an empty Corefile", ["serve", "--conf", corefile(room, "")], 0),
+        ]:
+            got = subprocess.run([PROGRAM, *words], stdout=full, timeout=SECONDS).returncode
+            rows.equal(f"{text}, and a line that can't be written: status {want}", got, want)
 
 
 def main():

@@ -46,6 +46,7 @@ end_cause : (command : CommandData) (default_port : ℕ) (before after : HostCou
 end_cause command default_port before after watch side status.Usage is = absurd is
 end_cause command default_port before after watch side (status.ReadFailed name) is = absurd is
 end_cause command default_port before after watch side status.OpenFailed is = absurd is
+end_cause command default_port before after watch side status.TellFailed is = absurd is
 end_cause command default_port before after watch side (status.Refused refusal) is = absurd is
 end_cause command default_port before after watch side status.NoMemory is = tt
 end_cause command default_port before after watch side status.WorkerFailed is =
@@ -138,6 +139,7 @@ earlier_cause : (command : CommandData) (default_port : ℕ) (run : RunData) (ho
 earlier_cause command default_port run status.Usage first before after later cause = absurd cause
 earlier_cause command default_port run (status.ReadFailed name) first before after later cause = cause
 earlier_cause command default_port run status.OpenFailed first before after later cause = (cause.0, let rose = cause.1 in omega (arith, later.opens, rose))
+earlier_cause command default_port run status.TellFailed first before after later cause = absurd cause
 earlier_cause command default_port run (status.Refused NoCorefile) first before after later cause = cause
 earlier_cause command default_port run (status.Refused Unbuilt) first before after later cause = cause
 earlier_cause command default_port run status.NoMemory first before after later cause = tt

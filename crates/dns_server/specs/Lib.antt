@@ -7,3 +7,4 @@ pub mod Turn
 pub mod Worker
 pub mod Opening
 pub mod Report
+pub mod Telling

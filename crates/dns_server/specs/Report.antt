@@ -130,12 +130,13 @@ pub record HasFailed (run : RunData) : Type 0 where
   pub fed : run.starved ≡ 0
   pub some : SomeFailed run.sides
 
--- the cause of each status of a run by a command. Want of memory is always allowed.
+-- the cause of each status that a run by a command comes to, before that is told. Want of memory is always allowed.
 abbrev pub CauseOf : Status → CommandData → ℕ → RunData → HostCounts → HostCounts → Type 0
 CauseOf status.Usage command default_port run before after = ⊥
 CauseOf (status.ReadFailed name) command default_port run before after =
     (name ≡ command.conf) × IsRefused run (IfSome run.watch (λ w. Rose 0 w.counts.reads))
 CauseOf status.OpenFailed command default_port run before after = (run.published ≡ 0) × Rose before.opens after.opens
+CauseOf status.TellFailed command default_port run before after = ⊥
 CauseOf (status.Refused NoCorefile) command default_port run before after = IsRefused run (HasRead run.watch (Read command.conf readout.Missing ∷ []))
 CauseOf (status.Refused Unbuilt) command default_port run before after = IsRefused run (IsUnbuilt command default_port run)
 CauseOf status.NoMemory command default_port run before after = Unit {0}
@@ -167,6 +168,7 @@ abbrev pub IsEndStatus : WorkEnd → ℕ → Status → Type 0
 IsEndStatus end starved status.Usage = ⊥
 IsEndStatus end starved (status.ReadFailed name) = ⊥
 IsEndStatus end starved status.OpenFailed = ⊥
+IsEndStatus end starved status.TellFailed = ⊥
 IsEndStatus end starved (status.Refused refusal) = ⊥
 IsEndStatus end starved status.NoMemory = Unit {0}
 IsEndStatus end starved status.WorkerFailed = (end ≡ ends.RecvFailed) × (starved ≡ 0)
@@ -179,7 +181,7 @@ IsFirstStatus fault.Unbuilt conf how = how ≡ status.Refused Unbuilt
 IsFirstStatus fault.ReadFailed conf how = (how ≡ status.ReadFailed conf) ⊎ (how ≡ status.NoMemory)
 IsFirstStatus fault.NoMemory conf how = how ≡ status.NoMemory
 
--- what a run is, by its words
+-- what a run is, by its words, before its status is told
 abbrev pub IsRunOf : List (List ℕ) → ℕ → RunData → Option HostTold → Option HostTold → HostCounts → HostCounts → Type 0
 IsRunOf words default_port run told_before told_after before after =
     IsIdle words run told_before told_after ⊎ IsByCommand words default_port run told_before told_after before after

@@ -11,6 +11,7 @@ mod number;
 mod report;
 mod running;
 mod serving;
+mod telling;
 mod whoami;
 mod worker;
 
@@ -21,5 +22,6 @@ pub use first::{FirstFault, read_first};
 pub use report::{Done, Refusal, Report, Status};
 pub use running::{DEFAULT_PORT, run};
 pub use serving::{Served, Silence, serve};
+pub use telling::tell_status;
 pub use whoami::whoami_answer;
 pub use worker::{MOST_FAILURES, Turned, WorkEnd, Worker, take_turn, work};

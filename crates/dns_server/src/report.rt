@@ -17,6 +17,8 @@ pub enum Status {
     /// The file of this name could not be read.
     ReadFailed(Text),
     OpenFailed,
+    /// The line of another status could not be told.
+    TellFailed,
     Refused(Refusal),
     NoMemory,
     /// A worker could not receive any more.

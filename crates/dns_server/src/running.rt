@@ -4,11 +4,13 @@ ghost use Rattle.outside.specs.Hosts.{IsFreshSide, IsFreshWatch};
 ghost use Rattle.dns_server.specs.declared.corefile.Bundle.{Bundle};
 ghost use Rattle.dns_server.specs.Serve.{IsChain};
 ghost use Rattle.dns_server.specs.Report.{RunsCommand, IsRunOf, IsEndStatus, IsFirstStatus, TellsRun, side_run, run_data, stopped_run};
+ghost use Rattle.dns_server.specs.Telling.{IsToldRun};
 
 use crate::chain::Chain;
 use crate::command::{Command, read_command};
 use crate::first::{FirstFault, read_first};
 use crate::report::{Done, Refusal, Report, Status};
+use crate::telling::tell_status;
 use crate::worker::{WorkEnd, Worker, work};
 use dns_data::{Copies, NoMemory, Text, Transport};
 use outside::{Host, OpenFault, Side, Watch};
@@ -17,9 +19,30 @@ use std::alloc::Global;
 /// The port of keys that name none (RFC 1035, section 4.2).
 pub const DEFAULT_PORT: u16 = 53;
 
-/// Runs the command that the words ask for, over what the host opens, until all sides have ended. The words are those
-/// behind the program's own name.
+/// Runs the command that the words ask for, over what the host opens, until all sides have ended, and tells the line of
+/// its status. The words are those behind the program's own name.
 pub fn run<H: Host>(alloc: Global, words: &[Text], host: &mut H) -> Report<H>
+    ensures runs { IsToldRun words.now DEFAULT_PORT (run_data H.Side.journal H.Side.counts H.Watch.state result.status result.sides.items result.watch result.published result.starved) (H.told host.old) (H.told host.new) (H.counts host.old) (H.counts host.new) }
+    ensures counts { HostNoneFell (H.counts host.old) (H.counts host.new) }
+{
+    let Report {
+        status,
+        sides,
+        watch,
+        published,
+        starved,
+    } = run_words(alloc, words, host);
+    Report {
+        status: tell_status(alloc, host, status),
+        sides,
+        watch,
+        published,
+        starved,
+    }
+}
+
+// Runs the command that the words ask for, before its status is told.
+fn run_words<H: Host>(alloc: Global, words: &[Text], host: &mut H) -> Report<H>
     ensures runs { IsRunOf words.now DEFAULT_PORT (run_data H.Side.journal H.Side.counts H.Watch.state result.status result.sides.items result.watch result.published result.starved) (H.told host.old) (H.told host.new) (H.counts host.old) (H.counts host.new) }
     ensures counts { HostNoneFell (H.counts host.old) (H.counts host.new) }
 {

@@ -7,6 +7,7 @@ abbrev pub exit_number : Status → ℕ
 exit_number status.Usage = 2
 exit_number (status.ReadFailed name) = 3
 exit_number status.OpenFailed = 3
+exit_number status.TellFailed = 3
 exit_number (status.Refused refusal) = 1
 exit_number status.NoMemory = 4
 exit_number status.WorkerFailed = 6

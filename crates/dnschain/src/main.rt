@@ -11,7 +11,7 @@ ghost use Rattle.std.specs.Prelude.{◌≡◌};
 ghost use Rattle.dnschain.specs.Exit.{exit_number};
 
 use dns_data::Text;
-use dns_server::{Status, run};
+use dns_server::{Status, run, tell_status};
 use host::SystemHost;
 use std::alloc::Global;
 use std::env;
@@ -19,14 +19,14 @@ use std::process::ExitCode;
 use std::rt::Env;
 
 fn main(rt: HostRuntime) -> ExitCode {
-    match words(&rt, rt.alloc()) {
-        Ok(words) => {
-            let mut host = SystemHost::new(rt, rt.alloc());
-            let report = run(rt.alloc(), words.as_slice(), &mut host);
-            ExitCode::from(number_of(&report.status))
-        }
-        Err(fault) => ExitCode::from(number_of(&fault)),
-    }
+    let alloc = rt.alloc();
+    let words = words(&rt, alloc);
+    let mut host = SystemHost::new(rt, alloc);
+    let status = match words {
+        Ok(words) => run(alloc, words.as_slice(), &mut host).status,
+        Err(status) => tell_status(alloc, &mut host, status),
+    };
+    ExitCode::from(number_of(&status))
 }
 
 // The words behind the program's own name. Words that aren't UTF-8 are no command.
@@ -51,7 +51,7 @@ fn number_of(status: &Status) -> u8
         Status::Ended => 0,
         Status::Refused(_) => 1,
         Status::Usage => 2,
-        Status::ReadFailed(_) | Status::OpenFailed => 3,
+        Status::ReadFailed(_) | Status::OpenFailed | Status::TellFailed => 3,
         Status::NoMemory => 4,
         Status::WorkerFailed => 6,
     }

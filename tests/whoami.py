@@ -44,6 +44,14 @@ def serves(rows):
         random_datagrams(rows, server)
 
 
+def refuses(rows):
+    """A block without `whoami`: REFUSED, and the question alone."""
+    with Served('".:{port}" { # nothing\r\n}\r\n') as server:
+        rows.row("a block without a plugin serves", server.is_serving(QUERY))
+        with Client(server.port) as client:
+            rows.equal("a query is refused", client.ask(QUERY), bytes.fromhex("123481050001000000000000") + QUESTION)
+
+
 def over_ipv6(rows, server):
     try:
         client = Client(server.port, socket.AF_INET6)
@@ -93,10 +101,14 @@ def ends(rows):
         for text, conf, want, line in [
             ("an empty Corefile", "", 0, None),
             ("a Corefile of blanks", " \n\t\n", 0, None),
-            ("another plugin", ".:5300 {\nwhoamy\n}\n", 1, "not built yet"),
+            ("a Corefile of comments", "# none\r\n  # none", 0, None),
+            ("another plugin", ".:5300 {\n\nwhoamy\n}\n", 1, "corefile line 3: unknown directive"),
+            ("an open quote", ".:5300 { # a\r\n\"whoami\r\n}\r\n", 1, "corefile line 2: open quote"),
+            ("text after a quote", ".:5300 {\n\"whoami\"}\n", 1, "corefile line 2: text after quote"),
+            ("reload", ".:5300 {\nreload\nwhoami\n}\n", 1, "not built yet"),
             ("two blocks", ".:5300 {\nwhoami\n}\n.:5301 {\nwhoami\n}\n", 1, "not built yet"),
             ("port 65536", ".:65536 {\nwhoami\n}\n", 1, "not built yet"),
-            ("bytes that aren't UTF-8", b"\xff\n", 1, "not built yet"),
+            ("bytes that aren't UTF-8", b"\n# \xff\n", 1, "corefile line 2: not UTF-8"),
             ("more than 1 MiB", b"\n" * 1_048_577, 1, "not built yet"),
         ]:
             got = status_of("serve", "--conf", corefile(room, conf))
@@ -138,6 +150,7 @@ def main():
     needs_program()
     rows = Rows()
     serves(rows)
+    refuses(rows)
     ends(rows)
     rows.end()
 

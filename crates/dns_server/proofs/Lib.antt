@@ -1,6 +1,5 @@
 pub mod Blocks
 pub mod Numbers
 pub mod Openings
-pub mod Pieces
 pub mod WhoamiLemmas
 pub mod Working

@@ -1,11 +1,13 @@
 -- Reading a number digit by digit.
-use Rattle.std.proofs.Common.{◌≡◌, ◌≤◌, ◌<◌, ℕ, ◌+◌, ◌*◌, ◌-◌, ◌^◌, List, [], ◌∷◌, ◌++◌, length, take, get_or, All, sym, ap, ◌∙◌, add-one, arith}
+use Rattle.std.proofs.Common.{◌≡◌, ◌≤◌, ◌<◌, ℕ, ◌+◌, ◌*◌, ◌-◌, ◌^◌, true, false, ◌&&◌, leb, refl, List, [], ◌∷◌, ◌++◌, length, take, get_or, All, sym, ap, ◌∙◌, add-one, arith}
 use Rattle.std.proofs.lemmas.List.{take_more}
 use Rattle.std.proofs.lemmas.List.Elements.{All-push}
-use Rattle.std.proofs.lemmas.List.Sums.{fold-append}
+use Rattle.std.proofs.lemmas.Bool.{and_parts, and_from, le-leb, leb-true, false_from_ne_true}
+use Rattle.std.proofs.lemmas.List.Sums.{fold-append, AllPass-from_list_all, list_all-from_AllPass}
 use Rattle.std.proofs.Math.Nat.{pow-succ', pow-le-pow_right}
-use Rattle.std.specs.Char.{IsAsciiDigit}
-use Rattle.dns_server.specs.Number.{decimal}
+use Rattle.std.specs.List.{list_all}
+use Rattle.std.specs.Char.{IsAsciiDigit, is_ascii_digit}
+use Rattle.dns_server.specs.Number.{decimal, IsNumber, is_number}
 
 decimal-push : (digits : List ℕ) (digit : ℕ) → decimal (digits ++ digit ∷ []) ≡ 10 * decimal digits + (digit - 48)
 decimal-push digits digit = fold-append (λ number d. 10 * number + (d - 48)) 0 digits (digit ∷ [])
@@ -34,3 +36,29 @@ fits count number small few =
     let power : 10 ^ (count + 1) ≡ 10 * 10 ^ count = rw add-one (pow-succ' 10 count) in
     let up : 10 ^ (count + 1) ≤ 10 ^ 18 = pow-le-pow_right {n = 10} (omega arith) {i = count + 1} {j = 18} (omega arith) in
     omega (arith, power, up)
+
+digit_yes : (byte : ℕ) → IsAsciiDigit byte → is_ascii_digit byte ≡ true
+digit_yes byte is = and_from (leb 48 byte) (leb byte 57) (le-leb 48 byte is.0) (le-leb byte 57 is.1)
+
+digit_from : (byte : ℕ) → is_ascii_digit byte ≡ true → IsAsciiDigit byte
+digit_from byte e = let both = and_parts (leb 48 byte) (leb byte 57) e in (leb-true 48 byte both.0, leb-true byte 57 both.1)
+
+-- a number is what its test says
+pub number_yes : (most : ℕ) (text : List ℕ) (number : ℕ) → IsNumber most text number → is_number most text ≡ true
+number_yes most text number is =
+    and_from _ _ (and_from _ _ (le-leb 1 (length text) is.some) (le-leb (length text) most is.few))
+    (list_all-from_AllPass is_ascii_digit text (λ k d h. digit_yes _ (is.digits k d h)))
+
+number_from : (most : ℕ) (text : List ℕ) → is_number most text ≡ true → IsNumber most text (decimal text)
+number_from most text e =
+    let all = and_parts (leb 1 (length text) && leb (length text) most) (list_all is_ascii_digit text) e in
+    let sized = and_parts (leb 1 (length text)) (leb (length text) most) all.0 in
+    record {
+      some = leb-true 1 (length text) sized.0;
+      few = leb-true (length text) most sized.1;
+      digits = λ k d h. digit_from _ (AllPass-from_list_all is_ascii_digit text all.1 k d h);
+      value = refl;
+    }
+
+pub number_no : (most : ℕ) (text : List ℕ) → ((number : ℕ) → IsNumber most text number → ⊥) → is_number most text ≡ false
+number_no most text none = false_from_ne_true (is_number most text) (λ e. none (decimal text) (number_from most text e))

@@ -11,10 +11,10 @@ use Rattle.outside.specs.Hosts.{HostTold, AddsHost, IsFreshWatch}
 use Rattle.outside.specs.Journals.{host-adds-nothing, host-adds-then, watch_tells_since}
 use Rattle.outside.specs.WatchMarks.{WatchState}
 use Rattle.dns_server.specs.declared.chain.Chain.{Chain}
+use Rattle.dns_server.specs.declared.corefile.Block.{Block}
 use Rattle.dns_server.specs.declared.corefile.Bundle.{Bundle}
 use Rattle.dns_server.specs.declared.first.FirstFault.{FirstFault}
 use Rattle.dns_server.specs.declared.first.FirstFault.TheVariants as fault
-use Rattle.dns_server.specs.declared.report.Refusal.TheVariants.{NoCorefile, Unbuilt}
 use Rattle.dns_server.specs.declared.report.Status.{Status}
 use Rattle.dns_server.specs.declared.report.Status.TheVariants as status
 use Rattle.dns_server.specs.Command.{CommandData}
@@ -37,7 +37,7 @@ pub stops : {command : CommandData} {default_port : ℕ} {told_before told_after
     → IfSome watch (λ w. IfSome w.journal (OpensWith command.conf [])) → AddsHost told_before told_after [] [] → CauseOf how command default_port (stopped_run how watch) before after
     → RunsCommand command default_port (stopped_run how watch) told_before told_after before after
 stops how watch opening told cause = record {
-  served = record { bundles = []; count = refl; accepted = tt; opening = opening; endpoints = []; opened = refl; told = told; one_each = refl; sides = tt };
+  served = record { bundles = []; count = refl; accepted = tt; watch = λ some. absurd (some refl); opening = opening; endpoints = []; opened = refl; told = told; one_each = refl; sides = tt };
   cause = cause;
 }
 
@@ -55,14 +55,14 @@ end_cause command default_port before after watch side status.Ended is =
     record { sides = (record { end = is.0; fed = is.1 }, tt); fed = refl; nothing = λ e. absurd cc }
 
 -- a run that served by its first bundle
-pub serves : {command : CommandData} {default_port : ℕ} {told_before told_after : Option HostTold} {before after : HostCounts} (how : Status) (watch : WatchState) (chain : Chain) (port : ℕ) (side : SideRun)
-    → IsChain chain → chain.default_port ≡ default_port → chain.corefile.port ≡ Some port
+pub serves : {command : CommandData} {default_port : ℕ} {told_before told_after : Option HostTold} {before after : HostCounts} (how : Status) (watch : WatchState) (chain : Chain) (block : Block) (side : SideRun)
+    → IsChain chain → chain.default_port ≡ default_port → chain.corefile.block ≡ Some block
     → IfSome watch.journal (λ told. told ≡ Read command.conf (readout.Got chain.bundle.conf) ∷ Published 0 ∷ [])
-    → AddsHost told_before told_after [] (record { port = port; by = Udp; number = 0 } ∷ [])
+    → AddsHost told_before told_after [] (record { port = block.port; by = Udp; number = 0 } ∷ [])
     → ((bundles : List Bundle) → slice_get bundles 0 ≡ Some chain.bundle → TellsRun bundles chain.default_port command.most side)
     → IsEndStatus side.end side.starved how
     → RunsCommand command default_port (record { status = how; sides = side ∷ []; watch = Some watch; published = 1; starved = 0 }) told_before told_after before after
-serves {command} {default_port} {before = before} {after = after} how watch chain port side is same block opening told tells end =
+serves {command} {default_port} {before = before} {after = after} how watch chain block side is same block_is opening told tells end =
     let accepted : IsCorefile default_port chain.bundle.conf chain.corefile = subst (λ (p : ℕ). IsCorefile p chain.bundle.conf chain.corefile) same is in
     let tells_so : TellsRun (chain.bundle ∷ []) default_port command.most side = subst (λ (p : ℕ). TellsRun (chain.bundle ∷ []) p command.most side) same (tells (chain.bundle ∷ []) refl) in
     record {
@@ -70,9 +70,10 @@ serves {command} {default_port} {before = before} {after = after} how watch chai
         bundles = chain.bundle ∷ [];
         count = refl;
         accepted = (record { corefile = chain.corefile; accepted = accepted }, tt);
+        watch = λ some none. absurd cc;
         opening = opening;
-        endpoints = record { port = port; by = Udp; number = 0 } ∷ [];
-        opened = record { corefile = chain.corefile; accepted = accepted; are = sym (ap endpoints_of block) };
+        endpoints = record { port = block.port; by = Udp; number = 0 } ∷ [];
+        opened = record { corefile = chain.corefile; accepted = accepted; are = sym (ap endpoints_of block_is) };
         told = told;
         one_each = refl;
         sides = (tells_so, tt);
@@ -84,14 +85,10 @@ serves {command} {default_port} {before = before} {after = after} how watch chai
 pub first_stops : (command : CommandData) (default_port : ℕ) (old new : WatchState) (why : FirstFault) (how : Status) (told : Option HostTold) (counts : HostCounts)
     → IsFreshWatch old → ReadsFirst command.conf default_port old new (Err why) → IsFirstStatus why command.conf how
     → RunsCommand command default_port (stopped_run how (Some new)) told told counts counts
-first_stops command default_port old new fault.NoCorefile how told counts fresh reads is =
-    let journal = watch_tells_since fresh reads in
-    rw is (stops (status.Refused NoCorefile) (Some new) (opens_nothing command.conf new.journal _ journal (one_read command.conf readout.Missing)) (host-adds-nothing told)
-    (record { published = refl; watch = λ e. absurd cc; why = journal }))
-first_stops command default_port old new fault.Unbuilt how told counts fresh reads is =
+first_stops command default_port old new (fault.Refused why) how told counts fresh reads is =
     let journal = watch_tells_since fresh reads.told in
-    rw is (stops (status.Refused Unbuilt) (Some new) (opens_nothing command.conf new.journal _ journal (one_read command.conf (readout.Got reads.bytes))) (host-adds-nothing told)
-    (record { published = refl; watch = λ e. absurd cc; why = record { conf = reads.bytes; read = journal; no_corefile = reads.no_corefile } }))
+    rw is (stops (status.Refused why) (Some new) (opens_nothing command.conf new.journal _ journal (one_read command.conf reads.out)) (host-adds-nothing told)
+    (record { published = refl; watch = λ e. absurd cc; why = record { out = reads.out; read = journal; refused = reads.refused } }))
 first_stops command default_port old new fault.ReadFailed how told counts fresh reads is =
     let journal = watch_tells_since fresh reads.0 in
     let opening = opens_nothing command.conf new.journal _ journal (one_read command.conf readout.Failed) in
@@ -107,7 +104,7 @@ first_stops command default_port old new fault.NoMemory how told counts fresh re
 
 -- the first chain has no block, so that nothing is to be served
 pub no_block_stops : (command : CommandData) (default_port : ℕ) (old new : WatchState) (chain : Chain) (told : Option HostTold) (counts : HostCounts)
-    → IsFreshWatch old → ReadsChain command.conf default_port old new chain → chain.corefile.port ≡ None
+    → IsFreshWatch old → ReadsChain command.conf default_port old new chain → chain.corefile.block ≡ None
     → RunsCommand command default_port (stopped_run status.Ended (Some new)) told told counts counts
 no_block_stops command default_port old new chain told counts fresh reads none =
     let journal = watch_tells_since fresh reads.told in
@@ -140,8 +137,7 @@ earlier_cause command default_port run status.Usage first before after later cau
 earlier_cause command default_port run (status.ReadFailed name) first before after later cause = cause
 earlier_cause command default_port run status.OpenFailed first before after later cause = (cause.0, let rose = cause.1 in omega (arith, later.opens, rose))
 earlier_cause command default_port run status.TellFailed first before after later cause = absurd cause
-earlier_cause command default_port run (status.Refused NoCorefile) first before after later cause = cause
-earlier_cause command default_port run (status.Refused Unbuilt) first before after later cause = cause
+earlier_cause command default_port run (status.Refused why) first before after later cause = cause
 earlier_cause command default_port run status.NoMemory first before after later cause = tt
 earlier_cause command default_port run status.WorkerFailed first before after later cause = cause
 earlier_cause command default_port run status.Ended first before after later cause = cause
@@ -155,6 +151,7 @@ opened_before {command} {default_port} {run} {first = first} {before = before} {
     bundles = runs.served.bundles;
     count = runs.served.count;
     accepted = runs.served.accepted;
+    watch = runs.served.watch;
     opening = runs.served.opening;
     endpoints = runs.served.endpoints;
     opened = runs.served.opened;

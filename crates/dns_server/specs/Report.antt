@@ -4,6 +4,7 @@ use Rattle.std.specs.List.{AllByRecursion}
 use Rattle.outside.specs.declared.mark.Mark.{Mark}
 use Rattle.outside.specs.declared.mark.WatchMark.{WatchMark}
 use Rattle.outside.specs.declared.mark.WatchMark.TheVariants.{Read}
+use Rattle.outside.specs.declared.watch.ReadOut.{ReadOut}
 use Rattle.outside.specs.declared.watch.ReadOut.TheVariants as readout
 use Rattle.outside.specs.Causes.{Rose, RoseBy, SideCounts, HostCounts}
 use Rattle.outside.specs.Hosts.{HostTold, OpenedSide, AddsHost}
@@ -13,14 +14,14 @@ use Rattle.dns_server.specs.declared.corefile.Corefile.{Corefile}
 use Rattle.dns_server.specs.declared.first.FirstFault.{FirstFault}
 use Rattle.dns_server.specs.declared.first.FirstFault.TheVariants as fault
 use Rattle.dns_server.specs.declared.report.Done.{Done}
-use Rattle.dns_server.specs.declared.report.Refusal.TheVariants.{NoCorefile, Unbuilt}
+use Rattle.dns_server.specs.declared.report.Refusal.{Refusal}
 use Rattle.dns_server.specs.declared.report.Status.{Status}
 use Rattle.dns_server.specs.declared.report.Status.TheVariants as status
 use Rattle.dns_server.specs.declared.worker.WorkEnd.{WorkEnd}
 use Rattle.dns_server.specs.declared.worker.WorkEnd.TheVariants as ends
 use Rattle.dns_server.specs.Command.{CommandData, IsCommand}
 use Rattle.dns_server.specs.Corefile.{IsCorefile}
-use Rattle.dns_server.specs.Opening.{OpensWith, OpensSides}
+use Rattle.dns_server.specs.Opening.{OpensWith, OpensSides, Refuses}
 use Rattle.dns_server.specs.Worker.{WorkerRun}
 
 -- a side's journal where it tells one, its counts, how its worker ended, its pins, the last serial that it has seen, and
@@ -63,11 +64,12 @@ pub record IsServed (default_port : ℕ) (bundle : Bundle) : Type 0 where
   pub accepted : IsCorefile default_port bundle.conf corefile
 
 -- a run by a command: one list of published bundles stands behind the watch's journal, the sides that were opened, and
--- each side's journal
+-- each side's journal. The watch of a run that served is handed back.
 pub record ServesBy (command : CommandData) (default_port : ℕ) (run : RunData) (before after : Option HostTold) : Type 0 where
   pub bundles : List Bundle
   pub count : length bundles ≡ run.published
   pub accepted : AllByRecursion (IsServed default_port) bundles
+  pub watch : run.published ≢ 0 → run.watch ≢ None
   pub opening : IfSome run.watch (λ w. IfSome w.journal (OpensWith command.conf bundles))
   pub endpoints : List OpenedSide
   pub opened : OpensSides default_port bundles endpoints
@@ -89,11 +91,11 @@ pub record IsRefused (run : RunData) (P : Type 0) : Type 0 where
   pub watch : run.watch ≢ None
   pub why : P
 
--- the first bundle's text is no Corefile
-pub record IsUnbuilt (command : CommandData) (default_port : ℕ) (run : RunData) : Type 0 where
-  pub conf : List ℕ
-  pub read : HasRead run.watch (Read command.conf (readout.Got conf) ∷ [])
-  pub no_corefile : (corefile : Corefile) → IsCorefile default_port conf corefile → ⊥
+-- what the one read of the Corefile gave is refused for this
+pub record ReadWasRefused (command : CommandData) (default_port : ℕ) (why : Refusal) (run : RunData) : Type 0 where
+  pub out : ReadOut
+  pub read : HasRead run.watch (Read command.conf out ∷ [])
+  pub refused : Refuses default_port out why
 
 -- the first bundle's text is a Corefile without a block, so that there is nothing to serve
 pub record HasNoBlock (command : CommandData) (default_port : ℕ) (run : RunData) : Type 0 where
@@ -102,7 +104,7 @@ pub record HasNoBlock (command : CommandData) (default_port : ℕ) (run : RunDat
   pub read : HasRead run.watch (Read command.conf (readout.Got conf) ∷ [])
   pub corefile : Corefile
   pub is : IsCorefile default_port conf corefile
-  pub no_block : corefile.port ≡ None
+  pub no_block : corefile.block ≡ None
 
 -- a worker took its last datagram, and met no want of memory
 pub record TookAll (side : SideRun) : Type 0 where
@@ -137,8 +139,7 @@ CauseOf (status.ReadFailed name) command default_port run before after =
     (name ≡ command.conf) × IsRefused run (IfSome run.watch (λ w. Rose 0 w.counts.reads))
 CauseOf status.OpenFailed command default_port run before after = (run.published ≡ 0) × Rose before.opens after.opens
 CauseOf status.TellFailed command default_port run before after = ⊥
-CauseOf (status.Refused NoCorefile) command default_port run before after = IsRefused run (HasRead run.watch (Read command.conf readout.Missing ∷ []))
-CauseOf (status.Refused Unbuilt) command default_port run before after = IsRefused run (IsUnbuilt command default_port run)
+CauseOf (status.Refused why) command default_port run before after = IsRefused run (ReadWasRefused command default_port why run)
 CauseOf status.NoMemory command default_port run before after = Unit {0}
 CauseOf status.WorkerFailed command default_port run before after = HasFailed run
 CauseOf status.Ended command default_port run before after = HasEnded command default_port run
@@ -176,8 +177,7 @@ IsEndStatus end starved status.Ended = (end ≡ ends.End) × (starved ≡ 0)
 
 -- the status of a run without a first configuration
 abbrev pub IsFirstStatus : FirstFault → List ℕ → Status → Type 0
-IsFirstStatus fault.NoCorefile conf how = how ≡ status.Refused NoCorefile
-IsFirstStatus fault.Unbuilt conf how = how ≡ status.Refused Unbuilt
+IsFirstStatus (fault.Refused why) conf how = how ≡ status.Refused why
 IsFirstStatus fault.ReadFailed conf how = (how ≡ status.ReadFailed conf) ⊎ (how ≡ status.NoMemory)
 IsFirstStatus fault.NoMemory conf how = how ≡ status.NoMemory
 

@@ -1,5 +1,5 @@
 -- What a datagram means under a configuration. This server's own rule; the wire format is RFC 1035, section 4.
-use Rattle.std.specs.Prelude.{◌≡◌, ◌≤◌, ◌<◌, ℕ, nat_eq, true, false, List, [], length, Option, Some, None, if◌then◌else◌}
+use Rattle.std.specs.Prelude.{◌≡◌, ◌≤◌, ◌<◌, ℕ, nat_eq, true, false, ◌&&◌, List, [], length, Option, Some, None, if◌then◌else◌}
 use Rattle.dns_data.specs.Message.{MessageData, AnswerData}
 use Rattle.dns_data.specs.declared.query.Query.{Query}
 use Rattle.dns_wire.specs.Wire.{flag_at}
@@ -7,6 +7,7 @@ use Rattle.dns_wire.specs.Query.{SpellsQuery}
 use Rattle.dns_wire.specs.Written.{written}
 use Rattle.outside.specs.declared.datagram.Datagram.{Datagram}
 use Rattle.outside.specs.declared.mark.Mark.{Mark}
+use Rattle.dns_server.specs.declared.corefile.Block.{Block}
 use Rattle.dns_server.specs.declared.corefile.Bundle.{Bundle}
 use Rattle.dns_server.specs.declared.corefile.Corefile.{Corefile}
 use Rattle.dns_server.specs.declared.chain.Chain.{Chain}
@@ -35,10 +36,10 @@ query_of d m = record {
 abbrev pub refusal : AnswerData
 refusal = record { rcode = 5; aa = false; ra = false; tc = false; answer = []; authority = []; additional = [] }
 
--- the block on the port at which the query came answers it
-abbrev pub block_answer : Option ℕ → Query → AnswerData
+-- the block on the port at which the query came answers it, where it holds `whoami`
+abbrev pub block_answer : Option Block → Query → AnswerData
 block_answer None q = refusal
-block_answer (Some port) q = if nat_eq port q.local then whoami_of q else refusal
+block_answer (Some block) q = if block.whoami && nat_eq block.port q.local then whoami_of q else refusal
 
 -- the reply to a query of this id and class: its RD and CD and its question as they came; AD clear
 abbrev pub replying : ℕ → ℕ → Query → AnswerData → MessageData
@@ -74,7 +75,7 @@ pub record Replies (bundle : Bundle) (default_port : ℕ) (d : Datagram) (reply 
   pub accepted : IsAccepted bundle default_port corefile
   pub message : MessageData
   pub spells : SpellsQuery d.bytes message
-  pub bytes : reply ≡ written (reply_to d message (block_answer corefile.port (query_of d message)))
+  pub bytes : reply ≡ written (reply_to d message (block_answer corefile.block (query_of d message)))
 
 -- what a datagram means, and that its meaning takes no marks. Want of memory is always allowed.
 abbrev pub Serves : Bundle → ℕ → Datagram → List Mark → Served → Type 0

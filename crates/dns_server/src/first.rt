@@ -2,7 +2,8 @@ ghost use Rattle.outside.specs.Causes.{WatchNoneFell};
 ghost use Rattle.dns_server.specs.Opening.{ReadsFirst, MakesChain};
 
 use crate::chain::Chain;
-use crate::corefile::{Bundle, CorefileFault, read_corefile};
+use crate::corefile::{Bundle, ReadFault, read_corefile};
+use crate::report::Refusal;
 use dns_data::{Bytes, Text};
 use outside::{ReadOut, Watch};
 use std::alloc::Global;
@@ -10,8 +11,7 @@ use std::alloc::Global;
 /// Why there is no first configuration.
 #[derive(Clone, Copy, Debug, PartialEq, Eq)]
 pub enum FirstFault {
-    NoCorefile,
-    Unbuilt,
+    Refused(Refusal),
     ReadFailed,
     NoMemory,
 }
@@ -28,7 +28,7 @@ pub fn read_first<W: Watch>(
 {
     match watch.read(conf) {
         ReadOut::Got(bytes) => chain_of(alloc, bytes, default_port),
-        ReadOut::Missing => Err(FirstFault::NoCorefile),
+        ReadOut::Missing => Err(FirstFault::Refused(Refusal::NoCorefile)),
         ReadOut::Failed => Err(FirstFault::ReadFailed),
         ReadOut::NoMemory => Err(FirstFault::NoMemory),
     }
@@ -44,7 +44,7 @@ fn chain_of(alloc: Global, conf: Bytes, default_port: u16) -> Result<Chain, Firs
             default_port,
             corefile,
         }),
-        Err(CorefileFault::Unbuilt) => Err(FirstFault::Unbuilt),
-        Err(CorefileFault::NoMemory) => Err(FirstFault::NoMemory),
+        Err(ReadFault::Refused(refusal)) => Err(FirstFault::Refused(refusal)),
+        Err(ReadFault::NoMemory) => Err(FirstFault::NoMemory),
     }
 }

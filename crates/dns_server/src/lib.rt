@@ -2,22 +2,24 @@
 //! each datagram by the meaning of the Corefile's text.
 #![tactic(auto)]
 
+mod block;
 mod chain;
 mod command;
 mod corefile;
-mod cutting;
 mod first;
 mod number;
 mod report;
 mod running;
 mod serving;
 mod telling;
+#[cfg(test)]
+mod tests;
 mod whoami;
 mod worker;
 
 pub use chain::Chain;
 pub use command::{Command, MOST_DATAGRAMS, read_command};
-pub use corefile::{Bundle, Corefile, CorefileFault, read_corefile};
+pub use corefile::{Block, Bundle, Corefile, CorefileFault, ReadFault, read_corefile};
 pub use first::{FirstFault, read_first};
 pub use report::{Done, Refusal, Report, Status};
 pub use running::{DEFAULT_PORT, run};

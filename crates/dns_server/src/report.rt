@@ -1,3 +1,4 @@
+use crate::corefile::CorefileFault;
 use crate::worker::WorkEnd;
 use dns_data::Text;
 use outside::Host;
@@ -6,6 +7,9 @@ use outside::Host;
 #[derive(Clone, Copy, Debug, PartialEq, Eq)]
 pub enum Refusal {
     NoCorefile,
+    Corefile(CorefileFault),
+    /// The line of a directive that no plugin has.
+    Unknown { line: u32 },
     /// The Corefile has a form that is not built yet.
     Unbuilt,
 }

@@ -9,7 +9,7 @@ ghost use Rattle.dns_server.specs.Telling.{IsToldRun};
 use crate::chain::Chain;
 use crate::command::{Command, read_command};
 use crate::first::{FirstFault, read_first};
-use crate::report::{Done, Refusal, Report, Status};
+use crate::report::{Done, Report, Status};
 use crate::telling::tell_status;
 use crate::worker::{WorkEnd, Worker, work};
 use dns_data::{Copies, NoMemory, Text, Transport};
@@ -72,14 +72,14 @@ fn run_command<H: Host>(
         Ok(chain) => chain,
         Err(fault) => return stopped(alloc, status_of(alloc, fault, command.conf), Some(watch)),
     };
-    let Some(port) = chain.corefile.port else {
+    let Some(block) = chain.corefile.block else {
         return stopped(alloc, Status::Ended, Some(watch));
     };
     // Room first, so that a side that was opened can't be lost for want of memory.
     let Ok(mut sides) = Vec::with_capacity(alloc, 1) else {
         return stopped(alloc, Status::NoMemory, Some(watch));
     };
-    let side = match host.open_side(port, Transport::Udp, 0) {
+    let side = match host.open_side(block.port, Transport::Udp, 0) {
         Ok(side) => side,
         Err(OpenFault::Failed) => return stopped(alloc, Status::OpenFailed, Some(watch)),
         Err(OpenFault::NoMemory) => return stopped(alloc, Status::NoMemory, Some(watch)),
@@ -114,8 +114,7 @@ fn status_of(alloc: Global, fault: FirstFault, conf: &Text) -> Status
     ensures { IsFirstStatus fault conf.now result }
 {
     match fault {
-        FirstFault::NoCorefile => Status::Refused(Refusal::NoCorefile),
-        FirstFault::Unbuilt => Status::Refused(Refusal::Unbuilt),
+        FirstFault::Refused(refusal) => Status::Refused(refusal),
         FirstFault::ReadFailed => match conf.copy(alloc) {
             Ok(name) => Status::ReadFailed(name),
             Err(NoMemory) => Status::NoMemory,

@@ -4,6 +4,7 @@ ghost use Rattle.dns_server.specs.Whoami.{HasFewRecords};
 ghost use Rattle.dns_wire.specs.Written.{written};
 
 use crate::chain::Chain;
+use crate::corefile::Block;
 use crate::whoami::whoami_answer;
 use dns_data::{Answer, Bytes, Message, NoMemory, Query, Question, Seq};
 use dns_wire::{QueryFault, read_query, write_message};
@@ -50,11 +51,11 @@ fn reply(
     datagram: &Datagram,
     message: Message,
 ) -> Result<Bytes, NoMemory>
-    ensures { IfOk result (λ bytes. bytes ≡ written (reply_to datagram.now message (block_answer chain.now.corefile.port (query_of datagram.now message)))) }
+    ensures { IfOk result (λ bytes. bytes ≡ written (reply_to datagram.now message (block_answer chain.now.corefile.block (query_of datagram.now message)))) }
 {
     let (id, class) = (message.id, message.question.class);
     let query = query_of(datagram, message);
-    let answer = block_answer(alloc, chain.corefile.port, &query)?;
+    let answer = block_answer(alloc, chain.corefile.block, &query)?;
     write_message(alloc, &reply_to(id, class, query, answer))
 }
 
@@ -82,12 +83,12 @@ fn query_of(datagram: &Datagram, message: Message) -> Query
     }
 }
 
-fn block_answer(alloc: Global, port: Option<u16>, query: &Query) -> Result<Answer, NoMemory>
-    ensures value { IfOk result (λ answer. answer ≡ block_answer port query.now) }
+fn block_answer(alloc: Global, block: Option<Block>, query: &Query) -> Result<Answer, NoMemory>
+    ensures value { IfOk result (λ answer. answer ≡ block_answer block query.now) }
     ensures few { IfOk result HasFewRecords }
 {
-    match port {
-        Some(port) if port == query.local => whoami_answer(alloc, query),
+    match block {
+        Some(block) if block.whoami && block.port == query.local => whoami_answer(alloc, query),
         _ => Ok(refusal(alloc)),
     }
 }

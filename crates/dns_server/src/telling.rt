@@ -2,7 +2,9 @@ ghost use Rattle.std.specs.Prelude.{◌≡◌};
 ghost use Rattle.outside.specs.Causes.{HostNoneFell};
 ghost use Rattle.dns_server.specs.Telling.{TellsStatus, TellsLine, untold};
 
+use crate::corefile::CorefileFault;
 use crate::report::{Refusal, Status};
+use corefile_words::WordsFault;
 use outside::{Host, Wrote};
 use std::alloc::Global;
 use std::fmt;
@@ -17,6 +19,15 @@ impl Display for Refusal {
     fn fmt<W: Write>(&self, f: &mut Formatter<W>) -> fmt::Result {
         match self {
             Refusal::NoCorefile => f.write_str("no corefile"),
+            Refusal::Corefile(CorefileFault::Words(fault)) => match fault {
+                WordsFault::NotText { line } => write!(f, "corefile line {line}: not UTF-8"),
+                WordsFault::OpenQuote { line } => write!(f, "corefile line {line}: open quote"),
+                WordsFault::QuoteTail { line } => {
+                    write!(f, "corefile line {line}: text after quote")
+                }
+                WordsFault::NoMemory => f.write_str("out of memory"),
+            },
+            Refusal::Unknown { line } => write!(f, "corefile line {line}: unknown directive"),
             Refusal::Unbuilt => f.write_str("not built yet"),
         }
     }

@@ -42,6 +42,13 @@ impl RegexMaker {
     {
         RegexMaker { refused: 0 }
     }
+
+    /// How many texts it refused. The count stays at its last value once it is there.
+    pub fn refusals(&self) -> u64
+        ensures { result ≡ self.now.refused }
+    {
+        self.refused
+    }
 }
 
 impl PatternMaker for RegexMaker {

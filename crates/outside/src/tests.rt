@@ -1,0 +1,51 @@
+use super::*;
+use dns_data::{Addr, Bytes, Copies, NoMemory, Text, Transport};
+use std::alloc::Global;
+use std::test::Fail;
+
+#[test]
+fn a_pattern_is_made_of_its_text(rt: HostRuntime) -> Result<(), Fail> {
+    let mut maker = RegexMaker::new();
+    let made = make(rt.alloc(), &mut maker, "^a+$")?;
+    let Made::Pattern(pattern) = made else {
+        return Err("a pattern".into());
+    };
+    let mut matcher = pattern.as_regex().matcher(rt.alloc())?;
+    assert!(rt; matcher.is_match("aaa") && !matcher.is_match("aab"));
+    assert_eq!(rt; maker.refusals(), 0);
+    Ok(())
+}
+
+#[test]
+fn refusals_are_counted_by_their_cause(rt: HostRuntime) -> Result<(), Fail> {
+    let mut maker = RegexMaker::new();
+    for text in ["(", "a)", "[b-a]", r"\", "(?=a)"] {
+        let made = make(rt.alloc(), &mut maker, text)?;
+        assert!(rt; matches!(made, Made::NotPattern), "{text}");
+    }
+    assert_eq!(rt; maker.refusals(), 5);
+    let made = make(rt.alloc(), &mut maker, "(?:a{1000}){1000}")?;
+    assert!(rt; matches!(made, Made::Refused));
+    assert_eq!(rt; maker.refusals(), 6);
+    Ok(())
+}
+
+#[test]
+fn a_datagram_is_copied_whole(rt: HostRuntime) -> Result<(), Fail> {
+    let datagram = Datagram {
+        bytes: Bytes::from_slice(rt.alloc(), &[1, 2, 3])?,
+        client: Addr::V4(0x7f00_0001),
+        port: 4000,
+        by: Transport::Tcp,
+        local: 53,
+    };
+    let copy = datagram.copy(rt.alloc())?;
+    assert!(rt; copy.bytes.is(&[1, 2, 3]) && copy.client == Addr::V4(0x7f00_0001));
+    assert!(rt; copy.port == 4000 && copy.by == Transport::Tcp && copy.local == 53);
+    Ok(())
+}
+
+fn make(alloc: Global, maker: &mut RegexMaker, text: &str) -> Result<Made, NoMemory> {
+    let text = Text::from_str(alloc, text)?;
+    Ok(maker.make(alloc, &text))
+}

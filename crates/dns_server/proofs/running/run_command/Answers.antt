@@ -31,6 +31,6 @@ returns-clause-runs g c =
     let told = watch_tells_since c.requires.fresh (watch-adds-then c.in-Ok.ensures.reads.told c.saw_published.ensures.told) in
     let pushed = rw c.unwrap.ensures at c.push.ensures.items in
     let items : c.push.new.self.items ≡ c.finish-done.result ∷ [] = rw c.in-Ok-with_capacity.ensures.items at pushed in
-    rw items (serves c.end_status-status.result (g.H.Watch.PatternMaker.state c.saw_published.new.self) c.in-Ok.chain c.in-Some.port
+    rw items (serves c.end_status-status.result (g.H.Watch.PatternMaker.state c.saw_published.new.self) c.in-Ok.chain c.in-Some.block
     (side_run g.H.Side.Side.journal g.H.Side.Side.counts c.finish-done.result) c.in-Ok.ensures.reads.is c.in-Ok.ensures.reads.port c.in-Some.is told c.in-Ok-open_side.ensures.told
     c.finish-done.ensures c.end_status-status.ensures)

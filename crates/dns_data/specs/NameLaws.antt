@@ -62,7 +62,7 @@ proper wire name w e = subst IsName e w.proper
 pub same_spelling : (a b : List (List ℕ)) → spelled a ≡ spelled b → a ≡ b
 same_spelling a b e = sym (labels_of-spelled a) ∙ ap labels_of e ∙ labels_of-spelled b
 
-wire_length-push : (ls : List (List ℕ)) (l : List ℕ) → wire_length (ls ++ l ∷ []) ≡ wire_length ls + length l + 1
+pub wire_length-push : (ls : List (List ℕ)) (l : List ℕ) → wire_length (ls ++ l ∷ []) ≡ wire_length ls + length l + 1
 wire_length-push [] l = omega arith
 wire_length-push (x ∷ ls) l = omega (arith, wire_length-push ls l)
 

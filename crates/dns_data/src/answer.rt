@@ -1,4 +1,5 @@
-use crate::Records;
+use crate::{Copies, NoMemory, Records};
+use std::alloc::Global;
 use std::marker::Model;
 
 /// What a chain of plugins answers: the RCODE, the flags AA, RA and TC, and the records by section.
@@ -31,4 +32,18 @@ impl Model for Answer {
     } };
 
     ghost invariant = { λ a. a.rcode < 16 };
+}
+
+impl Copies for Answer {
+    fn copy(&self, alloc: Global) -> Result<Answer, NoMemory> {
+        Ok(Answer {
+            rcode: self.rcode,
+            aa: self.aa,
+            ra: self.ra,
+            tc: self.tc,
+            answer: self.answer.copy(alloc)?,
+            authority: self.authority.copy(alloc)?,
+            additional: self.additional.copy(alloc)?,
+        })
+    }
 }

@@ -35,6 +35,15 @@ impl Name {
         }
     }
 
+    /// The name without labels, with room for so many bytes in wire form.
+    pub fn with_capacity(alloc: Global, bytes: usize) -> Result<Name, NoMemory>
+        ensures { IfOk result (λ n. n ≡ []) }
+    {
+        Ok(Name {
+            wire: Vec::with_capacity(alloc, bytes)?,
+        })
+    }
+
     /// The name that bytes spell in wire form, without the final zero byte.
     pub fn of_wire(alloc: Global, wire: &[u8]) -> Result<Name, NoMemory>
         requires { IsWire wire.now }

@@ -1,4 +1,5 @@
-use crate::{Addr, Name, Transport};
+use crate::{Addr, Copies, Name, NoMemory, Transport};
+use std::alloc::Global;
 
 /// What a chain of plugins is asked: the question, what the client set, and from where it came.
 #[derive(Debug, Drop)]
@@ -19,4 +20,21 @@ pub struct Query {
     pub by: Transport,
     /// The port of the server at which the query came.
     pub local: u16,
+}
+
+impl Copies for Query {
+    fn copy(&self, alloc: Global) -> Result<Query, NoMemory> {
+        Ok(Query {
+            name: self.name.copy(alloc)?,
+            kind: self.kind,
+            dnssec: self.dnssec,
+            cd: self.cd,
+            rd: self.rd,
+            edns: self.edns,
+            client: self.client,
+            port: self.port,
+            by: self.by,
+            local: self.local,
+        })
+    }
 }

@@ -1,3 +1,5 @@
+ghost use Rattle.dns_data.specs.Record.{IsFormed};
+
 use super::*;
 use std::alloc::Global;
 use std::test::Fail;
@@ -126,27 +128,41 @@ fn bytes_and_texts_keep_what_they_are_given(rt: HostRuntime) -> Result<(), Fail>
 #[test]
 fn records_are_copied_whole(rt: HostRuntime) -> Result<(), Fail> {
     let target = name_of(rt.alloc(), "h.org")?;
-    let mut records: Records = Seq::with_capacity(rt.alloc(), 3)?;
-    records.push(record_of(rt.alloc(), Rdata::A(1))?)?;
-    records.push(record_of(rt.alloc(), Rdata::Aaaa(2))?)?;
-    records.push(record_of(rt.alloc(), Rdata::Srv(3, 4, 5, target))?)?;
-    let copies = records.copy(rt.alloc())?;
-    for copy in copies.as_slice() {
-        assert_eq!(rt; copy.owner.as_wire(), b"\x07Example\x03org".as_slice());
-        assert_eq!(rt; (copy.class, copy.ttl), (6, 7));
-    }
-    assert_eq!(rt; copies.len(), 3);
-    let (first, second, third) = (copies.at(0), copies.at(1), copies.at(2));
-    assert!(rt; matches!(first.rdata, Rdata::A(1)));
-    assert!(rt; matches!(second.rdata, Rdata::Aaaa(2)));
+    let record = record_of(rt.alloc(), Rdata::Srv(3, 4, 5, target))?;
+    let copy = record.copy(rt.alloc())?;
+    assert_eq!(rt; copy.owner.as_wire(), b"\x07Example\x03org".as_slice());
+    assert_eq!(rt; (copy.class, copy.ttl), (6, 7));
     assert!(rt;
-        matches!(&third.rdata, Rdata::Srv(3, 4, 5, name) if name.as_wire() == b"\x01h\x03org".as_slice())
+        matches!(&copy.rdata, Rdata::Srv(3, 4, 5, name) if name.as_wire() == b"\x01h\x03org".as_slice())
     );
     Ok(())
 }
 
+#[test]
+fn data_has_the_number_of_its_type_and_the_length_of_its_form(rt: HostRuntime) -> Result<(), Fail> {
+    let alloc = rt.alloc();
+    let mut strings: Strings = Seq::with_capacity(alloc, 2)?;
+    strings.push(Bytes::new(alloc))?;
+    strings.push(Bytes::from_slice(alloc, b"ab")?)?;
+    assert_eq!(rt; shape_of(Rdata::Txt(strings)), (16, 4));
+    assert_eq!(rt; shape_of(Rdata::A(1)), (1, 4));
+    assert_eq!(rt; shape_of(Rdata::Aaaa(1)), (28, 16));
+    assert_eq!(rt; shape_of(Rdata::Mx(1, name_of(alloc, "h.org")?)), (15, 9));
+    assert!(rt; has_form(41) && has_form(257) && !has_form(255) && !has_form(65280));
+    Ok(())
+}
+
+// The type's number and the length of the data.
+fn shape_of(rdata: Rdata) -> (u16, usize)
+    requires { IsFormed rdata }
+{
+    (rdata.kind(), rdata.data_len())
+}
+
 // A record at Example.org.
-fn record_of(alloc: Global, rdata: Rdata) -> Result<Record, NoMemory> {
+fn record_of(alloc: Global, rdata: Rdata) -> Result<Record, NoMemory>
+    requires { IsFormed rdata }
+{
     Ok(Record::new(name_of(alloc, "Example.org")?, 6, 7, rdata))
 }
 

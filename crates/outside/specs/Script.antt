@@ -1,6 +1,6 @@
 -- Scripts: what an outside in memory is to give, and that its answers are those of its script. This server's own rule.
-use Rattle.std.specs.Prelude.{◌≡◌, ℕ, zero, suc, ◌+◌, ◌-◌, ◌==◌, Bool, not, List, [], ◌∷◌, ◌++◌, length, min, slice_get, slice_index, Option, IfSome, Some, None, cond, ◌≢◌}
-use Rattle.std.specs.List.{list_any}
+use Rattle.std.specs.Prelude.{◌≡◌, ℕ, zero, suc, ◌+◌, ◌-◌, ◌==◌, Bool, true, false, not, count_by, List, [], ◌∷◌, ◌++◌, length, min, slice_get, slice_index, Option, IfSome, Some, None, cond, ◌≢◌}
+use Rattle.std.specs.List.{list_any, flat_map}
 use Rattle.outside.specs.declared.datagram.Datagram.{Datagram}
 use Rattle.outside.specs.declared.datagram.Outcome.{Outcome}
 use Rattle.outside.specs.declared.datagram.Outcome.TheVariants as outcome
@@ -24,6 +24,14 @@ pub record WatchScriptData : Type 0 where
   pub looks : List FileSet
   pub fail_read : List ℕ
   pub fail_note : List ℕ
+
+-- the script of these datagrams, without a failing call
+abbrev pub gets_alone : List Datagram → SideScriptData
+gets_alone gets = record { gets = gets; nows = []; words = []; asks = []; fail_recv = []; fail_send = []; fail_ask = []; fail_note = [] }
+
+-- the script of these sets, without a failing call
+abbrev pub looks_alone : List FileSet → WatchScriptData
+looks_alone looks = record { looks = looks; fail_read = []; fail_note = [] }
 
 -- whether the call of this number is to fail
 abbrev pub is_to_fail : List ℕ → ℕ → Bool
@@ -58,40 +66,53 @@ abbrev pub ask_answer : SideScriptData → ℕ → Outcome
 ask_answer script call =
     cond (is_to_fail script.fail_ask call) outcome.Failed (outcome_or_silence (slice_get script.asks (used_up script.fail_ask call)))
 
--- how many of the marks are of calls of recv, send, note, now and word
+-- whether a mark is of a call of recv, send, note, now or word
+abbrev pub is_recv : Mark → Bool
+is_recv (Got datagram) = true
+is_recv RecvEnd = true
+is_recv RecvFailed = true
+is_recv mark = false
+
+abbrev pub is_send : Mark → Bool
+is_send (Sent reply flag) = true
+is_send mark = false
+
+abbrev pub is_note : Mark → Bool
+is_note (Noted line flag) = true
+is_note mark = false
+
+abbrev pub is_now : Mark → Bool
+is_now (Now moment) = true
+is_now mark = false
+
+abbrev pub is_word : Mark → Bool
+is_word (Inner (inner.Word word)) = true
+is_word mark = false
+
+-- how many of the marks are of such calls
 abbrev pub recvs_in : List Mark → ℕ
-recvs_in [] = 0
-recvs_in (Got datagram ∷ marks) = 1 + recvs_in marks
-recvs_in (RecvEnd ∷ marks) = 1 + recvs_in marks
-recvs_in (RecvFailed ∷ marks) = 1 + recvs_in marks
-recvs_in (mark ∷ marks) = recvs_in marks
+recvs_in marks = count_by is_recv marks
 
 abbrev pub sends_in : List Mark → ℕ
-sends_in [] = 0
-sends_in (Sent reply flag ∷ marks) = 1 + sends_in marks
-sends_in (mark ∷ marks) = sends_in marks
+sends_in marks = count_by is_send marks
 
 abbrev pub notes_in : List Mark → ℕ
-notes_in [] = 0
-notes_in (Noted line flag ∷ marks) = 1 + notes_in marks
-notes_in (mark ∷ marks) = notes_in marks
+notes_in marks = count_by is_note marks
 
 abbrev pub nows_in : List Mark → ℕ
-nows_in [] = 0
-nows_in (Now moment ∷ marks) = 1 + nows_in marks
-nows_in (mark ∷ marks) = nows_in marks
+nows_in marks = count_by is_now marks
 
 abbrev pub words_in : List Mark → ℕ
-words_in [] = 0
-words_in (Inner (inner.Word word) ∷ marks) = 1 + words_in marks
-words_in (mark ∷ marks) = words_in marks
+words_in marks = count_by is_word marks
 
 -- the outcomes of ask and more, in order
+abbrev pub outcome_of : Mark → List Outcome
+outcome_of (Inner (inner.Asked to by message result)) = result ∷ []
+outcome_of (Inner (inner.More result)) = result ∷ []
+outcome_of mark = []
+
 abbrev pub outcomes_in : List Mark → List Outcome
-outcomes_in [] = []
-outcomes_in (Inner (inner.Asked to by message result) ∷ marks) = result ∷ outcomes_in marks
-outcomes_in (Inner (inner.More result) ∷ marks) = result ∷ outcomes_in marks
-outcomes_in (mark ∷ marks) = outcomes_in marks
+outcomes_in marks = flat_map outcome_of marks
 
 -- the mark is the one that the script gives behind these marks; asks are said of below
 abbrev pub IsGiven : SideScriptData → List Mark → Mark → Type 0

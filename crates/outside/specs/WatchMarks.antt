@@ -1,6 +1,6 @@
 -- What a watch tells: which marks each of its calls adds, and that its answers are those of its script. This server's own
 -- rule.
-use Rattle.std.specs.Prelude.{◌≡◌, ◌≤◌, ◌<◌, ℕ, ◌+◌, nat_eq, not, List, [], ◌∷◌, ◌++◌, length, take, find, slice_get, Option, Some, None, OnSome, IfSome, cond}
+use Rattle.std.specs.Prelude.{◌≡◌, ◌≤◌, ◌<◌, ℕ, ◌+◌, nat_eq, Bool, true, false, not, count_by, List, [], ◌∷◌, ◌++◌, length, take, find, slice_get, Option, Some, None, OnSome, IfSome, cond}
 use Rattle.std.specs.Cmp.Lexicographic.{pointwise}
 use Rattle.dns_data.specs.declared.file.FileText.{FileText}
 use Rattle.outside.specs.declared.datagram.Wrote.{Wrote}
@@ -58,21 +58,28 @@ IsReadLimited readout.Missing = Unit {0}
 IsReadLimited readout.Failed = Unit {0}
 IsReadLimited readout.NoMemory = Unit {0}
 
--- how many of the marks are of looks that went on, of reads and of notes
+-- whether a mark is of a look that went on, a read or a note
+abbrev pub is_look : WatchMark → Bool
+is_look (Look interval jitter) = true
+is_look mark = false
+
+abbrev pub is_read : WatchMark → Bool
+is_read (Read name out) = true
+is_read mark = false
+
+abbrev pub is_watch_note : WatchMark → Bool
+is_watch_note (Noted line flag) = true
+is_watch_note mark = false
+
+-- how many of the marks are of such calls
 abbrev pub looks_in : List WatchMark → ℕ
-looks_in [] = 0
-looks_in (Look interval jitter ∷ marks) = 1 + looks_in marks
-looks_in (mark ∷ marks) = looks_in marks
+looks_in marks = count_by is_look marks
 
 abbrev pub reads_in : List WatchMark → ℕ
-reads_in [] = 0
-reads_in (Read name out ∷ marks) = 1 + reads_in marks
-reads_in (mark ∷ marks) = reads_in marks
+reads_in marks = count_by is_read marks
 
 abbrev pub watch_notes_in : List WatchMark → ℕ
-watch_notes_in [] = 0
-watch_notes_in (Noted line flag ∷ marks) = 1 + watch_notes_in marks
-watch_notes_in (mark ∷ marks) = watch_notes_in marks
+watch_notes_in marks = count_by is_watch_note marks
 
 -- what a file set has under a name: a file that isn't there is missing
 abbrev pub bytes_of : Option FileText → Option (List ℕ)

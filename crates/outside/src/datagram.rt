@@ -50,6 +50,17 @@ pub enum Outcome {
     NoMemory,
 }
 
+impl Copies for Outcome {
+    fn copy(&self, alloc: Global) -> Result<Outcome, NoMemory> {
+        Ok(match self {
+            Outcome::Got(bytes) => Outcome::Got(bytes.copy(alloc)?),
+            Outcome::Silence => Outcome::Silence,
+            Outcome::Failed => Outcome::Failed,
+            Outcome::NoMemory => Outcome::NoMemory,
+        })
+    }
+}
+
 /// Whether what was handed out went out.
 #[derive(Clone, Copy, Debug, PartialEq, Eq)]
 pub enum Wrote {

@@ -1,5 +1,6 @@
 use crate::{Outcome, Upstream};
-use dns_data::{Answer, Bytes, Name, Query, Seq, Transport};
+use dns_data::{Answer, Bytes, Copies, Name, NoMemory, Query, Seq, Transport};
+use std::alloc::Global;
 use std::marker::Model;
 
 /// What kind of answer an entry of a cache keeps.
@@ -19,6 +20,17 @@ pub struct Key {
     pub cd: bool,
 }
 
+impl Copies for Key {
+    fn copy(&self, alloc: Global) -> Result<Key, NoMemory> {
+        Ok(Key {
+            name: self.name.copy(alloc)?,
+            kind: self.kind,
+            dnssec: self.dnssec,
+            cd: self.cd,
+        })
+    }
+}
+
 /// What the plugins behind a cache took from the outside: a random word, an ask with its outcome, or a look for a
 /// further datagram of the last ask.
 #[derive(Debug, Drop)]
@@ -26,6 +38,18 @@ pub enum InnerMark {
     Word(u64),
     Asked(Upstream, Transport, Bytes, Outcome),
     More(Outcome),
+}
+
+impl Copies for InnerMark {
+    fn copy(&self, alloc: Global) -> Result<InnerMark, NoMemory> {
+        Ok(match self {
+            InnerMark::Word(word) => InnerMark::Word(*word),
+            InnerMark::Asked(to, by, message, outcome) => {
+                InnerMark::Asked(*to, *by, message.copy(alloc)?, outcome.copy(alloc)?)
+            }
+            InnerMark::More(outcome) => InnerMark::More(outcome.copy(alloc)?),
+        })
+    }
 }
 
 pub type InnerMarks = Seq<InnerMark>;
@@ -59,4 +83,17 @@ impl Model for Entry {
     } };
 
     ghost invariant = { λ e. e.life < 2 ^ 31 };
+}
+
+impl Copies for Entry {
+    fn copy(&self, alloc: Global) -> Result<Entry, NoMemory> {
+        Ok(Entry {
+            class: self.class,
+            born: self.born,
+            life: self.life,
+            answer: self.answer.copy(alloc)?,
+            origin: self.origin.copy(alloc)?,
+            inner: self.inner.copy(alloc)?,
+        })
+    }
 }

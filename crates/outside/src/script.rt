@@ -1,5 +1,9 @@
+ghost use Rattle.std.specs.Prelude.{◌≡◌, [], ◌∷◌, Some, IfOk};
+ghost use Rattle.outside.specs.Script.{gets_alone, looks_alone};
+
 use crate::{Datagram, Outcome};
-use dns_data::FileTexts;
+use dns_data::{Bytes, FileText, FileTexts, NoMemory, Seq, Text};
+use std::alloc::Global;
 use std::marker::Model;
 
 /// What a side in memory is to give. Lists of numbers name the calls that are to fail, counted from 0 in each list on its
@@ -37,10 +41,42 @@ impl Model for SideScript {
     } };
 }
 
+impl SideScript {
+    /// The script that gives these datagrams and nothing else. No call is to fail.
+    pub fn of_gets(alloc: Global, gets: Vec<Datagram>) -> SideScript
+        ensures { result ≡ gets_alone gets.items }
+    {
+        SideScript {
+            gets,
+            nows: Vec::new(alloc),
+            words: Vec::new(alloc),
+            asks: Vec::new(alloc),
+            fail_recv: Vec::new(alloc),
+            fail_send: Vec::new(alloc),
+            fail_ask: Vec::new(alloc),
+            fail_note: Vec::new(alloc),
+        }
+    }
+}
+
 /// The files as one look finds them. A file that isn't there is missing.
 #[derive(Debug, Drop)]
 pub struct FileSet {
     pub files: FileTexts,
+}
+
+impl FileSet {
+    /// The set of one file, which has these bytes.
+    pub fn of_file(alloc: Global, name: &str, bytes: &[u8]) -> Result<FileSet, NoMemory>
+        ensures { IfOk result (λ set. set.files ≡ record { name = name.now; bytes = Some bytes.now } ∷ []) }
+    {
+        let mut files = Seq::new(alloc);
+        files.push(FileText {
+            name: Text::from_str(alloc, name)?,
+            bytes: Some(Bytes::from_slice(alloc, bytes)?),
+        })?;
+        Ok(FileSet { files })
+    }
 }
 
 /// What a watch in memory is to find: the first set at the start, and at each look the next one; past the last set it
@@ -62,4 +98,17 @@ impl Model for WatchScript {
       fail_read = s.fail_read.items;
       fail_note = s.fail_note.items;
     } };
+}
+
+impl WatchScript {
+    /// The script that finds these sets. No call is to fail.
+    pub fn of_looks(alloc: Global, looks: Vec<FileSet>) -> WatchScript
+        ensures { result ≡ looks_alone looks.items }
+    {
+        WatchScript {
+            looks,
+            fail_read: Vec::new(alloc),
+            fail_note: Vec::new(alloc),
+        }
+    }
 }

@@ -45,6 +45,18 @@ fn a_datagram_is_copied_whole(rt: HostRuntime) -> Result<(), Fail> {
     Ok(())
 }
 
+#[test]
+fn a_set_of_one_file_holds_it(rt: HostRuntime) -> Result<(), Fail> {
+    let set = FileSet::of_file(rt.alloc(), "Corefile", b". {")?;
+    assert!(rt;
+        matches!(
+            set.files.as_slice(),
+            [file] if file.name.as_str() == "Corefile" && file.bytes.is_some()
+        )
+    );
+    Ok(())
+}
+
 fn make(alloc: Global, maker: &mut RegexMaker, text: &str) -> Result<Made, NoMemory> {
     let text = Text::from_str(alloc, text)?;
     Ok(maker.make(alloc, &text))

@@ -3,7 +3,8 @@ ghost use Rattle.outside.specs.Causes.{WatchNoneFell, ReadCause, WatchNoteCause}
 ghost use Rattle.outside.specs.WatchMarks.{WatchState, AddsWatch, look_marks, read_marks, watch_noted, published, IsReadLimited, QuietWatch, AnsweredWatch};
 
 use crate::{PatternMaker, Wrote};
-use dns_data::{Bytes, Text};
+use dns_data::{Bytes, Copies, NoMemory, Text};
+use std::alloc::Global;
 
 /// What a read of a file gave.
 #[derive(Debug, Drop)]
@@ -12,6 +13,17 @@ pub enum ReadOut {
     Missing,
     Failed,
     NoMemory,
+}
+
+impl Copies for ReadOut {
+    fn copy(&self, alloc: Global) -> Result<ReadOut, NoMemory> {
+        Ok(match self {
+            ReadOut::Got(bytes) => ReadOut::Got(bytes.copy(alloc)?),
+            ReadOut::Missing => ReadOut::Missing,
+            ReadOut::Failed => ReadOut::Failed,
+            ReadOut::NoMemory => ReadOut::NoMemory,
+        })
+    }
 }
 
 /// Whether there is a further look. End is for good.

@@ -1,0 +1,5 @@
+pub mod Counting
+pub mod Lists
+pub mod SideSteps
+pub mod SideCalls
+pub mod WatchSteps

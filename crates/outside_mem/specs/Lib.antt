@@ -1,0 +1,9 @@
+pub mod Calls
+pub mod Faults
+pub mod Feed
+pub mod SideTold
+pub mod Telling
+pub mod WatchFeed
+pub mod WatchTold
+pub mod Unused
+pub mod Supply

@@ -1,0 +1,114 @@
+ghost use Rattle.std.specs.Prelude.{◌≡◌, [], ◌∷◌, Some, IfSome, option_map};
+ghost use Rattle.std.specs.List.{All};
+ghost use Rattle.std.specs.Vec.Iter.{into_iter_items};
+ghost use Rattle.outside.specs.Causes.{no_side_faults, no_watch_faults};
+ghost use Rattle.outside_mem.specs.declared.watch.MemWatch.{MemWatch};
+ghost use Rattle.outside_mem.specs.Unused.{IsUnusedSide, IsUnusedWatch, side_counts, watch_counts};
+ghost use Rattle.outside_mem.specs.Supply.{supply_of};
+
+use crate::faults::count;
+use crate::side::MemSide;
+use crate::told::{OpenedSide, Told, ToldLine, tell_line, tell_opened};
+use crate::watch::MemWatch;
+use dns_data::Transport;
+use outside::{Host, OpenFault, Wrote};
+use std::alloc::Global;
+use std::vec::IntoIter;
+
+/// A host in memory. It gives its sides in the order of the calls, and its watch once; further calls fail. It tells its
+/// lines and opened sides, until memory runs out for them.
+#[derive(Drop)]
+pub struct MemHost {
+    alloc: Global,
+    sides: IntoIter<MemSide>,
+    watch: Option<MemWatch>,
+    told: Option<Told>,
+    open_faults: u64,
+    ghost side_untold: { All (λ s. s.journal ≡ Some []) (into_iter_items sides) },
+    ghost side_sound: { All (λ s. side_counts s ≡ no_side_faults) (into_iter_items sides) },
+    ghost watch_untold: { (w : MemWatch) → watch ≡ Some w → w.journal ≡ Some [] },
+    ghost watch_sound: { (w : MemWatch) → watch ≡ Some w → watch_counts w ≡ no_watch_faults },
+}
+
+impl MemHost {
+    /// The sides and the watch are as they were made: nothing is told of them, and none of their calls was made.
+    pub fn new(alloc: Global, sides: Vec<MemSide>, watch: MemWatch) -> MemHost
+        requires sides { All IsUnusedSide sides.items }
+        requires watch { IsUnusedWatch watch }
+        ensures told { result.told ≡ Some (record { lines = []; opens = [] }) }
+        ensures no_fault { result.open_faults ≡ 0 }
+        ensures supply { supply_of (into_iter_items result.sides) result.watch ≡ supply_of sides.items (Some watch) }
+    {
+        MemHost {
+            alloc,
+            sides: sides.into_iter(),
+            watch: Some(watch),
+            told: Some(Told::new(alloc)),
+            open_faults: 0,
+        }
+    }
+
+    /// The lines told so far, or None where they are no longer told.
+    pub fn lines(&self) -> Option<&[ToldLine]>
+        ensures { option_map (λ lines. lines.now) result ≡ option_map (λ t. t.lines) self.now.told }
+    {
+        match &self.told {
+            Some(told) => Some(told.lines()),
+            None => None,
+        }
+    }
+
+    /// The sides opened so far, or None where they are no longer told.
+    pub fn opens(&self) -> Option<&[OpenedSide]>
+        ensures { option_map (λ opens. opens.now) result ≡ option_map (λ t. t.opens) self.now.told }
+    {
+        match &self.told {
+            Some(told) => Some(told.opens()),
+            None => None,
+        }
+    }
+}
+
+impl Host for MemHost {
+    type Side = MemSide;
+
+    type Watch = MemWatch;
+
+    ghost use Rattle.std.specs.Prelude.{Some};
+    ghost use Rattle.std.specs.Vec.Iter.{into_iter_items};
+    ghost use Rattle.outside_mem.specs.Supply.{supply_of};
+
+    ghost told = { λ h. h.told };
+
+    ghost counts = { λ h. record { opens = h.open_faults; tells = 0 } };
+
+    ghost supply = { λ h. Some (supply_of (into_iter_items h.sides) h.watch) };
+
+    fn open_watch(&mut self) -> Result<MemWatch, OpenFault> {
+        match self.watch.take() {
+            Some(watch) => Ok(watch),
+            None => {
+                count(&mut self.open_faults);
+                Err(OpenFault::Failed)
+            }
+        }
+    }
+
+    fn open_side(&mut self, port: u16, by: Transport, number: u32) -> Result<MemSide, OpenFault> {
+        match self.sides.next() {
+            Some(side) => {
+                tell_opened(&mut self.told, OpenedSide { port, by, number });
+                Ok(side)
+            }
+            None => {
+                count(&mut self.open_faults);
+                Err(OpenFault::Failed)
+            }
+        }
+    }
+
+    fn tell(&mut self, line: &[u8]) -> Wrote {
+        tell_line(&mut self.told, self.alloc, line);
+        Wrote::Ok
+    }
+}

@@ -1,23 +1,19 @@
--- Reading a name label by label.
-use Rattle.std.proofs.Common.{◌≡◌, ◌≤◌, ◌<◌, ℕ, ◌+◌, ◌-◌, List, [], ◌∷◌, ◌++◌, length, take, drop, get_or, slice_index, slice_range, refl, sym, ap, subst, ◌∙◌, append_assoc, arith, inl, inr, ◌⊎◌}
+-- Reading a name run by run, through pointers.
+use Rattle.std.proofs.Common.{◌≡◌, ◌≤◌, ◌<◌, ℕ, ◌+◌, ◌-◌, List, [], ◌∷◌, ◌++◌, length, take, drop, get_or, slice_index, slice_range, Option, Some, None, unwrap_or, refl, sym, ap, subst, ◌∙◌, append_assoc, arith, inl, inr, ◌⊎◌}
 use Rattle.std.proofs.lemmas.List.{append-nil, drop-drop}
 use Rattle.std.proofs.lemmas.List.Edits.{between_more, between_none, length-between}
 use Rattle.std.proofs.Math.Seq.{take-add}
-use Rattle.dns_data.specs.Name.{IsName, IsWire, wire_length, spelled, labels_of}
-use Rattle.dns_wire.specs.Wire.{ByteAt, LabelAt, NameAt, root, label}
+use Rattle.std.specs.List.{AllByRecursion}
+use Rattle.dns_data.specs.Name.{IsLabel, IsName, IsWire, wire_length, spelled, labels_of}
 use Rattle.dns_data.specs.NameLaws.{spells_name, pushed, length-spelled}
+use Rattle.dns_wire.specs.Wire.{ByteAt, LabelAt, PointerAt, NameAt, WholeNameAt, root, label, pointer}
+use Rattle.dns_wire.specs.Runs.{ReadSoFar, RunAt}
 
--- what was read from start up to at is these labels: whatever stands from at on completes them, and nothing else stands there
-pub record ReadSoFar (bytes : List ℕ) (start at : ℕ) (front : List (List ℕ)) : Type 0 where
-  pub inside : at ≤ length bytes
-  pub sound : (others : List (List ℕ)) (behind : ℕ) → NameAt bytes at others behind → NameAt bytes start (front ++ others) behind
-  pub complete : (whole : List (List ℕ)) (behind : ℕ) → NameAt bytes start whole behind → (others : List (List ℕ)) × (whole ≡ front ++ others) × NameAt bytes at others behind
-
-pub begins : (bytes : List ℕ) (start : ℕ) → start ≤ length bytes → ReadSoFar bytes start start []
-begins bytes start inside = record {
+pub begins : (bytes : List ℕ) (origin : ℕ) → origin ≤ length bytes → ReadSoFar bytes origin origin origin [] None
+begins bytes origin inside = record {
   inside = inside;
   sound = λ others behind h. h;
-  complete = λ whole behind h. (whole, refl, h);
+  complete = λ whole behind h. (whole, behind, refl, h);
 }
 
 -- two labels at one place are one
@@ -27,43 +23,73 @@ same_label bytes at a b p q =
     sym p.text ∙ ap (λ (n : ℕ). slice_range bytes (at + 1) (at + 1 + n)) sizes ∙ q.text
 
 -- behind a label, the rest
-rest_of : (bytes : List ℕ) (at behind : ℕ) (first : List ℕ) (whole : List (List ℕ)) → LabelAt bytes at first → NameAt bytes at whole behind
-    → (others : List (List ℕ)) × (whole ≡ first ∷ others) × NameAt bytes (at + 1 + length first) others behind
-rest_of bytes at behind first [] here (root zero is) =
-    absurd (omega (arith, here.sized.0, here.size.is, zero.is))
-rest_of bytes at behind first (other ∷ others) here (label there more) =
+behind_label : (bytes : List ℕ) (start at behind : ℕ) (first : List ℕ) (whole : List (List ℕ)) → LabelAt bytes at first → NameAt bytes start at whole behind
+    → (others : List (List ℕ)) × (whole ≡ first ∷ others) × NameAt bytes start (at + 1 + length first) others behind
+behind_label bytes start at behind first [] here (root zero is) = absurd (omega (arith, here.sized.0, here.size.is, zero.is))
+behind_label bytes start at behind first whole here (pointer p low less more is) = absurd (omega (arith, here.sized.1, here.size.is, p.mark))
+behind_label bytes start at behind first (other ∷ others) here (label there more) =
     let same = same_label bytes at first other here there in
-    (others, ap (λ (l : List ℕ). l ∷ others) (sym same), subst (λ (l : List ℕ). NameAt bytes (at + 1 + length l) others behind) (sym same) more)
+    (others, ap (λ (l : List ℕ). l ∷ others) (sym same), subst (λ (l : List ℕ). NameAt bytes start (at + 1 + length l) others behind) (sym same) more)
 
-pub goes_on : (bytes : List ℕ) (start at : ℕ) (front : List (List ℕ)) (first : List ℕ) → ReadSoFar bytes start at front → LabelAt bytes at first
-    → ReadSoFar bytes start (at + 1 + length first) (front ++ first ∷ [])
-goes_on bytes start at front first so_far here = record {
+-- behind a pointer, what stands at its target
+behind_pointer : (bytes : List ℕ) (start at behind target : ℕ) (whole : List (List ℕ)) → PointerAt bytes at target → NameAt bytes start at whole behind
+    → (12 ≤ target) × (target < start) × (other : ℕ) × NameAt bytes target target whole other
+behind_pointer bytes start at behind target [] here (root zero is) = absurd (omega (arith, here.mark, zero.is))
+behind_pointer bytes start at behind target (other ∷ others) here (label there more) = absurd (omega (arith, there.sized.1, there.size.is, here.mark))
+behind_pointer bytes start at behind target whole here (pointer {target = t} {other = o} p low less more is) =
+    let same : t ≡ target = p.is ∙ sym here.is in
+    (omega arith, omega arith, o, subst (λ (n : ℕ). NameAt bytes n n whole o) same more)
+
+pub goes_on : {bytes : List ℕ} {origin start at : ℕ} {front : List (List ℕ)} {passed : Option ℕ} {first : List ℕ} → ReadSoFar bytes origin start at front passed → LabelAt bytes at first
+    → ReadSoFar bytes origin start (at + 1 + length first) (front ++ first ∷ []) passed
+goes_on {bytes} {origin} {start} {at} {front} {passed} {first} so_far here = record {
   inside = here.inside;
   sound = λ others behind h.
-      subst (λ (l : List (List ℕ)). NameAt bytes start l behind) (sym (append_assoc front (first ∷ []) others)) (so_far.sound (first ∷ others) behind (label here h));
+      subst (λ (l : List (List ℕ)). NameAt bytes origin origin l (unwrap_or passed behind)) (sym (append_assoc front (first ∷ []) others)) (so_far.sound (first ∷ others) behind (label here h));
   complete = λ whole behind h.
       let a = so_far.complete whole behind h in
-      let b = rest_of bytes at behind first a.0 here a.2 in
-      (b.0, a.1 ∙ ap (λ (l : List (List ℕ)). front ++ l) b.1 ∙ sym (append_assoc front (first ∷ []) b.0), b.2);
+      let b = behind_label bytes start at a.1 first a.0 here a.3 in
+      (b.0, a.1, a.2 ∙ ap (λ (l : List (List ℕ)). front ++ l) b.1 ∙ sym (append_assoc front (first ∷ []) b.0), b.2);
+}
+
+pub jumps : {bytes : List ℕ} {origin start at target : ℕ} {front : List (List ℕ)} {passed : Option ℕ} → ReadSoFar bytes origin start at front passed → PointerAt bytes at target → 12 ≤ target → target < start
+    → start ≤ length bytes → ReadSoFar bytes origin target target front (Some (unwrap_or passed (at + 2)))
+jumps {bytes} {origin} {start} {at} {target} {front} {passed} so_far here low less size = record {
+  inside = omega arith;
+  sound = λ others behind h. so_far.sound others (at + 2) (pointer here low less h refl);
+  complete = λ whole behind h.
+      let a = so_far.complete whole behind h in
+      let b = behind_pointer bytes start at a.1 target a.0 here a.3 in
+      (a.0, b.2, a.2, b.3);
 }
 
 -- a zero byte ends the name
-pub ends : (bytes : List ℕ) (start at : ℕ) (front : List (List ℕ)) → ReadSoFar bytes start at front → at < length bytes → slice_index bytes at ≡ 0 → NameAt bytes start front (at + 1)
-ends bytes start at front so_far inside zero =
-    subst (λ (l : List (List ℕ)). NameAt bytes start l (at + 1)) (append-nil front) (so_far.sound [] (at + 1) (root (record { inside = inside; is = zero }) refl))
+pub ends : {bytes : List ℕ} {origin start at : ℕ} {front : List (List ℕ)} {passed : Option ℕ} → ReadSoFar bytes origin start at front passed → at < length bytes → slice_index bytes at ≡ 0
+    → NameAt bytes origin origin front (unwrap_or passed (at + 1))
+ends {bytes} {origin} {start} {at} {front} {passed} so_far inside zero =
+    subst (λ (l : List (List ℕ)). NameAt bytes origin origin l (unwrap_or passed (at + 1))) (append-nil front) (so_far.sound [] (at + 1) (root (record { inside = inside; is = zero }) refl))
 
--- what stands at a place: a zero byte, or a label and a name behind it
-pub cases_at : (bytes : List ℕ) (at behind : ℕ) (name : List (List ℕ)) → NameAt bytes at name behind
-    → ByteAt bytes at 0 ⊎ ((first : List ℕ) × (others : List (List ℕ)) × (name ≡ first ∷ others) × LabelAt bytes at first)
-cases_at bytes at behind [] (root zero is) = inl zero
-cases_at bytes at behind (first ∷ others) (label here more) = inr (first, others, refl, here)
+-- nothing stands here
+nothing_at : (bytes : List ℕ) (start at behind : ℕ) (name : List (List ℕ)) → NameAt bytes start at name behind
+    → (ByteAt bytes at 0 → ⊥) → ((l : List ℕ) → LabelAt bytes at l → ⊥) → ((t : ℕ) → PointerAt bytes at t → 12 ≤ t → t < start → ⊥) → ⊥
+nothing_at bytes start at behind [] (root zero is) a b c = a zero
+nothing_at bytes start at behind (first ∷ others) (label here more) a b c = b first here
+nothing_at bytes start at behind name (pointer {target = t} p low less more is) a b c = c t p low less
 
--- where nothing can follow, no name is spelled
-pub no_name : (bytes : List ℕ) (start at : ℕ) (front : List (List ℕ)) → ReadSoFar bytes start at front
-    → (ByteAt bytes at 0 → ⊥) → ((l : List ℕ) → LabelAt bytes at l → ⊥) → (whole : List (List ℕ)) (behind : ℕ) → NameAt bytes start whole behind → ⊥
-no_name bytes start at front so_far not_zero not_label whole behind h =
-    let a = so_far.complete whole behind h in
-    elim (cases_at bytes at behind a.0 a.2) [ inl zero ↦ not_zero zero | inr more ↦ not_label more.0 more.3 ]
+pub no_name : {bytes : List ℕ} {origin start at : ℕ} {front : List (List ℕ)} {passed : Option ℕ} → ReadSoFar bytes origin start at front passed
+    → (ByteAt bytes at 0 → ⊥) → ((l : List ℕ) → LabelAt bytes at l → ⊥) → ((t : ℕ) → PointerAt bytes at t → 12 ≤ t → t < start → ⊥)
+    → (whole : List (List ℕ)) (behind : ℕ) → NameAt bytes origin origin whole behind → ⊥
+no_name {bytes} {origin} {start} {at} {front} {passed} so_far a b c whole behind h =
+    let r = so_far.complete whole behind h in
+    nothing_at bytes start at r.1 r.0 r.3 a b c
+
+-- a pointer to a place that is too low or too high
+pub bad_target : {bytes : List ℕ} {origin start at target : ℕ} {front : List (List ℕ)} {passed : Option ℕ} → ReadSoFar bytes origin start at front passed → PointerAt bytes at target
+    → (12 ≤ target → target < start → ⊥) → (whole : List (List ℕ)) (behind : ℕ) → NameAt bytes origin origin whole behind → ⊥
+bad_target {bytes} {origin} {start} {at} {target} {front} {passed} so_far here bad whole behind h =
+    let r = so_far.complete whole behind h in
+    let b = behind_pointer bytes start at r.1 target r.0 here r.3 in
+    bad b.0 b.1
 
 wire_length-append : (front others : List (List ℕ)) → wire_length (front ++ others) + 1 ≡ wire_length front + wire_length others
 wire_length-append [] others = omega arith
@@ -73,21 +99,32 @@ wire_length_pos : (others : List (List ℕ)) → 1 ≤ wire_length others
 wire_length_pos [] = omega arith
 wire_length_pos (l ∷ others) = omega (arith, wire_length_pos others)
 
--- a label that has no room
-pub too_long : (bytes : List ℕ) (start at : ℕ) (front : List (List ℕ)) (first : List ℕ) → ReadSoFar bytes start at front → LabelAt bytes at first
-    → 255 < wire_length front + length first + 1 → (whole : List (List ℕ)) (behind : ℕ) → IsName whole → NameAt bytes start whole behind → ⊥
-too_long bytes start at front first so_far here long whole behind proper h =
+-- what was read is too long for a name
+pub too_far : {bytes : List ℕ} {origin start at : ℕ} {front : List (List ℕ)} {passed : Option ℕ} → ReadSoFar bytes origin start at front passed
+    → 255 < wire_length front → (whole : List (List ℕ)) (behind : ℕ) → IsName whole → NameAt bytes origin origin whole behind → ⊥
+too_far {front} so_far long whole behind proper h =
     let a = so_far.complete whole behind h in
-    let b = rest_of bytes at behind first a.0 here a.2 in
-    let e : whole ≡ front ++ first ∷ b.0 = a.1 ∙ ap (λ (l : List (List ℕ)). front ++ l) b.1 in
-    let size = ap wire_length e in
-    omega (arith, proper.short, size, wire_length-append front (first ∷ b.0), wire_length_pos b.0)
+    let size = ap wire_length a.2 in
+    omega (arith, proper.short, size, wire_length-append front a.0, wire_length_pos a.0)
 
--- the names read so far, and the bytes that spell them
+-- a run behind what was read
+pub then : {bytes : List ℕ} {origin start at : ℕ} {front run : List (List ℕ)} {passed : Option ℕ} → ReadSoFar bytes origin start start front passed → ReadSoFar bytes start start at run None
+    → ReadSoFar bytes origin start at (front ++ run) passed
+then {bytes} {origin} {start} {at} {front} {run} {passed} before here = record {
+  inside = here.inside;
+  sound = λ others behind h.
+      subst (λ (l : List (List ℕ)). NameAt bytes origin origin l (unwrap_or passed behind)) (sym (append_assoc front run others)) (before.sound (run ++ others) behind (here.sound others behind h));
+  complete = λ whole behind h.
+      let a = before.complete whole behind h in
+      let b = here.complete a.0 a.1 a.3 in
+      (b.0, b.1, a.2 ∙ ap (λ (l : List (List ℕ)). front ++ l) b.2 ∙ sym (append_assoc front run b.0), b.3);
+}
+
+-- the labels of a run, and the bytes that spell them
 pub record ReadTo (bytes : List ℕ) (start at : ℕ) : Type 0 where
   pub order : start ≤ at
   pub wire : IsWire (slice_range bytes start at)
-  pub so_far : ReadSoFar bytes start at (labels_of (slice_range bytes start at))
+  pub so_far : ReadSoFar bytes start start at (labels_of (slice_range bytes start at)) None
 
 pub read_starts : (bytes : List ℕ) (start : ℕ) → start ≤ length bytes → ReadTo bytes start start
 read_starts bytes start inside =
@@ -118,7 +155,7 @@ reads_on bytes start at l r here room =
     let is : slice_range bytes start (at + 1 + length l) ≡ (wire ++ length l ∷ []) ++ l =
     ranges bytes start at (at + 1 + length l) r.order (omega arith) ∙ ap (λ (t : List ℕ). wire ++ t) (label_bytes bytes at l here) ∙ sym (append_assoc wire (length l ∷ []) l) in
     let s = pushed wire (slice_range bytes start (at + 1 + length l)) l (labels_of wire) r.wire refl here.sized size is in
-    record { order = omega (arith, r.order); wire = s.right; so_far = rw s.view (goes_on bytes start at (labels_of wire) l r.so_far here) }
+    record { order = omega (arith, r.order); wire = s.right; so_far = rw s.view (goes_on r.so_far here) }
 
 -- the label at a place, by its size
 pub record Sized (bytes : List ℕ) (at n : ℕ) : Type 0 where
@@ -148,35 +185,94 @@ reads_label bytes start at n r is more few inside room =
 
 -- a label has no room
 pub no_room : (bytes : List ℕ) (start at n : ℕ) → ReadTo bytes start at → n ≡ get_or bytes at 0 → 1 ≤ n → n ≤ 63 → at + 1 + n ≤ length bytes → 254 < at - start + 1 + n
-    → (whole : List (List ℕ)) (behind : ℕ) → IsName whole → NameAt bytes start whole behind → ⊥
+    → (whole : List (List ℕ)) (behind : ℕ) → IsName whole → NameAt bytes start start whole behind → ⊥
 no_room bytes start at n r is more few inside long whole behind proper h =
     let s = sized bytes at n is more few inside in
     let wire = slice_range bytes start at in
     let size : length wire ≡ at - start = length-between bytes start at (omega arith) in
-    too_long bytes start at (labels_of wire) s.text r.so_far s.here (omega (arith, size, s.size, length-spelled (labels_of wire), ap length r.wire.spells)) whole behind proper h
+    let far : 255 < wire_length (labels_of wire ++ s.text ∷ []) =
+    omega (arith, size, s.size, length-spelled (labels_of wire), ap length r.wire.spells, wire_length-append (labels_of wire) (s.text ∷ [])) in
+    too_far (goes_on r.so_far s.here) far whole behind proper h
 
--- no label stands here
-pub no_label : (bytes : List ℕ) (start at : ℕ) → ReadTo bytes start at → (get_or bytes at 0 ≡ 0 → ⊥) → (63 < get_or bytes at 0) ⊎ (length bytes < at + 1 + get_or bytes at 0)
-    → (whole : List (List ℕ)) (behind : ℕ) → NameAt bytes start whole behind → ⊥
-no_label bytes start at r not_zero bad whole behind h =
-    no_name bytes start at (labels_of (slice_range bytes start at)) r.so_far (λ z. not_zero z.is)
-    (λ l here. elim bad [ inl big ↦ absurd (omega (arith, here.size.is, here.sized.1)) | inr out ↦ absurd (omega (arith, here.size.is, here.inside)) ]) whole behind h
+-- neither a label nor the end of a run stands here
+pub no_label : (bytes : List ℕ) (start at : ℕ) → ReadTo bytes start at → (get_or bytes at 0 ≡ 0 → ⊥) → get_or bytes at 0 < 192 → (63 < get_or bytes at 0) ⊎ (length bytes < at + 1 + get_or bytes at 0)
+    → (whole : List (List ℕ)) (behind : ℕ) → NameAt bytes start start whole behind → ⊥
+no_label bytes start at r not_zero low bad whole behind h =
+    no_name r.so_far (λ z. not_zero z.is)
+    (λ l here. elim bad [ inl big ↦ absurd (omega (arith, here.size.is, here.sized.1)) | inr out ↦ absurd (omega (arith, here.size.is, here.inside)) ])
+    (λ t p less more. absurd (omega (arith, p.mark))) whole behind h
 
 -- nothing stands here
-pub past_end : (bytes : List ℕ) (start at : ℕ) → ReadTo bytes start at → length bytes ≤ at → (whole : List (List ℕ)) (behind : ℕ) → NameAt bytes start whole behind → ⊥
+pub past_end : (bytes : List ℕ) (start at : ℕ) → ReadTo bytes start at → length bytes ≤ at → (whole : List (List ℕ)) (behind : ℕ) → NameAt bytes start start whole behind → ⊥
 past_end bytes start at r past whole behind h =
-    no_name bytes start at (labels_of (slice_range bytes start at)) r.so_far (λ z. absurd (omega (arith, z.inside))) (λ l here. absurd (omega (arith, here.size.inside))) whole behind h
+    no_name r.so_far (λ z. absurd (omega (arith, z.inside))) (λ l here. absurd (omega (arith, here.size.inside))) (λ t p less more. absurd (omega (arith, p.inside))) whole behind h
 
--- a zero byte ends the name
-pub reads_end : (bytes : List ℕ) (start at : ℕ) → ReadTo bytes start at → at < length bytes → get_or bytes at 0 ≡ 0 → NameAt bytes start (labels_of (slice_range bytes start at)) (at + 1)
-reads_end bytes start at r inside zero = ends bytes start at (labels_of (slice_range bytes start at)) r.so_far inside zero
+-- a run ends here
+pub run_to : (bytes : List ℕ) (start at : ℕ) → ReadTo bytes start at → at < length bytes → (get_or bytes at 0 ≡ 0) ⊎ (192 ≤ get_or bytes at 0) → RunAt bytes start at
+run_to bytes start at r inside ends = record {
+  order = r.order;
+  inside = inside;
+  wire = r.wire;
+  so_far = r.so_far;
+  stops = λ l here.
+      elim ends [ inl zero ↦ absurd (omega (arith, here.size.is, here.sized.0)) | inr big ↦ absurd (omega (arith, here.size.is, here.sized.1)) ];
+}
+
+-- how long a run is
+pub run_size : (bytes : List ℕ) (start end : ℕ) → RunAt bytes start end → (front : List (List ℕ)) → wire_length (front ++ labels_of (slice_range bytes start end)) ≡ wire_length front + (end - start)
+run_size bytes start end r front =
+    let wire = slice_range bytes start end in
+    let size : length wire ≡ end - start = length-between bytes start end (omega (arith, r.inside)) in
+    omega (arith, size, length-spelled (labels_of wire), ap length r.wire.spells, wire_length-append front (labels_of wire))
 
 -- one name is spelled from a place on, and one place is behind it
-pub one_name : (bytes : List ℕ) (at x y : ℕ) (a b : List (List ℕ)) → NameAt bytes at a x → NameAt bytes at b y → (a ≡ b) × (x ≡ y)
-one_name bytes at x y [] [] (root p e) (root q f) = (refl, omega arith)
-one_name bytes at x y [] (l ∷ b) (root p e) (label q more) = absurd (omega (arith, p.is, q.size.is, q.sized.0))
-one_name bytes at x y (l ∷ a) [] (label q more) (root p e) = absurd (omega (arith, p.is, q.size.is, q.sized.0))
-one_name bytes at x y (l ∷ a) (k ∷ b) (label p m) (label q n) =
+pub one_name : (bytes : List ℕ) (start at x y : ℕ) (a b : List (List ℕ)) → NameAt bytes start at a x → NameAt bytes start at b y → (a ≡ b) × (x ≡ y)
+one_name bytes start at x y [] [] (root p e) (root q f) = (refl, omega arith)
+one_name bytes start at x y [] (l ∷ b) (root p e) (label q more) = absurd (omega (arith, p.is, q.size.is, q.sized.0))
+one_name bytes start at x y (l ∷ a) [] (label q more) (root p e) = absurd (omega (arith, p.is, q.size.is, q.sized.0))
+one_name bytes start at x y [] b (root p e) (pointer q low less more f) = absurd (omega (arith, p.is, q.mark))
+one_name bytes start at x y a [] (pointer q low less more f) (root p e) = absurd (omega (arith, p.is, q.mark))
+one_name bytes start at x y (l ∷ a) b (label p m) (pointer q low less more f) = absurd (omega (arith, p.sized.1, p.size.is, q.mark))
+one_name bytes start at x y a (l ∷ b) (pointer q low less more f) (label p m) = absurd (omega (arith, p.sized.1, p.size.is, q.mark))
+one_name bytes start at x y (l ∷ a) (k ∷ b) (label p m) (label q n) =
     let same = same_label bytes at l k p q in
-    let both = one_name bytes (at + 1 + length l) x y a b m (subst (λ (z : List ℕ). NameAt bytes (at + 1 + length z) b y) (sym same) n) in
+    let both = one_name bytes start (at + 1 + length l) x y a b m (subst (λ (z : List ℕ). NameAt bytes start (at + 1 + length z) b y) (sym same) n) in
     ((λ i. same i ∷ both.0 i), both.1)
+one_name bytes start at x y a b (pointer {target = t} {other = o} p low less more e) (pointer {target = u} {other = v} q low2 less2 more2 f) =
+    let same : t ≡ u = p.is ∙ sym q.is in
+    let both = one_name bytes t t o v a b more (subst (λ (n : ℕ). NameAt bytes n n b v) (sym same) more2) in
+    (both.0, omega arith)
+
+-- two whole names at one place end at one place
+pub same_end : (bytes : List ℕ) (at x y : ℕ) (a b : List (List ℕ)) → WholeNameAt bytes at a x → WholeNameAt bytes at b y → x ≡ y
+same_end bytes at x y a b p q = (one_name bytes at at x y a b p.spelt q.spelt).1
+
+-- the last labels of a name are a name
+rest_each : (front others : List (List ℕ)) → AllByRecursion IsLabel (front ++ others) → AllByRecursion IsLabel others
+rest_each [] others each = each
+rest_each (l ∷ front) others each = rest_each front others each.1
+
+rest_name : (front others : List (List ℕ)) → IsName (front ++ others) → IsName others
+rest_name front others name = record {
+  each = rest_each front others name.each;
+  short = omega (arith, name.short, wire_length-append front others, wire_length_pos front);
+}
+
+-- where no run of a name follows, there is no name
+pub no_run : {bytes : List ℕ} {origin start at : ℕ} {front : List (List ℕ)} {passed : Option ℕ} → ReadSoFar bytes origin start at front passed
+    → ((name : List (List ℕ)) (behind : ℕ) → IsName name → NameAt bytes start at name behind → ⊥) → (whole : List (List ℕ)) (behind : ℕ) → IsName whole → NameAt bytes origin origin whole behind → ⊥
+no_run {front} so_far none whole behind proper h =
+    let a = so_far.complete whole behind h in
+    none a.0 a.1 (rest_name front a.0 (subst IsName a.2 proper)) a.3
+
+-- behind a name the bytes may end
+pub name_inside : {bytes : List ℕ} {start at behind : ℕ} {name : List (List ℕ)} → NameAt bytes start at name behind → behind ≤ length bytes
+name_inside (root p e) = omega (arith, p.inside)
+name_inside (label p more) = name_inside more
+name_inside (pointer p low less more e) = omega (arith, p.inside)
+
+-- a name has at least one byte
+pub name_forward : {bytes : List ℕ} {start at behind : ℕ} {name : List (List ℕ)} → NameAt bytes start at name behind → at < behind
+name_forward (root p e) = omega arith
+name_forward (label p more) = omega (arith, name_forward more)
+name_forward (pointer p low less more e) = omega arith

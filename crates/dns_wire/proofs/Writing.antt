@@ -17,15 +17,15 @@ same_suffix r a b v w is =
     (slice_eq-Decides (λ a b. slice_eq-Decides Decides-eqb a b _ refl) (labels_of a) (labels_of b) _ refl)
 
 -- the equations of `put_name`
-at_place : (d : Draft) (label : List ℕ) (labels : List (List ℕ)) (at : ℕ) → earliest d.places (label ∷ labels) ≡ Some at → put_name d (label ∷ labels) ≡ put_pointer d at
+pub at_place : (d : Draft) (label : List ℕ) (labels : List (List ℕ)) (at : ℕ) → earliest d.places (label ∷ labels) ≡ Some at → put_name d (label ∷ labels) ≡ put_pointer d at
 unfolding put_name
 at_place d label labels at found = ap (λ (o : Option ℕ). pointer_or d o (put_name (put_label (keep d (label ∷ labels)) label) labels)) found
 
-no_place : (d : Draft) (label : List ℕ) (labels : List (List ℕ)) → earliest d.places (label ∷ labels) ≡ None → put_name d (label ∷ labels) ≡ put_name (put_label (keep d (label ∷ labels)) label) labels
+pub no_place : (d : Draft) (label : List ℕ) (labels : List (List ℕ)) → earliest d.places (label ∷ labels) ≡ None → put_name d (label ∷ labels) ≡ put_name (put_label (keep d (label ∷ labels)) label) labels
 unfolding put_name
 no_place d label labels none = ap (λ (o : Option ℕ). pointer_or d o (put_name (put_label (keep d (label ∷ labels)) label) labels)) none
 
-at_root : (d : Draft) → put_name d [] ≡ put d (0 ∷ [])
+pub at_root : (d : Draft) → put_name d [] ≡ put d (0 ∷ [])
 unfolding put_name
 at_root d = refl
 

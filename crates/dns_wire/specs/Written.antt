@@ -1,22 +1,31 @@
--- The one way in which a message is written (RFC 1035, sections 4.1 and 4.1.4; SRV by RFC 2782, AAAA by RFC 3596).
-use Rattle.std.specs.Prelude.{ℕ, Bool, true, false, ◌<◌, ◌^◌, ◌+◌, ◌*◌, ◌/◌, ◌%◌, List, [], ◌∷◌, ◌++◌, length, Option, Some, None, option_map, find, nat_lt, if◌then◌else◌}
+-- The one way in which a message is written and cut (RFC 1035, sections 4.1 and 4.1.4; OPT by RFC 6891, section 6.1).
+use Rattle.std.specs.Prelude.{◌≡◌, ◌≤◌, ◌<◌, ℕ, zero, suc, Bool, true, false, ◌||◌, ◌+◌, ◌-◌, ◌*◌, ◌/◌, ◌%◌, List, [], ◌∷◌, ◌++◌, length, take, drop, Option, Some, None, option_map, find, nat_lt, nat_le, if◌then◌else◌}
 use Rattle.std.specs.Int.{w16, w32, w128, to_be_bytes}
-use Rattle.dns_data.specs.Name.{same_labels, spelled, wire_length}
-use Rattle.dns_data.specs.Record.{RecordData}
+use Rattle.dns_data.specs.Name.{same_labels, spelled}
+use Rattle.dns_data.specs.Record.{RecordData, kind_of}
 use Rattle.dns_data.specs.Message.{MessageData}
 use Rattle.dns_data.specs.declared.message.Question.{Question}
+use Rattle.dns_data.specs.declared.message.Opt.{Opt}
 use Rattle.dns_data.specs.declared.record.Rdata.{Rdata}
 use Rattle.dns_data.specs.declared.record.Rdata.TheVariants as rdata
+use Rattle.dns_data.specs.declared.record.Soa.{Soa}
 
--- a suffix of a name that was written out, and where it begins
+-- a suffix of a name that was written out, and where it begins in the message
 pub record PlaceData : Type 0 where
   pub suffix : List (List ℕ)
   pub at : ℕ
 
--- the bytes so far, and the suffixes that were written out in them, the earliest first
+-- what stands behind the header so far, and the suffixes that were written out in it, the earliest first
 pub record Draft : Type 0 where
   pub bytes : List ℕ
   pub places : List PlaceData
+
+abbrev pub empty : Draft
+empty = record { bytes = []; places = [] }
+
+-- how long the message is so far: the header takes 12 bytes
+abbrev pub size : Draft → ℕ
+size d = 12 + length d.bytes
 
 -- with these bytes behind
 abbrev pub put : Draft → List ℕ → Draft
@@ -26,7 +35,7 @@ put d bytes = record { bytes = d.bytes ++ bytes; places = d.places }
 abbrev pub put_number : Draft → ℕ → Draft
 put_number d number = put d (to_be_bytes w16 number)
 
--- the earliest place at which a suffix was written out, letter for letter
+-- the earliest place at which a suffix was written out, byte for byte
 unfoldable pub earliest : List PlaceData → List (List ℕ) → Option ℕ
 earliest places suffix = option_map (λ place. place.at) (find (λ place. same_labels place.suffix suffix) places)
 
@@ -34,7 +43,7 @@ earliest places suffix = option_map (λ place. place.at) (find (λ place. same_l
 abbrev pub keep : Draft → List (List ℕ) → Draft
 keep d suffix = record {
   bytes = d.bytes;
-  places = if nat_lt (length d.bytes) 16384 then d.places ++ record { suffix = suffix; at = length d.bytes } ∷ [] else d.places;
+  places = if nat_lt (size d) 16384 then d.places ++ record { suffix = suffix; at = size d } ∷ [] else d.places;
 }
 
 -- with a label behind
@@ -64,23 +73,51 @@ put_whole d name = put (put d (spelled name)) (0 ∷ [])
 unfoldable pub put_question : Draft → Question → Draft
 put_question d q = put_number (put_number (put_name d q.name) q.kind) q.class
 
--- the number of a type
-abbrev pub kind_of : Rdata → ℕ
-kind_of (rdata.A addr) = 1
-kind_of (rdata.Aaaa addr) = 28
-kind_of (rdata.Srv priority weight port target) = 33
+-- with a number of 32 bits behind
+abbrev pub put_long : Draft → ℕ → Draft
+put_long d number = put d (to_be_bytes w32 number)
 
--- with the length of the data and the data behind
-abbrev pub put_rdata : Draft → Rdata → Draft
-put_rdata d (rdata.A addr) = put (put_number d 4) (to_be_bytes w32 addr)
-put_rdata d (rdata.Aaaa addr) = put (put_number d 16) (to_be_bytes w128 addr)
-put_rdata d (rdata.Srv priority weight port target) =
-    put_whole (put_number (put_number (put_number (put_number d (6 + wire_length target)) priority) weight) port) target
+-- with a string behind its length
+abbrev pub put_string : Draft → List ℕ → Draft
+put_string d string = put d (length string ∷ string)
 
--- with a record behind
+-- with strings behind, in their order
+abbrev pub put_strings : Draft → List (List ℕ) → Draft
+put_strings d [] = d
+put_strings d (string ∷ strings) = put_strings (put_string d string) strings
+
+-- with the data of an SOA record behind
+unfoldable pub put_soa : Draft → Soa → Draft
+put_soa d soa =
+    let names = put_name (put_name d soa.mname) soa.rname in
+    put_long (put_long (put_long (put_long (put_long names soa.serial) soa.refresh) soa.retry) soa.expire) soa.minimum
+
+-- with the data of a record behind
+unfoldable pub put_data : Draft → Rdata → Draft
+put_data d (rdata.A addr) = put_long d addr
+put_data d (rdata.Ns name) = put_name d name
+put_data d (rdata.Cname name) = put_name d name
+put_data d (rdata.Soa soa) = put_soa d soa
+put_data d (rdata.Ptr name) = put_name d name
+put_data d (rdata.Hinfo cpu os) = put_string (put_string d cpu) os
+put_data d (rdata.Mx preference exchange) = put_name (put_number d preference) exchange
+put_data d (rdata.Txt strings) = put_strings d strings
+put_data d (rdata.Aaaa addr) = put d (to_be_bytes w128 addr)
+put_data d (rdata.Srv priority weight port target) = put_whole (put_number (put_number (put_number d priority) weight) port) target
+put_data d (rdata.Caa flags tag value) = put (put_string (put d (flags ∷ [])) tag) value
+put_data d (rdata.Opaque kind bytes) = put d bytes
+
+-- a draft with more behind it, two bytes at the seam giving the length of what stands behind them
+unfoldable pub with_length : Draft → Draft → Draft
+with_length d more =
+    let behind = drop (length d.bytes + 2) more.bytes in
+    record { bytes = d.bytes ++ (to_be_bytes w16 (length behind) ++ behind); places = more.places }
+
+-- with a record behind; the length of its data is the length that was written
 unfoldable pub put_record : Draft → RecordData → Draft
 put_record d r =
-    put_rdata (put (put_number (put_number (put_name d r.owner) (kind_of r.rdata)) r.class) (to_be_bytes w32 r.ttl)) r.rdata
+    let head = put (put_number (put_number (put_name d r.owner) (kind_of r.rdata)) r.class) (to_be_bytes w32 r.ttl) in
+    with_length head (put_data (put_number head 0) r.rdata)
 
 -- with records behind, in their order
 abbrev pub put_records : Draft → List RecordData → Draft
@@ -92,22 +129,73 @@ abbrev pub bit : Bool → ℕ
 bit true = 1
 bit false = 0
 
--- with a header behind: the id, two bytes of flags and codes, and the counts
-unfoldable pub put_header : Draft → MessageData → Draft
-put_header d m =
+-- an OPT record with the root as owner, no data, and no flag but DO
+unfoldable pub opt_bytes : Option Opt → List ℕ
+opt_bytes None = []
+opt_bytes (Some o) = 0 ∷ (to_be_bytes w16 41 ++ to_be_bytes w16 o.size ++ o.ext ∷ o.version ∷ (128 * bit o.dnssec) ∷ 0 ∷ 0 ∷ 0 ∷ [])
+
+-- how many OPT records there are
+abbrev pub opt_count : Option Opt → ℕ
+opt_count None = 0
+opt_count (Some o) = 1
+
+-- a header: the id, two bytes of flags and codes, and the counts; the OPT record is counted in additional
+unfoldable pub header : MessageData → List ℕ
+header m =
     let high = 128 * bit m.qr + 8 * m.opcode + 4 * bit m.aa + 2 * bit m.tc + bit m.rd in
     let low = 128 * bit m.ra + 32 * bit m.ad + 16 * bit m.cd + m.rcode in
-    let flags = put (put_number d m.id) (high ∷ low ∷ []) in
-    put_number (put_number (put_number (put_number flags 1) (length m.answer)) (length m.authority)) (length m.additional)
+    to_be_bytes w16 m.id ++ high ∷ low ∷ [] ++ to_be_bytes w16 1 ++ to_be_bytes w16 (length m.answer) ++ to_be_bytes w16 (length m.authority)
+    ++ to_be_bytes w16 (length m.additional + opt_count m.opt)
 
--- the bytes of a message
-unfoldable pub written : MessageData → List ℕ
-written m =
-    let start : Draft = record { bytes = []; places = [] } in
-    (put_records (put_records (put_records (put_question (put_header start m) m.question) m.answer) m.authority) m.additional).bytes
+-- the records of all sections but the OPT, as one list
+abbrev pub entries : MessageData → List RecordData
+entries m = m.answer ++ (m.authority ++ m.additional)
 
--- each section has so few records that the header can count them
-pub record Counted (m : MessageData) : Type 0 where
-  pub answer : length m.answer < 2 ^ 16
-  pub authority : length m.authority < 2 ^ 16
-  pub additional : length m.additional < 2 ^ 16
+-- what is written between the header and the OPT
+abbrev pub body : MessageData → Draft
+body m = put_records (put_question empty m.question) (entries m)
+
+-- the whole text of a message, at any length
+unfoldable pub uncut : MessageData → List ℕ
+uncut m = header m ++ ((body m).bytes ++ opt_bytes m.opt)
+
+-- a message with the first records alone, with TC where a record of answer or authority is left out
+unfoldable pub cut : MessageData → ℕ → MessageData
+cut m count = record {
+  id = m.id;
+  qr = m.qr;
+  opcode = m.opcode;
+  aa = m.aa;
+  tc = m.tc || nat_lt count (length m.answer + length m.authority);
+  rd = m.rd;
+  ra = m.ra;
+  ad = m.ad;
+  cd = m.cd;
+  rcode = m.rcode;
+  question = m.question;
+  answer = take count m.answer;
+  authority = take (count - length m.answer) m.authority;
+  additional = take (count - length m.answer - length m.authority) m.additional;
+  opt = m.opt;
+}
+
+-- the greatest number up to n that passes a test, or 0
+abbrev pub greatest : (ℕ → Bool) → ℕ → ℕ
+greatest test zero = 0
+greatest test (suc n) = if test (suc n) then suc n else greatest test n
+
+-- how many records are kept at a limit in bytes
+unfoldable pub kept : MessageData → ℕ → ℕ
+kept m limit = greatest (λ count. nat_le (length (uncut (cut m count))) limit) (length (entries m))
+
+-- the bytes of a message at a limit
+unfoldable pub written : MessageData → ℕ → List ℕ
+written m limit = uncut (cut m (kept m limit))
+
+-- the text has the longest prefix of the records with which it stays within the limit
+pub record IsLongest (m : MessageData) (limit : ℕ) (bytes : List ℕ) : Type 0 where
+  pub count : ℕ
+  pub inside : count ≤ length (entries m)
+  pub text : bytes ≡ uncut (cut m count)
+  pub fits : length bytes ≤ limit
+  pub longest : (more : ℕ) → count < more → more ≤ length (entries m) → limit < length (uncut (cut m more))

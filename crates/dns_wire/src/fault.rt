@@ -1,15 +1,34 @@
 ghost use Rattle.std.specs.Prelude.{◌≡◌};
 ghost use Rattle.dns_wire.specs.declared.fault.QueryFault.TheVariants as fault;
+ghost use Rattle.dns_wire.specs.declared.fault.ReplyFault.TheVariants as reply;
 
-/// Why bytes are no query that is answered.
+/// What the header of a query says, for an answer to a query that isn't read: its id, its opcode (below 16) and RD.
+#[derive(Clone, Copy, Debug, PartialEq, Eq)]
+pub struct Head {
+    pub id: u16,
+    pub opcode: u8,
+    pub rd: bool,
+}
+
+/// Why bytes are no query that is answered from a zone, a file or another server.
 #[derive(Clone, Copy, Debug, PartialEq, Eq)]
 pub enum QueryFault {
     /// Fewer bytes than a header has.
     Short,
     /// A response, which is never answered.
     Response,
-    /// A form of query that isn't read.
-    Unbuilt,
+    /// An opcode other than QUERY.
+    NotImp(Head),
+    /// No message with one question.
+    FormErr(Head),
+    NoMemory,
+}
+
+/// Why bytes are no reply.
+#[derive(Clone, Copy, Debug, PartialEq, Eq)]
+pub enum ReplyFault {
+    /// No message with QR set, opcode QUERY and one question.
+    Bad,
     NoMemory,
 }
 
@@ -18,5 +37,13 @@ impl From<dns_data::NoMemory> for QueryFault {
 
     fn from(_: dns_data::NoMemory) -> QueryFault {
         QueryFault::NoMemory
+    }
+}
+
+impl From<dns_data::NoMemory> for ReplyFault {
+    ghost from_gives = { λ _ e. e ≡ reply.NoMemory };
+
+    fn from(_: dns_data::NoMemory) -> ReplyFault {
+        ReplyFault::NoMemory
     }
 }

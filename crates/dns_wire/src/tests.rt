@@ -1,8 +1,7 @@
-ghost use Rattle.std.specs.Prelude.{◌<◌, length, IfOk};
-ghost use Rattle.dns_wire.specs.Written.{Counted};
-
 use super::*;
-use dns_data::{Message, Name, NoMemory, Question, Rdata, Record, Records, Seq};
+use crate::name::read_name;
+use crate::outside_messages::*;
+use dns_data::{Message, Opt, Rdata, Records, Soa};
 use std::alloc::{AllocError, Global};
 use std::test::Fail;
 
@@ -12,26 +11,49 @@ const QUERY: [u8; 29] = [
     0x6d, 0x70, 0x6c, 0x65, 0x03, 0x6f, 0x72, 0x67, 0x00, 0x00, 0x01, 0x00, 0x01,
 ];
 
-// Its answer: two records, the address 127.0.0.1 and the port 4000 over UDP.
-const REPLY: [u8; 69] = [
-    0x12, 0x34, 0x85, 0x00, 0x00, 0x01, 0x00, 0x00, 0x00, 0x00, 0x00, 0x02, 0x07, 0x65, 0x78, 0x61,
-    0x6d, 0x70, 0x6c, 0x65, 0x03, 0x6f, 0x72, 0x67, 0x00, 0x00, 0x01, 0x00, 0x01, 0xc0, 0x0c, 0x00,
-    0x01, 0x00, 0x01, 0x00, 0x00, 0x00, 0x00, 0x00, 0x04, 0x7f, 0x00, 0x00, 0x01, 0x04, 0x5f, 0x75,
-    0x64, 0x70, 0xc0, 0x0c, 0x00, 0x21, 0x00, 0x01, 0x00, 0x00, 0x00, 0x00, 0x00, 0x07, 0x00, 0x00,
-    0x00, 0x00, 0x0f, 0xa0, 0x00,
+// The same with OPT: size 512, extended RCODE 128, version 1.
+const QUERY_OPT: [u8; 40] = [
+    0x12, 0x34, 0x01, 0x00, 0x00, 0x01, 0x00, 0x00, 0x00, 0x00, 0x00, 0x01, 0x07, 0x65, 0x78, 0x61,
+    0x6d, 0x70, 0x6c, 0x65, 0x03, 0x6f, 0x72, 0x67, 0x00, 0x00, 0x01, 0x00, 0x01, 0x00, 0x00, 0x29,
+    0x02, 0x00, 0x80, 0x01, 0x00, 0x00, 0x00, 0x00,
 ];
 
-// Opcode 4 with TC, RA, AD, CD and RCODE 3; the question Example.org, AAAA; the answer example.org with 2001:db8::1; the
-// additional records _sip.org, whose target is h.org, and h.org with 192.0.2.1.
-const LETTERS: [u8; 113] = [
-    0x12, 0x34, 0x22, 0xb3, 0x00, 0x01, 0x00, 0x01, 0x00, 0x00, 0x00, 0x02, 0x07, 0x45, 0x78, 0x61,
-    0x6d, 0x70, 0x6c, 0x65, 0x03, 0x6f, 0x72, 0x67, 0x00, 0x00, 0x1c, 0x00, 0x01, 0x07, 0x65, 0x78,
-    0x61, 0x6d, 0x70, 0x6c, 0x65, 0xc0, 0x14, 0x00, 0x1c, 0x00, 0x01, 0x00, 0x00, 0x0e, 0x10, 0x00,
-    0x10, 0x20, 0x01, 0x0d, 0xb8, 0x00, 0x00, 0x00, 0x00, 0x00, 0x00, 0x00, 0x00, 0x00, 0x00, 0x00,
-    0x01, 0x04, 0x5f, 0x73, 0x69, 0x70, 0xc0, 0x14, 0x00, 0x21, 0x00, 0x01, 0x00, 0x00, 0x0e, 0x10,
-    0x00, 0x0d, 0x00, 0x01, 0x00, 0x02, 0x13, 0xc4, 0x01, 0x68, 0x03, 0x6f, 0x72, 0x67, 0x00, 0x01,
-    0x68, 0xc0, 0x14, 0x00, 0x01, 0x00, 0x01, 0x00, 0x00, 0x0e, 0x10, 0x00, 0x04, 0xc0, 0x00, 0x02,
-    0x01,
+// OPT in the answer section.
+const OPT_IN_ANSWER: [u8; 40] = [
+    0x12, 0x34, 0x01, 0x00, 0x00, 0x01, 0x00, 0x01, 0x00, 0x00, 0x00, 0x00, 0x07, 0x65, 0x78, 0x61,
+    0x6d, 0x70, 0x6c, 0x65, 0x03, 0x6f, 0x72, 0x67, 0x00, 0x00, 0x01, 0x00, 0x01, 0x00, 0x00, 0x29,
+    0x02, 0x00, 0x80, 0x01, 0x00, 0x00, 0x00, 0x00,
+];
+
+// OPT twice.
+const TWO_OPTS: [u8; 51] = [
+    0x12, 0x34, 0x01, 0x00, 0x00, 0x01, 0x00, 0x00, 0x00, 0x00, 0x00, 0x02, 0x07, 0x65, 0x78, 0x61,
+    0x6d, 0x70, 0x6c, 0x65, 0x03, 0x6f, 0x72, 0x67, 0x00, 0x00, 0x01, 0x00, 0x01, 0x00, 0x00, 0x29,
+    0x02, 0x00, 0x00, 0x01, 0x00, 0x00, 0x00, 0x00, 0x00, 0x00, 0x29, 0x02, 0x00, 0x00, 0x01, 0x00,
+    0x00, 0x00, 0x00,
+];
+
+// OPT whose owner is a pointer to the zero byte of the question.
+const OPT_AT_POINTER: [u8; 41] = [
+    0x12, 0x34, 0x01, 0x00, 0x00, 0x01, 0x00, 0x00, 0x00, 0x00, 0x00, 0x01, 0x07, 0x65, 0x78, 0x61,
+    0x6d, 0x70, 0x6c, 0x65, 0x03, 0x6f, 0x72, 0x67, 0x00, 0x00, 0x01, 0x00, 0x01, 0xc0, 0x18, 0x00,
+    0x29, 0x02, 0x00, 0x80, 0x01, 0x00, 0x00, 0x00, 0x00,
+];
+
+// A query whose name points at itself.
+const LOOP: [u8; 18] = [
+    0x12, 0x34, 0x01, 0x00, 0x00, 0x01, 0x00, 0x00, 0x00, 0x00, 0x00, 0x00, 0xc0, 0x0c, 0x00, 0x01,
+    0x00, 0x01,
+];
+
+// RFC 1035, section 4.1.4: F.ISI.ARPA at 20, FOO.F.ISI.ARPA at 40, ARPA at 64 and the root at 92.
+const NAMES: [u8; 93] = [
+    0x00, 0x00, 0x00, 0x00, 0x00, 0x00, 0x00, 0x00, 0x00, 0x00, 0x00, 0x00, 0x00, 0x00, 0x00, 0x00,
+    0x00, 0x00, 0x00, 0x00, 0x01, 0x46, 0x03, 0x49, 0x53, 0x49, 0x04, 0x41, 0x52, 0x50, 0x41, 0x00,
+    0x00, 0x00, 0x00, 0x00, 0x00, 0x00, 0x00, 0x00, 0x03, 0x46, 0x4f, 0x4f, 0xc0, 0x14, 0x00, 0x00,
+    0x00, 0x00, 0x00, 0x00, 0x00, 0x00, 0x00, 0x00, 0x00, 0x00, 0x00, 0x00, 0x00, 0x00, 0x00, 0x00,
+    0xc0, 0x1a, 0x00, 0x00, 0x00, 0x00, 0x00, 0x00, 0x00, 0x00, 0x00, 0x00, 0x00, 0x00, 0x00, 0x00,
+    0x00, 0x00, 0x00, 0x00, 0x00, 0x00, 0x00, 0x00, 0x00, 0x00, 0x00, 0x00, 0x00,
 ];
 
 #[test]
@@ -40,58 +62,82 @@ fn reads_the_query_of_29_bytes(rt: HostRuntime) -> Result<(), Fail> {
     assert_eq!(rt; message.id, 0x1234);
     assert!(rt; message.rd && !message.aa && !message.tc && !message.ad && !message.cd);
     assert_eq!(rt; message.question.name.as_wire(), &QUERY[12..24]);
-    assert_eq!(rt; message.question.kind, 1);
-    assert_eq!(rt; message.question.class, 1);
+    assert_eq!(rt; (message.question.kind, message.question.class), (1, 1));
+    assert_eq!(rt; message.opt, None);
     Ok(())
 }
 
 #[test]
-fn refuses_what_is_no_plain_query(rt: HostRuntime) {
-    let one_byte_is_other = [
-        (2, 0x81, QueryFault::Response, "QR set"),
-        (2, 0x11, QueryFault::Unbuilt, "opcode 2"),
-        (5, 0, QueryFault::Unbuilt, "no question"),
-        (4, 1, QueryFault::Unbuilt, "257 questions"),
-        (7, 1, QueryFault::Unbuilt, "an answer"),
-        (9, 1, QueryFault::Unbuilt, "an authority record"),
-        (11, 1, QueryFault::Unbuilt, "an additional record"),
-        (12, 64, QueryFault::Unbuilt, "a label of 64 bytes"),
-        (12, 0xc0, QueryFault::Unbuilt, "a pointer"),
-        (20, 0, QueryFault::Unbuilt, "bytes behind the question"),
-        (20, 8, QueryFault::Unbuilt, "a name that is cut"),
-        (28, 3, QueryFault::Unbuilt, "class CH"),
-        (27, 1, QueryFault::Unbuilt, "class 257"),
+fn tells_why_a_query_is_not_read(rt: HostRuntime) -> Result<(), Fail> {
+    let response = with(rt.alloc(), &QUERY, 2, 0x81)?;
+    let other = with(rt.alloc(), &QUERY, 2, 0x10)?;
+    let rows = [
+        (&QUERY[..11], QueryFault::Short),
+        (response.as_slice(), QueryFault::Response),
+        (other.as_slice(), QueryFault::NotImp(head(2, false))),
+        (LOOP.as_slice(), QueryFault::FormErr(head(0, true))),
+        (&QUERY[..12], QueryFault::FormErr(head(0, true))),
+        (&QUERY[..28], QueryFault::FormErr(head(0, true))),
     ];
-    for (at, byte, fault, what) in one_byte_is_other {
-        let mut bytes = QUERY;
-        bytes[at] = byte;
-        assert_eq!(rt; read_query(rt.alloc(), &bytes).err(), Some(fault), "{what}");
+    for (bytes, want) in rows {
+        assert_eq!(rt; read_query(rt.alloc(), bytes).err(), Some(want));
     }
+    Ok(())
 }
 
 #[test]
-fn refuses_bytes_of_another_length(rt: HostRuntime) {
-    let mut longer = [0; 30];
-    longer[..29].copy_from_slice(&QUERY);
-    let pointer = [
-        0x12, 0x34, 0x01, 0x00, 0x00, 0x01, 0x00, 0x00, 0x00, 0x00, 0x00, 0x00, 0xc0, 0x0c, 0x00,
-        0x01, 0x00, 0x01,
+fn refuses_a_query_that_spells_no_message(rt: HostRuntime) -> Result<(), Fail> {
+    let one_byte_is_other = [
+        (5, 0, "no question"),
+        (5, 2, "two questions"),
+        (4, 1, "257 questions"),
+        (7, 1, "OPT in answer, and one record too few"),
+        (11, 2, "one record too few"),
+        (12, 0x40, "a label byte with the upper bits 01"),
+        (12, 0x80, "a label byte with the upper bits 10"),
+        (20, 8, "a name that runs into its type"),
+        (29, 1, "OPT below a label"),
+        (39, 1, "data of OPT behind the end"),
     ];
-    assert!(rt; matches!(read_query(rt.alloc(), &QUERY[..11]), Err(QueryFault::Short)));
-    assert!(rt;
-        matches!(
-            read_query(rt.alloc(), &QUERY[..12]),
-            Err(QueryFault::Unbuilt)
-        )
-    );
-    assert!(rt;
-        matches!(
-            read_query(rt.alloc(), &QUERY[..28]),
-            Err(QueryFault::Unbuilt)
-        )
-    );
-    assert!(rt; matches!(read_query(rt.alloc(), &longer), Err(QueryFault::Unbuilt)));
-    assert!(rt; matches!(read_query(rt.alloc(), &pointer), Err(QueryFault::Unbuilt)));
+    for (at, byte, what) in one_byte_is_other {
+        let bytes = with(rt.alloc(), &QUERY_OPT, at, byte)?;
+        assert!(rt; is_form_error(rt.alloc(), &bytes), "{what}");
+    }
+    assert!(rt; is_form_error(rt.alloc(), &OPT_IN_ANSWER));
+    assert!(rt; is_form_error(rt.alloc(), &TWO_OPTS));
+    Ok(())
+}
+
+#[test]
+fn reads_an_opt_record(rt: HostRuntime) -> Result<(), Fail> {
+    let message = read_query(rt.alloc(), &QUERY_OPT)?;
+    let opt = Opt {
+        size: 512,
+        ext: 0x80,
+        version: 1,
+        dnssec: false,
+    };
+    assert_eq!(rt; message.opt, Some(opt));
+    assert_eq!(rt; message.additional.len(), 0);
+    let message = read_query(rt.alloc(), &OPT_AT_POINTER)?;
+    assert_eq!(rt; message.opt, Some(opt));
+    Ok(())
+}
+
+#[test]
+fn reads_names_through_pointers(rt: HostRuntime) -> Result<(), Fail> {
+    let rows = [
+        (20, b"\x01F\x03ISI\x04ARPA".as_slice(), 32),
+        (40, b"\x03FOO\x01F\x03ISI\x04ARPA".as_slice(), 46),
+        (64, b"\x04ARPA".as_slice(), 66),
+        (92, b"".as_slice(), 93),
+    ];
+    for (at, wire, behind) in rows {
+        let (name, end) = read_name(rt.alloc(), &NAMES, at)?;
+        assert_eq!(rt; name.as_wire(), wire);
+        assert_eq!(rt; end, behind);
+    }
+    Ok(())
 }
 
 #[test]
@@ -112,17 +158,151 @@ fn reads_names_up_to_255_bytes(rt: HostRuntime) -> Result<(), Fail> {
 }
 
 #[test]
-fn writes_the_reply_of_69_bytes(rt: HostRuntime) -> Result<(), Fail> {
-    let bytes = write_message(rt.alloc(), &reply(rt.alloc())?)?;
-    assert_eq!(rt; bytes.as_slice(), REPLY.as_slice());
+fn reads_replies_of_others(rt: HostRuntime) -> Result<(), Fail> {
+    let rows = [
+        (MX.as_slice(), (0, 1, 1, 3)),
+        (SOA.as_slice(), (3, 0, 1, 0)),
+        (CNAME.as_slice(), (0, 2, 1, 1)),
+        (RFC_REPLY.as_slice(), (0, 1, 0, 0)),
+    ];
+    for (bytes, want) in rows {
+        let message = read_reply(rt.alloc(), bytes)?;
+        assert_eq!(rt; shape(&message), want);
+    }
     Ok(())
 }
 
 #[test]
-fn compresses_letter_for_letter_and_never_to_a_target(rt: HostRuntime) -> Result<(), Fail> {
-    let bytes = write_message(rt.alloc(), &letters(rt.alloc())?)?;
-    assert_eq!(rt; bytes.as_slice(), LETTERS.as_slice());
+fn reads_the_data_of_each_type(rt: HostRuntime) -> Result<(), Fail> {
+    let rows = [
+        (MX.as_slice(), 15),
+        (SRV.as_slice(), 33),
+        (CNAME.as_slice(), 5),
+        (PTR.as_slice(), 12),
+        (SOA.as_slice(), 6),
+        (TXT.as_slice(), 16),
+        (CAA.as_slice(), 257),
+        (HINFO.as_slice(), 13),
+        (OPAQUE.as_slice(), 65280),
+        (RFC_REPLY.as_slice(), 28),
+    ];
+    for (bytes, kind) in rows {
+        let message = read_reply(rt.alloc(), bytes)?;
+        let is = first_is(&message.answer, kind) || first_is(&message.authority, kind);
+        assert!(rt; is, "{kind}");
+    }
     Ok(())
+}
+
+#[test]
+fn refuses_replies_that_are_spoilt(rt: HostRuntime) -> Result<(), Fail> {
+    let one_byte_is_other = [
+        (MX.as_slice(), 2, 0x05, "QR clear"),
+        (MX.as_slice(), 2, 0x8d, "opcode 1"),
+        (
+            MX.as_slice(),
+            29,
+            0x40,
+            "a label byte with the upper bits 01",
+        ),
+        (MX.as_slice(), 30, 0x1d, "a pointer at its own run"),
+        (MX.as_slice(), 30, 0x0b, "a pointer into the header"),
+        (MX.as_slice(), 40, 8, "data shorter than its form"),
+        (MX.as_slice(), 40, 10, "data longer than its form"),
+        (MX.as_slice(), 40, 1, "no room for a preference"),
+        (MX.as_slice(), 49, 0x31, "a pointer onward"),
+        (MX.as_slice(), 78, 3, "an address of three bytes"),
+        (MX.as_slice(), 102, 1, "an address of 16 bytes"),
+        (MX.as_slice(), 137, 1, "data of OPT behind the end"),
+        (TXT.as_slice(), 41, 20, "a string behind the data"),
+        (TXT.as_slice(), 54, 5, "a byte behind the strings"),
+        (HINFO.as_slice(), 41, 1, "an OS behind the data"),
+        (CAA.as_slice(), 42, 0, "no tag"),
+        (CAA.as_slice(), 42, 20, "a tag behind the data"),
+    ];
+    for (bytes, at, byte, what) in one_byte_is_other {
+        let bytes = with(rt.alloc(), bytes, at, byte)?;
+        assert!(rt;
+            matches!(read_reply(rt.alloc(), &bytes), Err(ReplyFault::Bad)),
+            "{what}"
+        );
+    }
+    Ok(())
+}
+
+#[test]
+fn a_ttl_with_its_highest_bit_is_0(rt: HostRuntime) -> Result<(), Fail> {
+    for (byte, ttl) in [(0x80, 0), (0xff, 0), (0x7f, 0x7f00_012c)] {
+        let bytes = with(rt.alloc(), &MX, 35, byte)?;
+        let message = read_reply(rt.alloc(), &bytes)?;
+        assert_eq!(rt;
+            message.answer.as_slice().first().map(|record| record.ttl),
+            Some(ttl)
+        );
+    }
+    Ok(())
+}
+
+fn head(opcode: u8, rd: bool) -> Head {
+    Head {
+        id: 0x1234,
+        opcode,
+        rd,
+    }
+}
+
+// The bytes with another one at a place.
+fn with(alloc: Global, bytes: &[u8], at: usize, byte: u8) -> Result<Vec<u8>, AllocError> {
+    let mut other = Vec::from_slice(alloc, bytes)?;
+    if let Some(place) = other.get_mut(at) {
+        *place = byte;
+    }
+    Ok(other)
+}
+
+fn is_form_error(alloc: Global, bytes: &[u8]) -> bool {
+    matches!(read_query(alloc, bytes), Err(QueryFault::FormErr(_)))
+}
+
+// The RCODE, and how many records each section has.
+fn shape(message: &Message) -> (u8, usize, usize, usize) {
+    (
+        message.rcode,
+        message.answer.len(),
+        message.authority.len(),
+        message.additional.len(),
+    )
+}
+
+// Whether the first record has this type, and the data that the messages of others have.
+fn first_is(records: &Records, kind: u16) -> bool {
+    let Some(record) = records.as_slice().first() else {
+        return false;
+    };
+    record.rdata.kind() == kind && is_expected(&record.rdata)
+}
+
+fn is_expected(data: &Rdata) -> bool {
+    match data {
+        Rdata::Mx(10, name)
+        | Rdata::Srv(1, 2, 5060, name)
+        | Rdata::Cname(name)
+        | Rdata::Ptr(name) => name.as_wire() == b"\x04mail\x07example\x03org".as_slice(),
+        Rdata::Soa(soa) => is_soa(soa),
+        Rdata::Txt(strings) => strings.len() == 3 && strings.at(2).is(b"second"),
+        Rdata::Caa(0, tag, value) => tag.is(b"issue") && value.is(b"ca.example.net"),
+        Rdata::Hinfo(cpu, os) => cpu.is(b"PC") && os.is(b"LINUX"),
+        Rdata::Opaque(_, bytes) => bytes.is(&[10, 11, 12]),
+        Rdata::Aaaa(addr) => *addr == 0x2001_0db8_abcd_0012_0001_0002_0003_0004,
+        _ => false,
+    }
+}
+
+fn is_soa(soa: &Soa) -> bool {
+    soa.mname.as_wire() == b"\x02ns\x07example\x03org".as_slice()
+        && soa.rname.as_wire() == b"\x0ahostmaster\x07example\x03org".as_slice()
+        && (soa.serial, soa.refresh, soa.retry) == (2_024_010_101, 7200, 900)
+        && (soa.expire, soa.minimum) == (1_209_600, 60)
 }
 
 // A query whose name has labels of these sizes.
@@ -134,86 +314,4 @@ fn query_of(alloc: Global, sizes: &[u8]) -> Result<Vec<u8>, AllocError> {
     }
     query.extend_from_slice(&[0, 0, 1, 0, 1])?;
     Ok(query)
-}
-
-fn name(alloc: Global, first: &[u8], second: &[u8]) -> Result<Name, NoMemory>
-    requires first { (0 < length first.now) × (length first.now < 64) }
-    requires second { (0 < length second.now) × (length second.now < 64) }
-{
-    let mut name = Name::root(alloc);
-    name.push(first)?;
-    name.push(second)?;
-    Ok(name)
-}
-
-fn question(name: Name, kind: u16) -> Question {
-    Question {
-        name,
-        kind,
-        class: 1,
-    }
-}
-
-fn reply(alloc: Global) -> Result<Message, NoMemory>
-    ensures { IfOk result Counted }
-{
-    let mut service = Name::root(alloc);
-    service.push(b"_udp")?;
-    service.push(b"example")?;
-    service.push(b"org")?;
-    let port = Rdata::Srv(0, 0, 4000, Name::root(alloc));
-    let mut additional: Records = Seq::new(alloc);
-    additional.push(Record::new(
-        name(alloc, b"example", b"org")?,
-        1,
-        0,
-        Rdata::A(0x7f00_0001),
-    ))?;
-    additional.push(Record::new(service, 1, 0, port))?;
-    Ok(Message {
-        id: 0x1234,
-        qr: true,
-        opcode: 0,
-        aa: true,
-        tc: false,
-        rd: true,
-        ra: false,
-        ad: false,
-        cd: false,
-        rcode: 0,
-        question: question(name(alloc, b"example", b"org")?, 1),
-        answer: Seq::new(alloc),
-        authority: Seq::new(alloc),
-        additional,
-        opt: None,
-    })
-}
-
-fn letters(alloc: Global) -> Result<Message, NoMemory>
-    ensures { IfOk result Counted }
-{
-    let addr = Rdata::Aaaa(0x2001_0db8_0000_0000_0000_0000_0000_0001);
-    let service = Rdata::Srv(1, 2, 5060, name(alloc, b"h", b"org")?);
-    let mut answer: Records = Seq::new(alloc);
-    answer.push(Record::new(name(alloc, b"example", b"org")?, 1, 3600, addr))?;
-    let mut additional: Records = Seq::new(alloc);
-    additional.push(Record::new(name(alloc, b"_sip", b"org")?, 1, 3600, service))?;
-    additional.push(Record::new(name(alloc, b"h", b"org")?, 1, 3600, Rdata::A(0xc000_0201)))?;
-    Ok(Message {
-        id: 0x1234,
-        qr: false,
-        opcode: 4,
-        aa: false,
-        tc: true,
-        rd: false,
-        ra: true,
-        ad: true,
-        cd: true,
-        rcode: 3,
-        question: question(name(alloc, b"Example", b"org")?, 28),
-        answer,
-        authority: Seq::new(alloc),
-        additional,
-        opt: None,
-    })
 }

@@ -1,0 +1,57 @@
+-- Records, OPT and sections at a place in the bytes of a message (RFC 1035, section 4.1.3; RFC 6891, section 6.1).
+use Rattle.std.specs.Prelude.{◌≡◌, ◌≤◌, ℕ, ◌+◌, ◌^◌, List, [], ◌∷◌, length, slice_index, Option, Some, None, nat_lt, if◌then◌else◌}
+use Rattle.dns_data.specs.Record.{RecordData, kind_of}
+use Rattle.dns_data.specs.declared.message.Opt.{Opt}
+use Rattle.dns_wire.specs.Wire.{WholeNameAt, number_at, long_at, flag_at}
+use Rattle.dns_wire.specs.Data.{DataAt}
+use Rattle.dns_wire.specs.declared.record.Part.{Part}
+use Rattle.dns_wire.specs.declared.record.Part.TheVariants as part
+
+-- the length of the data, in 16 bits, stands 8 bytes behind the owner, and the data behind it
+pub record EndsAt (bytes : List ℕ) (middle behind : ℕ) : Type 0 where
+  pub behind_is : behind ≡ middle + 10 + number_at bytes (middle + 8)
+  pub inside : behind ≤ length bytes
+
+-- a TTL, read as 0 where its highest bit is set (RFC 2181, section 8)
+abbrev pub ttl_at : List ℕ → ℕ → ℕ
+ttl_at bytes at = if nat_lt (long_at bytes at) (2 ^ 31) then long_at bytes at else 0
+
+-- a record stands at a place; then the place behind it
+pub record RecordAt (bytes : List ℕ) (at : ℕ) (r : RecordData) (behind : ℕ) : Type 0 where
+  pub middle : ℕ
+  pub owner : WholeNameAt bytes at r.owner middle
+  pub ends : EndsAt bytes middle behind
+  pub kind : kind_of r.rdata ≡ number_at bytes middle
+  pub class : r.class ≡ number_at bytes (middle + 2)
+  pub ttl : r.ttl ≡ ttl_at bytes (middle + 4)
+  pub rdata : DataAt bytes (middle + 10) r.rdata behind
+
+-- what the class and the TTL behind an owner say in an OPT record: the size; the extended RCODE, the version and flags,
+-- whose highest bit is DO
+pub record OptFieldsAt (bytes : List ℕ) (middle : ℕ) (o : Opt) : Type 0 where
+  pub size : o.size ≡ number_at bytes (middle + 2)
+  pub ext : o.ext ≡ slice_index bytes (middle + 4)
+  pub version : o.version ≡ slice_index bytes (middle + 5)
+  pub dnssec : o.dnssec ≡ flag_at bytes (middle + 6) 7
+
+-- an OPT record stands at a place, with the root as its owner. Its data is ignored.
+pub record OptAt (bytes : List ℕ) (at : ℕ) (o : Opt) (behind : ℕ) : Type 0 where
+  pub middle : ℕ
+  pub owner : WholeNameAt bytes at [] middle
+  pub ends : EndsAt bytes middle behind
+  pub kind : number_at bytes middle ≡ 41
+  pub fields : OptFieldsAt bytes middle o
+
+-- so many records stand one after the other, at most one OPT record among them, which is told apart; then the place
+-- behind them
+pub data SectionAt (bytes : List ℕ) : ℕ → ℕ → List RecordData → Option Opt → ℕ → Type 0 where
+  no_more : {count at behind : ℕ} → count ≡ 0 → behind ≡ at → SectionAt bytes count at [] None behind
+  entry : {count left at middle behind : ℕ} {first : RecordData} {others : List RecordData} {opt : Option Opt}
+      → count ≡ left + 1 → RecordAt bytes at first middle → SectionAt bytes left middle others opt behind → SectionAt bytes count at (first ∷ others) opt behind
+  options : {count left at middle behind : ℕ} {found : Opt} {others : List RecordData}
+      → count ≡ left + 1 → OptAt bytes at found middle → SectionAt bytes left middle others None behind → SectionAt bytes count at others (Some found) behind
+
+-- a record of either kind
+abbrev pub PartAt : List ℕ → ℕ → Part → ℕ → Type 0
+PartAt bytes at (part.Record r) behind = RecordAt bytes at r behind
+PartAt bytes at (part.Opt o) behind = OptAt bytes at o behind

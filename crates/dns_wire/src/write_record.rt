@@ -1,0 +1,128 @@
+ghost use Rattle.std.specs.Prelude.{◌≡◌, OnOk};
+ghost use Rattle.std.specs.List.{AllByRecursion};
+ghost use Rattle.dns_data.specs.Record.{IsFormed, IsProper, IsString};
+ghost use Rattle.dns_wire.specs.Written.{put_number, put_long, put_string, put_strings, put_soa, put_data, put_record};
+
+use crate::writer::Writer;
+use dns_data::{Bytes, NoMemory, Rdata, Record, Soa};
+
+/// Puts a record, at whatever length.
+pub fn put_record<'a>(writer: &mut Writer<'a>, entry: &'a Record) -> Result<(), NoMemory>
+    ensures text { OnOk result (writer.new ≡ put_record writer.old entry.now) }
+    ensures proper { IsProper entry.now }
+{
+    writer.put_name(&entry.owner)?;
+    put_head(writer, entry.rdata.kind(), entry.class, entry.ttl)?;
+    let at = writer.len();
+    put_data(writer, &entry.rdata)?;
+    writer.fill_length(at);
+    Ok(())
+}
+
+// Type, class and TTL, and two bytes for the length of the data, which is known behind it.
+fn put_head(writer: &mut Writer<'_>, kind: u16, class: u16, ttl: u32) -> Result<(), NoMemory>
+    ensures { OnOk result (writer.new ≡ put_number (put_long (put_number (put_number writer.old kind) class) ttl) 0) }
+{
+    let kind = kind.to_be_bytes();
+    let class = class.to_be_bytes();
+    let ttl = ttl.to_be_bytes();
+    writer.put(&[
+        kind[0], kind[1], class[0], class[1], ttl[0], ttl[1], ttl[2], ttl[3], 0, 0,
+    ])
+}
+
+// The data alone.
+#[tactic(auto, unfolding(crate::specs::Written::put_data))]
+fn put_data<'a>(writer: &mut Writer<'a>, rdata: &'a Rdata) -> Result<(), NoMemory>
+    requires { IsFormed rdata.now }
+    ensures { OnOk result (writer.new ≡ put_data writer.old rdata.now) }
+{
+    match rdata {
+        Rdata::A(addr) => put_long(writer, *addr),
+        Rdata::Ns(name) => writer.put_name(name),
+        Rdata::Cname(name) => writer.put_name(name),
+        Rdata::Soa(soa) => put_soa(writer, soa),
+        Rdata::Ptr(name) => writer.put_name(name),
+        Rdata::Hinfo(cpu, os) => {
+            put_string(writer, cpu)?;
+            put_string(writer, os)
+        }
+        Rdata::Mx(preference, exchange) => {
+            writer.put_number(*preference)?;
+            writer.put_name(exchange)
+        }
+        Rdata::Txt(strings) => put_strings(writer, strings.as_slice()),
+        Rdata::Aaaa(addr) => writer.put(&addr.to_be_bytes()),
+        Rdata::Srv(priority, weight, port, target) => {
+            put_service(writer, *priority, *weight, *port)?;
+            writer.put_whole(target)
+        }
+        Rdata::Caa(flags, tag, value) => {
+            writer.put(&[*flags])?;
+            put_string(writer, tag)?;
+            writer.put(value.as_slice())
+        }
+        Rdata::Opaque(_, bytes) => writer.put(bytes.as_slice()),
+    }
+}
+
+#[tactic(auto, unfolding(crate::specs::Written::put_soa))]
+fn put_soa<'a>(writer: &mut Writer<'a>, soa: &'a Soa) -> Result<(), NoMemory>
+    ensures { OnOk result (writer.new ≡ put_soa writer.old soa.now) }
+{
+    writer.put_name(&soa.mname)?;
+    writer.put_name(&soa.rname)?;
+    put_long(writer, soa.serial)?;
+    put_long(writer, soa.refresh)?;
+    put_long(writer, soa.retry)?;
+    put_long(writer, soa.expire)?;
+    put_long(writer, soa.minimum)
+}
+
+// What stands before the target of an SRV record.
+fn put_service(
+    writer: &mut Writer<'_>,
+    priority: u16,
+    weight: u16,
+    port: u16,
+) -> Result<(), NoMemory>
+    ensures { OnOk result (writer.new ≡ put_number (put_number (put_number writer.old priority) weight) port) }
+{
+    let priority = priority.to_be_bytes();
+    let weight = weight.to_be_bytes();
+    let port = port.to_be_bytes();
+    writer.put(&[
+        priority[0],
+        priority[1],
+        weight[0],
+        weight[1],
+        port[0],
+        port[1],
+    ])
+}
+
+// A number of 32 bits.
+fn put_long(writer: &mut Writer<'_>, number: u32) -> Result<(), NoMemory>
+    ensures { OnOk result (writer.new ≡ put_long writer.old number) }
+{
+    writer.put(&number.to_be_bytes())
+}
+
+// A string behind its length.
+fn put_string(writer: &mut Writer<'_>, string: &Bytes) -> Result<(), NoMemory>
+    requires { IsString string.now }
+    ensures { OnOk result (writer.new ≡ put_string writer.old string.now) }
+{
+    writer.put(&[string.len() as u8])?;
+    writer.put(string.as_slice())
+}
+
+fn put_strings(writer: &mut Writer<'_>, strings: &[Bytes]) -> Result<(), NoMemory>
+    requires { AllByRecursion IsString strings.now }
+    ensures { OnOk result (writer.new ≡ put_strings writer.old strings.now) }
+{
+    for string in strings {
+        put_string(writer, string)?;
+    }
+    Ok(())
+}

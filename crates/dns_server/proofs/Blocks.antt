@@ -50,7 +50,7 @@ pub ruleset port_rules = (port_no, port_yes, port_low, port_high)
 
 -- one more line of a block
 pub at_whoami : (block : Block) (line : WordLine) (rest lines : List WordLine) → rest ≡ line ∷ lines → body.Whoami ≡ body_line line.words → block.whoami ≡ false
-    → body_says block rest ≡ body_says (record { port = block.port; whoami = true }) lines
+    → body_says block rest ≡ body_says (record { port = block.port; reload = block.reload; whoami = true }) lines
 unfolding body_says
 at_whoami block line rest lines is kind new = ap (body_says block) is ∙ rw (sym kind, new) refl
 
@@ -58,6 +58,16 @@ pub at_whoami_again : (block : Block) (line : WordLine) (rest lines : List WordL
     → body_says block rest ≡ Err refusal.Unbuilt
 unfolding body_says
 at_whoami_again block line rest lines is kind old = ap (body_says block) is ∙ rw (sym kind, old) refl
+
+pub at_reload : (block : Block) (line : WordLine) (rest lines : List WordLine) → rest ≡ line ∷ lines → body.Reload ≡ body_line line.words → block.reload ≡ false
+    → body_says block rest ≡ body_says (record { port = block.port; reload = true; whoami = block.whoami }) lines
+unfolding body_says
+at_reload block line rest lines is kind new = ap (body_says block) is ∙ rw (sym kind, new) refl
+
+pub at_reload_again : (block : Block) (line : WordLine) (rest lines : List WordLine) → rest ≡ line ∷ lines → body.Reload ≡ body_line line.words → block.reload ≡ true
+    → body_says block rest ≡ Err refusal.Unbuilt
+unfolding body_says
+at_reload_again block line rest lines is kind old = ap (body_says block) is ∙ rw (sym kind, old) refl
 
 -- the block's last line, and the lines that may not stand there
 pub at_end : (block : Block) (line : WordLine) (rest lines : List WordLine) → rest ≡ line ∷ lines → body.End ≡ body_line line.words → length lines ≡ 0

@@ -1,5 +1,5 @@
 -- How the turns of a worker go on.
-use Rattle.std.proofs.Common.{◌≡◌, ◌≤◌, ◌<◌, ℕ, ◌+◌, Bool, true, false, List, [], ◌∷◌, ◌++◌, Option, Some, slice_get, refl, sym, ap, subst, ◌∙◌, arith, inl, inr}
+use Rattle.std.proofs.Common.{◌≡◌, ◌≤◌, ◌<◌, ℕ, ◌+◌, Bool, true, false, List, [], ◌∷◌, ◌++◌, length, Option, Some, None, slice_get, refl, sym, ap, subst, ◌∙◌, arith, inl, inr, add-zero}
 use Rattle.std.specs.List.{flat_map, AllByRecursion}
 use Rattle.std.proofs.lemmas.List.{append-nil}
 use Rattle.std.proofs.lemmas.List.Concat.{flat_map-append, flat_map-cons}
@@ -10,7 +10,13 @@ use Rattle.outside.specs.Journals.{adds-nothing, adds-then}
 use Rattle.dns_server.specs.declared.corefile.Bundle.{Bundle}
 use Rattle.dns_server.specs.declared.worker.WorkEnd.TheVariants as ends
 use Rattle.dns_server.specs.Turn.{Turn, failed, replied, silenced, starved, marks_of, IsLawful, datagrams, wants, serials, NeverFall, total}
-use Rattle.dns_server.specs.Worker.{IsBy, TakesOne, last_row, HasNoLongRow, AreTurns, WorkerRun}
+use Rattle.dns_server.specs.declared.worker.Tally.{Tally}
+use Rattle.dns_server.specs.declared.worker.Turned.{Turned}
+use Rattle.dns_server.specs.declared.worker.Turned.TheVariants as turned
+use Rattle.dns_server.specs.declared.worker.WorkEnd.{WorkEnd}
+use Rattle.dns_server.specs.Tally.{TurnEnds, IsIdle, tallied, missed, hungered}
+use Rattle.dns_server.specs.WatchTurn.{WatchTurn, published_by}
+use Rattle.dns_server.specs.Worker.{IsBy, TakesOne, AddsTurn, last_row, HasNoLongRow, AreTurns, PinsFrom, KeepsPace, WorkerRun}
 
 total-push : (count : Turn → ℕ) (turns : List Turn) (turn : Turn) → total count (turns ++ turn ∷ []) ≡ total count turns + count turn
 total-push count [] turn = omega arith
@@ -99,18 +105,59 @@ abbrev pub one_if : Bool → ℕ
 one_if true = 1
 one_if false = 0
 
--- what a worker did since its side's journal stood at old
-pub record HasWorked (bundles : List Bundle) (default_port serial : ℕ) (old new : Option (List Mark)) (pins starving failures : ℕ) (hungry : Bool) : Type 0 where
+-- what is at most one number is at most a greater one
+all_below : (a b : ℕ) (numbers : List ℕ) → a ≤ b → AllByRecursion (λ n. n ≤ a) numbers → AllByRecursion (λ n. n ≤ b) numbers
+all_below a b [] le below = tt
+all_below a b (n ∷ numbers) le below = (omega (arith, le, below.0), all_below a b numbers le below.1)
+
+length-push : {A : Type 0} (items : List A) (item : A) → length (items ++ item ∷ []) ≡ length items + 1
+length-push [] item = refl
+length-push (i ∷ items) item = omega (arith, length-push items item)
+
+-- how many generations the looks published
+abbrev pub count_published : List WatchTurn → ℕ
+count_published [] = 0
+count_published (look ∷ looks) = length (published_by look) + count_published looks
+
+pace_none : (least : ℕ) (looks : List WatchTurn) → KeepsPace least looks []
+pace_none least [] = tt
+pace_none least (look ∷ looks) = tt
+
+-- a further turn, which pins no serial below all that the looks published
+pub pace-turn : (least : ℕ) (looks : List WatchTurn) (turns : List Turn) (turn : Turn) → KeepsPace least looks turns → ((low : ℕ) → low ≤ least + count_published looks → PinsFrom low turn)
+    → KeepsPace least looks (turns ++ turn ∷ [])
+pace-turn least [] [] turn pace from = (from least (omega arith), tt)
+pace-turn least (look ∷ looks) [] turn pace from = (from least (omega arith), pace_none (least + length (published_by look)) looks)
+pace-turn least [] (t ∷ turns) turn pace from = (pace.0, pace-turn least [] turns turn pace.1 from)
+pace-turn least (look ∷ looks) (t ∷ turns) turn pace from =
+    (pace.0, pace-turn (least + length (published_by look)) looks turns turn pace.1 (λ low le. from low (omega (arith, le))))
+
+-- a further look, where there was no turn without a look but the last
+pub pace-look : (least : ℕ) (looks : List WatchTurn) (look : WatchTurn) (turns : List Turn) → KeepsPace least looks turns → length turns ≤ length looks + 1 → KeepsPace least (looks ++ look ∷ []) turns
+pace-look least [] look [] pace few = tt
+pace-look least [] look (t ∷ []) pace few = (pace.0, tt)
+pace-look least [] look (t ∷ u ∷ turns) pace few = absurd (omega (arith, few))
+pace-look least (l ∷ looks) look [] pace few = tt
+pace-look least (l ∷ looks) look (t ∷ turns) pace few = (pace.0, pace-look (least + length (published_by l)) looks look turns pace.1 (omega (arith, few)))
+
+-- a turn by a bundle pins its serial
+from_by : (bundle : Bundle) (default_port serial : ℕ) (turn : Turn) → IsBy bundle default_port serial turn → (low : ℕ) → low ≤ serial → PinsFrom low turn
+from_by bundle default_port serial turn is low le = subst (AllByRecursion (λ n. low ≤ n)) (sym (serials_by bundle default_port serial turn is)) (le, tt)
+
+-- what a worker did since its side's journal stood at old, in so many rounds
+pub record HasWorked (bundles : List Bundle) (looks : List WatchTurn) (default_port rounds : ℕ) (old new : Option (List Mark)) (t : Tally) : Type 0 where
   pub turns : List Turn
   pub told : Adds old new (flat_map marks_of turns)
-  pub are : AreTurns bundles default_port pins starving turns
-  pub seen : AllByRecursion (λ n. n ≤ serial) (flat_map serials turns)
+  pub are : AreTurns bundles default_port t.pins t.starved turns
+  pub seen : AllByRecursion (λ n. n ≤ t.seen) (flat_map serials turns)
   pub no_row : HasNoLongRow 0 turns
-  pub row : last_row 0 turns + one_if hungry ≤ failures
-  pub whole : hungry ≡ false → last_row 0 turns ≡ failures
+  pub row : last_row 0 turns + one_if t.hungry ≤ t.failures
+  pub whole : t.hungry ≡ false → last_row 0 turns ≡ t.failures
+  pub pace : KeepsPace 0 looks turns
+  pub few : length turns ≤ rounds
 
-pub starts : {bundles : List Bundle} {default_port serial : ℕ} (a : Option (List Mark)) → HasWorked bundles default_port serial a a 0 0 0 false
-starts a = record {
+pub starts : {bundles : List Bundle} {default_port : ℕ} (a : Option (List Mark)) (t : Tally) → IsIdle t → HasWorked bundles [] default_port 0 a a t
+starts {bundles} {default_port} a t idle = subst (HasWorked bundles [] default_port 0 a a) (sym idle) (record {
   turns = [];
   told = adds-nothing a;
   are = record { lawful = tt; in_order = tt; datagrams_are = refl; wants_at_most = omega arith };
@@ -118,15 +165,18 @@ starts a = record {
   no_row = tt;
   row = omega arith;
   whole = λ e. refl;
-}
+  pace = tt;
+  few = omega arith;
+})
 
 -- a turn that took a datagram
-pub took : {bundles : List Bundle} {bundle : Bundle} {p s : ℕ} {a b c : Option (List Mark)} {pins starving failures want : ℕ} {hungry : Bool}
-    → slice_get bundles s ≡ Some bundle → HasWorked bundles p s a b pins starving failures hungry → Grows b c (TakesOne bundle p s want)
-    → HasWorked bundles p s a c (pins + 1) (starving + want) 0 false
-took {bundles} {bundle} {p} {s} {a} {b} {c} {pins} {starving} {failures} {want} {hungry} at w grows =
+takes : {bundles : List Bundle} {bundle : Bundle} {looks : List WatchTurn} {p s rounds : ℕ} {a b c : Option (List Mark)} {t : Tally} (want : ℕ)
+    → slice_get bundles s ≡ Some bundle → t.seen ≤ s → count_published looks ≤ s → HasWorked bundles looks p rounds a b t → Grows b c (TakesOne bundle p s want)
+    → HasWorked bundles looks p (rounds + 1) a c (record { pins = t.pins + 1; seen = s; starved = t.starved + want; failures = 0; hungry = false })
+takes {bundles} {bundle} {looks} {p} {s} {rounds} {a} {b} {c} {t} want at rises ahead w grows =
     let turn = grows.are.turn in
     let is = grows.are.by_bundle in
+    let below = all_below t.seen s (flat_map serials w.turns) rises w.seen in
     let same : flat_map marks_of w.turns ++ grows.marks ≡ flat_map marks_of (w.turns ++ turn ∷ []) =
     ap (λ (l : List Mark). flat_map marks_of w.turns ++ l) grows.are.told ∙ sym (marks-push w.turns turn) in
     let serials_are : flat_map serials (w.turns ++ turn ∷ []) ≡ flat_map serials w.turns ++ s ∷ [] =
@@ -136,14 +186,16 @@ took {bundles} {bundle} {p} {s} {a} {b} {c} {pins} {starving} {failures} {want} 
       told = subst (Adds a c) same (adds-then w.told grows.told);
       are = record {
         lawful = all-push (IsLawful bundles p) w.turns turn w.are.lawful (lawful_by bundles bundle p s turn at is);
-        in_order = rw serials_are (never_fall-push 0 s (flat_map serials w.turns) w.are.in_order w.seen (omega arith));
+        in_order = rw serials_are (never_fall-push 0 s (flat_map serials w.turns) w.are.in_order below (omega arith));
         datagrams_are = omega (arith, total-push datagrams w.turns turn, w.are.datagrams_are, datagrams_by bundle p s turn is);
         wants_at_most = omega (arith, total-push wants w.turns turn, w.are.wants_at_most, grows.are.wants_are);
       };
-      seen = rw serials_are (all-push (λ n. n ≤ s) (flat_map serials w.turns) s w.seen (omega arith));
+      seen = rw serials_are (all-push (λ n. n ≤ s) (flat_map serials w.turns) s below (omega arith));
       no_row = no_row_by 0 w.turns bundle p s turn w.no_row is;
       row = omega (arith, row_by 0 w.turns bundle p s turn is);
       whole = λ e. row_by 0 w.turns bundle p s turn is;
+      pace = pace-turn 0 looks w.turns turn w.pace (λ low le. from_by bundle p s turn is low (omega (arith, le, ahead)));
+      few = omega (arith, length-push w.turns turn, w.few);
     }
 
 -- the journal behind a receive that failed
@@ -165,23 +217,28 @@ failed_seen s turns seen =
     let same : flat_map serials (turns ++ failed ∷ []) ≡ flat_map serials turns = serials-push turns failed ∙ append-nil (flat_map serials turns) in
     rw same seen
 
+failed_pace : (looks : List WatchTurn) (turns : List Turn) → KeepsPace 0 looks turns → KeepsPace 0 looks (turns ++ failed ∷ [])
+failed_pace looks turns pace = pace-turn 0 looks turns failed pace (λ low le. tt)
+
 -- a receive that failed, where the row is not long yet
-pub fails : {bundles : List Bundle} {p s : ℕ} {a b c : Option (List Mark)} {pins starving failures : ℕ} {hungry : Bool}
-    → HasWorked bundles p s a b pins starving failures hungry → Adds b c (RecvFailed ∷ []) → failures + 1 < 64
-    → HasWorked bundles p s a c pins starving (failures + 1) hungry
-fails {s} {failures} {hungry} w adds few = record {
+fails : {bundles : List Bundle} {looks : List WatchTurn} {p rounds : ℕ} {a b c : Option (List Mark)} {t : Tally}
+    → HasWorked bundles looks p rounds a b t → Adds b c (RecvFailed ∷ []) → t.failures + 1 < 64
+    → HasWorked bundles looks p (rounds + 1) a c (missed t)
+fails {looks = looks} {t = t} w adds few = record {
   turns = w.turns ++ failed ∷ [];
   told = failed_told w.turns w.told adds;
   are = failed_are w.turns w.are;
-  seen = failed_seen s w.turns w.seen;
+  seen = failed_seen t.seen w.turns w.seen;
   no_row = no_row_failed 0 w.turns w.no_row (omega (arith, w.row));
   row = omega (arith, w.row, row_failed 0 w.turns);
   whole = λ e. let whole = w.whole e in omega (arith, whole, row_failed 0 w.turns);
+  pace = failed_pace looks w.turns w.pace;
+  few = omega (arith, length-push w.turns failed, w.few);
 }
 
 -- a receive that met want of memory
-pub hungers : {bundles : List Bundle} {p s : ℕ} {a b c : Option (List Mark)} {pins starving failures : ℕ} {hungry : Bool}
-    → HasWorked bundles p s a b pins starving failures hungry → Adds b c [] → HasWorked bundles p s a c pins (starving + 1) (failures + 1) true
+hungers : {bundles : List Bundle} {looks : List WatchTurn} {p rounds : ℕ} {a b c : Option (List Mark)} {t : Tally}
+    → HasWorked bundles looks p rounds a b t → Adds b c [] → HasWorked bundles looks p (rounds + 1) a c (missed (hungered t))
 hungers {a = a} {c = c} w adds = record {
   turns = w.turns;
   told = subst (Adds a c) (append-nil (flat_map marks_of w.turns)) (adds-then w.told adds);
@@ -190,85 +247,147 @@ hungers {a = a} {c = c} w adds = record {
   no_row = w.no_row;
   row = omega (arith, w.row);
   whole = λ e. absurd cc;
+  pace = w.pace;
+  few = omega (arith, w.few);
 }
 
+-- a worker's run that has ended, in so many rounds
+pub record Stopped (bundles : List Bundle) (looks : List WatchTurn) (p most rounds : ℕ) (a c : Option (List Mark)) (t : Tally) (end : WorkEnd) : Type 0 where
+  pub run : Grows a c (WorkerRun bundles looks p most t.pins t.seen t.starved end)
+  pub few : length run.are.turns ≤ rounds
+
 -- the side's end
-pub ends_with : {bundles : List Bundle} {p s : ℕ} {a b c : Option (List Mark)} {pins starving failures : ℕ} {hungry : Bool} (most : ℕ)
-    → HasWorked bundles p s a b pins starving failures hungry → Adds b c (RecvEnd ∷ []) → pins ≤ most → Grows a c (WorkerRun bundles p most pins s starving ends.End)
+ends_with : {bundles : List Bundle} {looks : List WatchTurn} {p rounds : ℕ} {a b c : Option (List Mark)} {t : Tally} (most : ℕ)
+    → HasWorked bundles looks p rounds a b t → Adds b c (RecvEnd ∷ []) → t.pins ≤ most → Stopped bundles looks p most (rounds + 1) a c t ends.End
 ends_with most w adds le = record {
-  marks = _;
-  told = adds-then w.told adds;
-  are = record { turns = w.turns; ending = RecvEnd ∷ []; told = refl; are = w.are; at_most = le; seen_all = w.seen; ends = (w.no_row, inl refl) };
+  run = record {
+    marks = _;
+    told = adds-then w.told adds;
+    are = record { turns = w.turns; ending = RecvEnd ∷ []; told = refl; are = w.are; at_most = le; seen_all = w.seen; pace = w.pace; ends = (w.no_row, inl refl) };
+  };
+  few = omega (arith, w.few);
 }
 
 -- the last datagram was taken
-pub takes_last : {bundles : List Bundle} {p s : ℕ} {a b : Option (List Mark)} {pins starving failures : ℕ} {hungry : Bool} (most : ℕ)
-    → HasWorked bundles p s a b pins starving failures hungry → pins ≤ most → most ≤ pins → Grows a b (WorkerRun bundles p most pins s starving ends.End)
-takes_last most w le ge = record {
-  marks = _;
-  told = w.told;
-  are = record {
-    turns = w.turns;
-    ending = [];
-    told = sym (append-nil (flat_map marks_of w.turns));
-    are = w.are;
-    at_most = le;
-    seen_all = w.seen;
-    ends = (w.no_row, inr (refl, omega arith));
+takes_last : {bundles : List Bundle} {looks : List WatchTurn} {p rounds : ℕ} {a b : Option (List Mark)} {t : Tally} (most : ℕ)
+    → HasWorked bundles looks p rounds a b t → t.pins ≡ most → Stopped bundles looks p most rounds a b t ends.End
+takes_last most w last = record {
+  run = record {
+    marks = _;
+    told = w.told;
+    are = record {
+      turns = w.turns;
+      ending = [];
+      told = sym (append-nil (flat_map marks_of w.turns));
+      are = w.are;
+      at_most = omega (arith, last);
+      seen_all = w.seen;
+      pace = w.pace;
+      ends = (w.no_row, inr (refl, last));
+    };
   };
+  few = w.few;
 }
 
 -- the 64th receive in a row failed, and none of them met want of memory
-pub fails_last : {bundles : List Bundle} {p s : ℕ} {a b c : Option (List Mark)} {pins starving failures : ℕ} (most : ℕ)
-    → HasWorked bundles p s a b pins starving failures false → Adds b c (RecvFailed ∷ []) → failures + 1 ≡ 64 → pins ≤ most
-    → Grows a c (WorkerRun bundles p most pins s starving ends.RecvFailed)
-fails_last {s = s} most w adds last le = record {
-  marks = _;
-  told = failed_told w.turns w.told adds;
-  are = record {
-    turns = w.turns ++ failed ∷ [];
-    ending = [];
-    told = sym (append-nil (flat_map marks_of (w.turns ++ failed ∷ [])));
-    are = failed_are w.turns w.are;
-    at_most = le;
-    seen_all = failed_seen s w.turns w.seen;
-    ends = (record { before = w.turns; last = refl; row = let whole = w.whole refl in omega (arith, whole); first = w.no_row }, refl);
+fails_last : {bundles : List Bundle} {looks : List WatchTurn} {p rounds : ℕ} {a b c : Option (List Mark)} {t : Tally} (most : ℕ)
+    → HasWorked bundles looks p rounds a b t → Adds b c (RecvFailed ∷ []) → t.failures + 1 ≡ 64 → t.hungry ≡ false → t.pins ≤ most
+    → Stopped bundles looks p most (rounds + 1) a c (missed t) ends.RecvFailed
+fails_last {looks = looks} {t = t} most w adds last fed le = record {
+  run = record {
+    marks = _;
+    told = failed_told w.turns w.told adds;
+    are = record {
+      turns = w.turns ++ failed ∷ [];
+      ending = [];
+      told = sym (append-nil (flat_map marks_of (w.turns ++ failed ∷ [])));
+      are = failed_are w.turns w.are;
+      at_most = le;
+      seen_all = failed_seen t.seen w.turns w.seen;
+      pace = failed_pace looks w.turns w.pace;
+      ends = (record { before = w.turns; last = refl; row = let whole = w.whole fed in omega (arith, whole, last); first = w.no_row }, refl);
+    };
   };
+  few = omega (arith, length-push w.turns failed, w.few);
 }
 
+one_of_true : (hungry : Bool) → hungry ≡ true → one_if hungry ≡ 1
+one_of_true hungry is = ap one_if is
+
 -- the 64th receive in a row failed, and one of them met want of memory
-pub fails_hungry : {bundles : List Bundle} {p s : ℕ} {a b c : Option (List Mark)} {pins starving failures : ℕ} (most : ℕ)
-    → HasWorked bundles p s a b pins starving failures true → Adds b c (RecvFailed ∷ []) → failures + 1 ≡ 64 → pins ≤ most
-    → Grows a c (WorkerRun bundles p most pins s starving ends.NoMemory)
-fails_hungry {s = s} most w adds last le = record {
-  marks = _;
-  told = failed_told w.turns w.told adds;
-  are = record {
-    turns = w.turns ++ failed ∷ [];
-    ending = [];
-    told = sym (append-nil (flat_map marks_of (w.turns ++ failed ∷ [])));
-    are = failed_are w.turns w.are;
-    at_most = le;
-    seen_all = failed_seen s w.turns w.seen;
-    ends = (no_row_failed 0 w.turns w.no_row (omega (arith, w.row)), refl);
+fails_hungry : {bundles : List Bundle} {looks : List WatchTurn} {p rounds : ℕ} {a b c : Option (List Mark)} {t : Tally} (most : ℕ)
+    → HasWorked bundles looks p rounds a b t → Adds b c (RecvFailed ∷ []) → t.failures + 1 ≡ 64 → t.hungry ≡ true → t.pins ≤ most
+    → Stopped bundles looks p most (rounds + 1) a c (missed t) ends.NoMemory
+fails_hungry {looks = looks} {t = t} most w adds last hungry le = record {
+  run = record {
+    marks = _;
+    told = failed_told w.turns w.told adds;
+    are = record {
+      turns = w.turns ++ failed ∷ [];
+      ending = [];
+      told = sym (append-nil (flat_map marks_of (w.turns ++ failed ∷ [])));
+      are = failed_are w.turns w.are;
+      at_most = le;
+      seen_all = failed_seen t.seen w.turns w.seen;
+      pace = failed_pace looks w.turns w.pace;
+      ends = (no_row_failed 0 w.turns w.no_row (omega (arith, w.row, last, one_of_true t.hungry hungry)), refl);
+    };
   };
+  few = omega (arith, length-push w.turns failed, w.few);
 }
 
 -- the 64th receive in a row met want of memory
-pub hungers_last : {bundles : List Bundle} {p s : ℕ} {a b c : Option (List Mark)} {pins starving failures : ℕ} {hungry : Bool} (most : ℕ)
-    → HasWorked bundles p s a b pins starving failures hungry → Adds b c [] → pins ≤ most → Grows a c (WorkerRun bundles p most pins s (starving + 1) ends.NoMemory)
+hungers_last : {bundles : List Bundle} {looks : List WatchTurn} {p rounds : ℕ} {a b c : Option (List Mark)} {t : Tally} (most : ℕ)
+    → HasWorked bundles looks p rounds a b t → Adds b c [] → t.pins ≤ most → Stopped bundles looks p most (rounds + 1) a c (missed (hungered t)) ends.NoMemory
 hungers_last most w adds le =
     let h = hungers w adds in
     record {
-      marks = _;
-      told = h.told;
-      are = record {
-        turns = h.turns;
-        ending = [];
-        told = sym (append-nil (flat_map marks_of h.turns));
-        are = h.are;
-        at_most = le;
-        seen_all = h.seen;
-        ends = (h.no_row, refl);
+      run = record {
+        marks = _;
+        told = h.told;
+        are = record {
+          turns = h.turns;
+          ending = [];
+          told = sym (append-nil (flat_map marks_of h.turns));
+          are = h.are;
+          at_most = le;
+          seen_all = h.seen;
+          pace = h.pace;
+          ends = (h.no_row, refl);
+        };
       };
+      few = h.few;
     }
+
+-- a turn that isn't the last
+pub goes_on : {bundles : List Bundle} {looks : List WatchTurn} {bundle : Bundle} {p s rounds : ℕ} {a b c : Option (List Mark)} {t : Tally} (most : ℕ) (turned : Turned)
+    → slice_get bundles s ≡ Some bundle → t.seen ≤ s → count_published looks ≤ s → HasWorked bundles looks p rounds a b t → Grows b c (AddsTurn bundle p s turned)
+    → TurnEnds most turned (tallied s turned t) None → HasWorked bundles looks p (rounds + 1) a c (tallied s turned t)
+goes_on {bundles} {looks} {p = p} {s = s} {rounds = rounds} {a = a} {c = c} {t = t} most turned.Answered at rises ahead w grows ends =
+    subst (λ (n : ℕ). HasWorked bundles looks p (rounds + 1) a c (record { pins = t.pins + 1; seen = s; starved = n; failures = 0; hungry = false })) (add-zero t.starved) (takes 0 at rises ahead w grows)
+goes_on most turned.Starved at rises ahead w grows ends = takes 1 at rises ahead w grows
+goes_on most turned.RecvFailed at rises ahead w grows ends = fails w (adds_just grows) ends
+goes_on most turned.RecvStarved at rises ahead w grows ends = hungers w (adds_just grows)
+goes_on most turned.RecvEnd at rises ahead w grows ends = absurd cc
+
+-- the last turn
+pub stops : {bundles : List Bundle} {looks : List WatchTurn} {bundle : Bundle} {p s rounds : ℕ} {a b c : Option (List Mark)} {t : Tally} (most : ℕ) (turned : Turned) (end : WorkEnd)
+    → slice_get bundles s ≡ Some bundle → t.seen ≤ s → count_published looks ≤ s → t.pins < most → HasWorked bundles looks p rounds a b t → Grows b c (AddsTurn bundle p s turned)
+    → TurnEnds most turned (tallied s turned t) (Some end)
+    → Stopped bundles looks p most (rounds + 1) a c (tallied s turned t) end
+stops {bundles} {looks} {p = p} {s = s} {rounds = rounds} {a = a} {c = c} {t = t} most turned.Answered ends.End at rises ahead more w grows last =
+    takes_last most (subst (λ (n : ℕ). HasWorked bundles looks p (rounds + 1) a c (record { pins = t.pins + 1; seen = s; starved = n; failures = 0; hungry = false })) (add-zero t.starved) (takes 0 at rises ahead w grows)) last
+stops most turned.Answered ends.RecvFailed at rises ahead more w grows last = absurd last
+stops most turned.Answered ends.NoMemory at rises ahead more w grows last = absurd last
+stops most turned.Starved ends.End at rises ahead more w grows last = takes_last most (takes 1 at rises ahead w grows) last
+stops most turned.Starved ends.RecvFailed at rises ahead more w grows last = absurd last
+stops most turned.Starved ends.NoMemory at rises ahead more w grows last = absurd last
+stops most turned.RecvFailed ends.End at rises ahead more w grows last = absurd last
+stops most turned.RecvFailed ends.RecvFailed at rises ahead more w grows last = fails_last most w (adds_just grows) last.0 last.1 (omega (arith, more))
+stops most turned.RecvFailed ends.NoMemory at rises ahead more w grows last = fails_hungry most w (adds_just grows) last.0 last.1 (omega (arith, more))
+stops most turned.RecvStarved ends.End at rises ahead more w grows last = absurd last
+stops most turned.RecvStarved ends.RecvFailed at rises ahead more w grows last = absurd (let fed = last.1 in cc)
+stops most turned.RecvStarved ends.NoMemory at rises ahead more w grows last = hungers_last most w (adds_just grows) (omega (arith, more))
+stops most turned.RecvEnd ends.End at rises ahead more w grows last = ends_with most w (adds_just grows) (omega (arith, more))
+stops most turned.RecvEnd ends.RecvFailed at rises ahead more w grows last = absurd cc
+stops most turned.RecvEnd ends.NoMemory at rises ahead more w grows last = absurd cc

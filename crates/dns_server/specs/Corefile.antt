@@ -51,13 +51,15 @@ body_line [] = body.Unbuilt
 body_line (word ∷ words) =
     if word.brace then (if is_text word (codes "}") then alone words body.End else body.Unbuilt)
     else if is_text word (codes "whoami") then alone words body.Whoami
-    else if is_text word (codes "reload") then body.Unbuilt
+    else if is_text word (codes "reload") then alone words body.Reload
     else body.Unknown
 
 -- what a line of this number says behind a block's earlier lines; `behind` is what the lines behind it say of a block
 abbrev pub line_says : Block → BodyLine → ℕ → List WordLine → (Block → Result Block Refusal) → Result Block Refusal
+line_says block body.Reload number lines behind =
+    if block.reload then Err refusal.Unbuilt else behind (record { port = block.port; reload = true; whoami = block.whoami })
 line_says block body.Whoami number lines behind =
-    if block.whoami then Err refusal.Unbuilt else behind (record { port = block.port; whoami = true })
+    if block.whoami then Err refusal.Unbuilt else behind (record { port = block.port; reload = block.reload; whoami = true })
 line_says block body.End number [] behind = Ok block
 line_says block body.End number (other ∷ others) behind = Err refusal.Unbuilt
 line_says block body.Unknown number lines behind = Err (refusal.Unknown number)
@@ -71,7 +73,7 @@ body_says block (line ∷ lines) = line_says block (body_line line.words) line.n
 -- what the lines behind a header with this port say
 abbrev pub block_says : Option ℕ → List WordLine → Result Block Refusal
 block_says None lines = Err refusal.Unbuilt
-block_says (Some port) lines = body_says (record { port = port; whoami = false }) lines
+block_says (Some port) lines = body_says (record { port = port; reload = false; whoami = false }) lines
 
 -- a Corefile with this block, unless that is refused
 abbrev pub with_block : Result Block Refusal → Result Corefile Refusal

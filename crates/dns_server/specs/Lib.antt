@@ -3,8 +3,16 @@ pub mod Command
 pub mod Corefile
 pub mod Whoami
 pub mod Serve
+pub mod Generation
+pub mod Messages
 pub mod Turn
-pub mod Worker
+pub mod Tally
 pub mod Opening
+pub mod Look
+pub mod WatchTurn
+pub mod Watcher
+pub mod Worker
+pub mod Rounds
+pub mod WatchRun
 pub mod Report
 pub mod Telling

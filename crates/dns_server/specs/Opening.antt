@@ -1,10 +1,10 @@
--- The opening of a run: the reads that give the first bundle, and its publication. This server's own rule.
+-- The opening of a run: the read that gives the first bundle, and the sides that it wants. This server's own rule.
 use Rattle.std.specs.Prelude.{◌≡◌, ◌⊎◌, ℕ, List, [], ◌∷◌, Option, Some, None, Result, Ok, Err}
 use Rattle.dns_data.specs.declared.message.Transport.TheVariants.{Udp}
 use Rattle.outside.specs.declared.watch.ReadOut.{ReadOut}
 use Rattle.outside.specs.declared.watch.ReadOut.TheVariants as readout
 use Rattle.outside.specs.declared.mark.WatchMark.{WatchMark}
-use Rattle.outside.specs.declared.mark.WatchMark.TheVariants.{Read, Published}
+use Rattle.outside.specs.declared.mark.WatchMark.TheVariants.{Read}
 use Rattle.outside.specs.Causes.{Rose}
 use Rattle.outside.specs.Hosts.{OpenedSide}
 use Rattle.outside.specs.WatchMarks.{WatchState, AddsWatch}
@@ -23,12 +23,6 @@ use Rattle.dns_server.specs.Serve.{IsAccepted, IsChain}
 pub record IsOneRead (conf : List ℕ) (journal : List WatchMark) : Type 0 where
   pub out : ReadOut
   pub is : journal ≡ Read conf out ∷ []
-
--- the watch's journal: the read that gave the first bundle and its publication, or at most that read
-abbrev pub OpensWith : List ℕ → List Bundle → List WatchMark → Type 0
-OpensWith conf [] journal = (journal ≡ []) ⊎ IsOneRead conf journal
-OpensWith conf (bundle ∷ []) journal = journal ≡ Read conf (readout.Got bundle.conf) ∷ Published 0 ∷ []
-OpensWith conf (bundle ∷ other ∷ others) journal = ⊥
 
 -- the sides of a Corefile: one for the port of its block
 abbrev pub endpoints_of : Option Block → List OpenedSide

@@ -1,6 +1,6 @@
 -- What a run reports: how each side worked, what was published, and the cause of its status. This server's own rule.
-use Rattle.std.specs.Prelude.{◌≡◌, ◌<◌, ◌≢◌, ◌⊎◌, ℕ, List, [], ◌∷◌, length, map, Option, None, IfSome, option_map}
-use Rattle.std.specs.List.{AllByRecursion}
+use Rattle.std.specs.Prelude.{◌≡◌, ◌<◌, ◌≢◌, ◌⊎◌, ℕ, List, [], ◌∷◌, ◌++◌, length, map, Option, None, IfSome, option_map}
+use Rattle.std.specs.List.{flat_map, AllByRecursion}
 use Rattle.outside.specs.declared.mark.Mark.{Mark}
 use Rattle.outside.specs.declared.mark.WatchMark.{WatchMark}
 use Rattle.outside.specs.declared.mark.WatchMark.TheVariants.{Read}
@@ -8,7 +8,7 @@ use Rattle.outside.specs.declared.watch.ReadOut.{ReadOut}
 use Rattle.outside.specs.declared.watch.ReadOut.TheVariants as readout
 use Rattle.outside.specs.Causes.{Rose, RoseBy, SideCounts, HostCounts}
 use Rattle.outside.specs.Hosts.{HostTold, OpenedSide, AddsHost}
-use Rattle.outside.specs.WatchMarks.{WatchState}
+use Rattle.outside.specs.WatchMarks.{WatchState, AddsWatch}
 use Rattle.dns_server.specs.declared.corefile.Bundle.{Bundle}
 use Rattle.dns_server.specs.declared.corefile.Corefile.{Corefile}
 use Rattle.dns_server.specs.declared.first.FirstFault.{FirstFault}
@@ -21,7 +21,10 @@ use Rattle.dns_server.specs.declared.worker.WorkEnd.{WorkEnd}
 use Rattle.dns_server.specs.declared.worker.WorkEnd.TheVariants as ends
 use Rattle.dns_server.specs.Command.{CommandData, IsCommand}
 use Rattle.dns_server.specs.Corefile.{IsCorefile}
-use Rattle.dns_server.specs.Opening.{OpensWith, OpensSides, Refuses}
+use Rattle.dns_server.specs.Opening.{OpensSides, Refuses}
+use Rattle.dns_server.specs.Rounds.{EndsWatch}
+use Rattle.dns_server.specs.WatchRun.{WatchRun}
+use Rattle.dns_server.specs.WatchTurn.{WatchTurn, watch_marks, bundles_of, all_wants, AreLooks}
 use Rattle.dns_server.specs.Worker.{WorkerRun}
 
 -- a side's journal where it tells one, its counts, how its worker ended, its pins, the last serial that it has seen, and
@@ -53,29 +56,41 @@ run_data journal counts state how sides watch published starved =
 
 -- a side that tells its journal tells a worker's run by the published bundles; a worker that could not receive met 64
 -- failing calls
-pub record TellsRun (bundles : List Bundle) (default_port most : ℕ) (side : SideRun) : Type 0 where
-  pub run : IfSome side.journal (WorkerRun bundles default_port most side.pins side.seen side.starved side.end)
+pub record TellsRun (bundles : List Bundle) (looks : List WatchTurn) (default_port most : ℕ) (side : SideRun) : Type 0 where
+  pub run : IfSome side.journal (WorkerRun bundles looks default_port most side.pins side.seen side.starved side.end)
   pub seen : side.seen < length bundles
   pub failed : side.end ≡ ends.RecvFailed → RoseBy 64 0 side.counts.recv
+
+-- a side and a watch that have ended behind the first publication: these looks, and the side's run by them
+pub record Finishes (conf : List ℕ) (default_port most : ℕ) (first : Bundle) (before after : WatchState) (published starving : ℕ) (side : SideRun) : Type 0 where
+  pub looks : List WatchTurn
+  pub ending : List WatchMark
+  pub told : AddsWatch before after (flat_map (watch_marks conf) looks ++ ending)
+  pub are : AreLooks conf default_port (first ∷ []) looks
+  pub ends : EndsWatch default_port (bundles_of first looks) ending
+  pub count : length (bundles_of first looks) ≡ published
+  pub wants : RoseBy (all_wants looks) 0 starving
+  pub tells : TellsRun (bundles_of first looks) looks default_port most side
 
 -- each published bundle is accepted
 pub record IsServed (default_port : ℕ) (bundle : Bundle) : Type 0 where
   pub corefile : Corefile
   pub accepted : IsCorefile default_port bundle.conf corefile
 
--- a run by a command: one list of published bundles stands behind the watch's journal, the sides that were opened, and
--- each side's journal. The watch of a run that served is handed back.
+-- a run by a command: one list of published bundles stands behind the watch's looks, the sides that were opened, and each
+-- side's journal. The watch of a run that served is handed back.
 pub record ServesBy (command : CommandData) (default_port : ℕ) (run : RunData) (before after : Option HostTold) : Type 0 where
   pub bundles : List Bundle
   pub count : length bundles ≡ run.published
   pub accepted : AllByRecursion (IsServed default_port) bundles
   pub watch : run.published ≢ 0 → run.watch ≢ None
-  pub opening : IfSome run.watch (λ w. IfSome w.journal (OpensWith command.conf bundles))
+  pub looks : List WatchTurn
+  pub watched : WatchRun command.conf default_port bundles looks run.watch run.starved
   pub endpoints : List OpenedSide
   pub opened : OpensSides default_port bundles endpoints
   pub told : AddsHost before after [] endpoints
   pub one_each : length run.sides ≡ length endpoints
-  pub sides : AllByRecursion (TellsRun bundles default_port command.most) run.sides
+  pub sides : AllByRecursion (TellsRun bundles looks default_port command.most) run.sides
 
 -- no words are a command
 abbrev pub IsUsage : List (List ℕ) → Type 0
@@ -164,16 +179,16 @@ pub record IsByCommand (words : List (List ℕ)) (default_port : ℕ) (run : Run
   pub words_are : IsCommand words command
   pub runs : RunsCommand command default_port run told_before told_after before after
 
--- the status of a run with one side
-abbrev pub IsEndStatus : WorkEnd → ℕ → Status → Type 0
-IsEndStatus end starved status.Usage = ⊥
-IsEndStatus end starved (status.ReadFailed name) = ⊥
-IsEndStatus end starved status.OpenFailed = ⊥
-IsEndStatus end starved status.TellFailed = ⊥
-IsEndStatus end starved (status.Refused refusal) = ⊥
-IsEndStatus end starved status.NoMemory = Unit {0}
-IsEndStatus end starved status.WorkerFailed = (end ≡ ends.RecvFailed) × (starved ≡ 0)
-IsEndStatus end starved status.Ended = (end ≡ ends.End) × (starved ≡ 0)
+-- the status of a run with one side, by how its worker ended and how often the worker and the looks met want of memory
+abbrev pub IsEndStatus : WorkEnd → ℕ → ℕ → Status → Type 0
+IsEndStatus end starved looking status.Usage = ⊥
+IsEndStatus end starved looking (status.ReadFailed name) = ⊥
+IsEndStatus end starved looking status.OpenFailed = ⊥
+IsEndStatus end starved looking status.TellFailed = ⊥
+IsEndStatus end starved looking (status.Refused refusal) = ⊥
+IsEndStatus end starved looking status.NoMemory = Unit {0}
+IsEndStatus end starved looking status.WorkerFailed = (end ≡ ends.RecvFailed) × (starved ≡ 0) × (looking ≡ 0)
+IsEndStatus end starved looking status.Ended = (end ≡ ends.End) × (starved ≡ 0) × (looking ≡ 0)
 
 -- the status of a run without a first configuration
 abbrev pub IsFirstStatus : FirstFault → List ℕ → Status → Type 0

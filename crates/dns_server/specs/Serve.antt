@@ -1,10 +1,15 @@
--- What a datagram means under a configuration. This server's own rule; the wire format is RFC 1035, section 4.
-use Rattle.std.specs.Prelude.{◌≡◌, ◌≤◌, ◌<◌, ℕ, nat_eq, true, false, ◌&&◌, List, [], length, Option, Some, None, if◌then◌else◌}
+-- What a datagram means under a configuration. This server's own rule; the wire format is RFC 1035, section 4, and RFC 6891.
+use Rattle.std.specs.Prelude.{◌≡◌, ◌≤◌, ◌<◌, ◌⊎◌, ℕ, ◌+◌, ◌*◌, max, nat_eq, Bool, true, false, ◌&&◌, List, [], ◌∷◌, ◌++◌, length, replicate, Option, Some, None, option_map, is_some, if◌then◌else◌}
+use Rattle.std.specs.Int.{w16, to_be_bytes}
 use Rattle.dns_data.specs.Message.{MessageData, AnswerData}
+use Rattle.dns_data.specs.declared.message.Opt.{Opt}
+use Rattle.dns_data.specs.declared.message.Transport.{Transport}
+use Rattle.dns_data.specs.declared.message.Transport.TheVariants.{Udp, Tcp}
 use Rattle.dns_data.specs.declared.query.Query.{Query}
+use Rattle.dns_wire.specs.declared.fault.Head.{Head}
 use Rattle.dns_wire.specs.Wire.{flag_at}
-use Rattle.dns_wire.specs.Query.{SpellsQuery}
-use Rattle.dns_wire.specs.Written.{written}
+use Rattle.dns_wire.specs.Spells.{SpellsQuery, AsksElse, AsksNothing}
+use Rattle.dns_wire.specs.Written.{bit, written}
 use Rattle.outside.specs.declared.datagram.Datagram.{Datagram}
 use Rattle.outside.specs.declared.mark.Mark.{Mark}
 use Rattle.dns_server.specs.declared.corefile.Block.{Block}
@@ -13,37 +18,55 @@ use Rattle.dns_server.specs.declared.corefile.Corefile.{Corefile}
 use Rattle.dns_server.specs.declared.chain.Chain.{Chain}
 use Rattle.dns_server.specs.declared.serving.Served.{Served}
 use Rattle.dns_server.specs.declared.serving.Served.TheVariants.{Reply, Silent, NoMemory}
-use Rattle.dns_server.specs.declared.serving.Silence.TheVariants.{Short, Response, Unbuilt}
+use Rattle.dns_server.specs.declared.serving.Silence.TheVariants.{Short, Response}
 use Rattle.dns_server.specs.Corefile.{IsCorefile}
 use Rattle.dns_server.specs.Whoami.{whoami_of}
+
+-- the DO bit of an OPT record, clear where there is none
+abbrev pub dnssec_of : Option Opt → Bool
+dnssec_of None = false
+dnssec_of (Some opt) = opt.dnssec
 
 -- the query that a chain of plugins is asked
 abbrev pub query_of : Datagram → MessageData → Query
 query_of d m = record {
   name = m.question.name;
   kind = m.question.kind;
-  dnssec = false;
+  dnssec = dnssec_of m.opt;
   cd = m.cd;
   rd = m.rd;
-  edns = false;
+  edns = is_some m.opt;
   client = d.client;
   port = d.port;
   by = d.by;
   local = d.local;
 }
 
--- no block decides: REFUSED, without records
+-- an RCODE without records
+abbrev pub nothing : ℕ → AnswerData
+nothing rcode = record { rcode = rcode; aa = false; ra = false; tc = false; answer = []; authority = []; additional = [] }
+
+-- REFUSED (RFC 1035, section 4.1.1)
 abbrev pub refusal : AnswerData
-refusal = record { rcode = 5; aa = false; ra = false; tc = false; answer = []; authority = []; additional = [] }
+refusal = nothing 5
 
 -- the block on the port at which the query came answers it, where it holds `whoami`
 abbrev pub block_answer : Option Block → Query → AnswerData
 block_answer None q = refusal
 block_answer (Some block) q = if block.whoami && nat_eq block.port q.local then whoami_of q else refusal
 
--- the reply to a query of this id and class: its RD and CD and its question as they came; AD clear
-abbrev pub replying : ℕ → ℕ → Query → AnswerData → MessageData
-replying id class q a = record {
+-- a class other than IN is refused (RFC 1035, section 3.2.4)
+abbrev pub class_answer : ℕ → Option Block → Query → AnswerData
+class_answer class block q = if nat_eq class 1 then block_answer block q else refusal
+
+-- the OPT record of a reply to a query with this one: the payload size is 1232, the version 0, and DO the client's
+-- (RFC 6891, sections 6.1.1 and 6.2.3)
+abbrev pub opt_reply : ℕ → Option Opt → Option Opt
+opt_reply ext opt = option_map (λ (o : Opt). record { size = 1232; ext = ext; version = 0; dnssec = o.dnssec }) opt
+
+-- the reply to a query of this id, class and OPT record: its RD and CD and its question as they came; AD clear
+abbrev pub replying : ℕ → ℕ → Option Opt → Query → AnswerData → MessageData
+replying id class opt q a = record {
   id = id;
   qr = true;
   opcode = 0;
@@ -58,12 +81,31 @@ replying id class q a = record {
   answer = a.answer;
   authority = a.authority;
   additional = a.additional;
-  opt = None;
+  opt = opt;
 }
 
--- the reply to a datagram that is this message
-abbrev pub reply_to : Datagram → MessageData → AnswerData → MessageData
-reply_to d m a = replying m.id m.question.class (query_of d m) a
+-- whether the query has no OPT record or one of version 0
+abbrev pub is_known_version : Option Opt → Bool
+is_known_version None = true
+is_known_version (Some opt) = nat_eq opt.version 0
+
+-- the reply to a datagram that is this message: BADVERS for another version of EDNS (extended code 1), else what the
+-- Corefile's block answers
+abbrev pub reply_to : Option Block → Datagram → MessageData → MessageData
+reply_to block d m =
+    let q = query_of d m in
+    if is_known_version m.opt then replying m.id m.question.class (opt_reply 0 m.opt) q (class_answer m.question.class block q)
+    else replying m.id m.question.class (opt_reply 1 m.opt) q (nothing 0)
+
+-- as many bytes as a client takes over UDP: 512, or the size that it gives where that is larger (RFC 6891, section 6.2.3)
+abbrev pub payload : Option Opt → ℕ
+payload None = 512
+payload (Some opt) = max 512 opt.size
+
+-- as many bytes as a reply may have (RFC 1035, section 4.2)
+abbrev pub limit_of : Transport → Option Opt → ℕ
+limit_of Udp opt = payload opt
+limit_of Tcp opt = 65535
 
 -- a bundle's text is a Corefile with this meaning
 abbrev pub IsAccepted : Bundle → ℕ → Corefile → Type 0
@@ -75,14 +117,29 @@ pub record Replies (bundle : Bundle) (default_port : ℕ) (d : Datagram) (reply 
   pub accepted : IsAccepted bundle default_port corefile
   pub message : MessageData
   pub spells : SpellsQuery d.bytes message
-  pub bytes : reply ≡ written (reply_to d message (block_answer corefile.block (query_of d message)))
+  pub bytes : reply ≡ written (reply_to corefile.block d message) (limit_of d.by message.opt)
+
+-- a header alone: the id, QR, an opcode, RD and an RCODE
+unfoldable pub header_reply : ℕ → ℕ → Bool → ℕ → List ℕ
+header_reply id opcode rd rcode = to_be_bytes w16 id ++ (128 + 8 * opcode + bit rd) ∷ rcode ∷ replicate 8 0
+
+-- NOTIMP, with the opcode that came (RFC 1035, section 4.1.1)
+pub record RefusesOpcode (d : Datagram) (reply : List ℕ) : Type 0 where
+  pub head : Head
+  pub asks : AsksElse d.bytes head
+  pub bytes : reply ≡ header_reply head.id head.opcode head.rd 4
+
+-- FORMERR
+pub record RefusesForm (d : Datagram) (reply : List ℕ) : Type 0 where
+  pub head : Head
+  pub asks : AsksNothing d.bytes head
+  pub bytes : reply ≡ header_reply head.id 0 head.rd 1
 
 -- what a datagram means, and that its meaning takes no marks. Want of memory is always allowed.
 abbrev pub Serves : Bundle → ℕ → Datagram → List Mark → Served → Type 0
-Serves bundle default_port d marks (Reply reply) = (marks ≡ []) × Replies bundle default_port d reply
+Serves bundle default_port d marks (Reply reply) = (marks ≡ []) × (Replies bundle default_port d reply ⊎ RefusesOpcode d reply ⊎ RefusesForm d reply)
 Serves bundle default_port d marks (Silent Short) = (marks ≡ []) × (length d.bytes < 12)
 Serves bundle default_port d marks (Silent Response) = (marks ≡ []) × (12 ≤ length d.bytes) × (flag_at d.bytes 2 7 ≡ true)
-Serves bundle default_port d marks (Silent Unbuilt) = (marks ≡ []) × (12 ≤ length d.bytes) × (flag_at d.bytes 2 7 ≡ false) × ((m : MessageData) → SpellsQuery d.bytes m → ⊥)
 Serves bundle default_port d marks NoMemory = marks ≡ []
 
 -- a chain that was compiled of its bundle

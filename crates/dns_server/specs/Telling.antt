@@ -1,46 +1,13 @@
--- How a run's status is told: the line of each status, and what stands where it could not be told. This server's own rule.
-use Rattle.std.specs.Prelude.{◌≡◌, ◌⊎◌, ℕ, List, [], ◌∷◌, ◌++◌, Option, codes}
-use Rattle.std.specs.Fmt.{decimal}
-use Rattle.corefile_words.specs.declared.fault.WordsFault.{WordsFault}
-use Rattle.corefile_words.specs.declared.fault.WordsFault.TheVariants as words
+-- How a run's status is told, and what stands where its line could not be told. This server's own rule.
+use Rattle.std.specs.Prelude.{◌≡◌, ◌⊎◌, ℕ, List, [], ◌∷◌, Option}
 use Rattle.outside.specs.declared.datagram.Wrote.{Wrote}
 use Rattle.outside.specs.declared.datagram.Wrote.TheVariants as wrote
 use Rattle.outside.specs.Causes.{HostCounts, TellCause}
 use Rattle.outside.specs.Hosts.{HostTold, AddsHost, told_line}
-use Rattle.dns_server.specs.declared.corefile.CorefileFault.TheVariants.{Words}
-use Rattle.dns_server.specs.declared.report.Refusal.{Refusal}
-use Rattle.dns_server.specs.declared.report.Refusal.TheVariants as refusal
 use Rattle.dns_server.specs.declared.report.Status.{Status}
 use Rattle.dns_server.specs.declared.report.Status.TheVariants as status
+use Rattle.dns_server.specs.Messages.{status_text}
 use Rattle.dns_server.specs.Report.{RunData, IsRunOf}
-
--- a fault at a line of the Corefile
-abbrev pub at_line : ℕ → List ℕ → List ℕ
-at_line line what = codes "corefile line " ++ decimal line ++ what
-
-abbrev pub words_text : WordsFault → List ℕ
-words_text (words.NotText line) = at_line line (codes ": not UTF-8")
-words_text (words.OpenQuote line) = at_line line (codes ": open quote")
-words_text (words.QuoteTail line) = at_line line (codes ": text after quote")
-words_text words.NoMemory = codes "out of memory"
-
--- the text of a refusal
-abbrev pub refusal_text : Refusal → List ℕ
-refusal_text refusal.NoCorefile = codes "no corefile"
-refusal_text (refusal.Corefile (Words fault)) = words_text fault
-refusal_text (refusal.Unknown line) = at_line line (codes ": unknown directive")
-refusal_text refusal.Unbuilt = codes "not built yet"
-
--- the line of a status, without a line end. A run that ended has none, and where telling failed, nothing further is told.
-abbrev pub status_text : Status → List ℕ
-status_text status.Usage = codes "usage: dnschain serve --conf FILE [--port N] [--workers N] [--queries N], or dnschain load N"
-status_text (status.ReadFailed name) = codes "cannot read " ++ name
-status_text status.OpenFailed = codes "cannot open"
-status_text status.TellFailed = []
-status_text (status.Refused why) = refusal_text why
-status_text status.NoMemory = codes "out of memory"
-status_text status.WorkerFailed = codes "a worker could not receive"
-status_text status.Ended = []
 
 -- the status where its line could not be told: a cause that comes before serving stays
 abbrev pub untold : Status → Status

@@ -9,6 +9,7 @@ use corefile_words::{Word, WordLine};
 /// What a line behind a block's header is.
 #[derive(Clone, Copy)]
 pub(crate) enum BodyLine {
+    Reload,
     Whoami,
     /// The `}` of the block.
     End,
@@ -35,16 +36,23 @@ pub(crate) fn read_lines(lines: &[WordLine], default_port: u16) -> Result<Corefi
 
 // The block of a port whose lines behind the header are these.
 fn read_body(lines: &[WordLine], port: u16) -> Result<Block, Refusal>
-    ensures value { result ≡ body_says (record { port = port; whoami = false }) lines.now }
+    ensures value { result ≡ body_says (record { port = port; reload = false; whoami = false }) lines.now }
     ensures of_text { IfErr result IsOfText }
 {
     let mut block = Block {
         port,
+        reload: false,
         whoami: false,
     };
     let mut rest = lines;
     while let Some((line, behind)) = rest.split_first() {
         match body_line(line.words.as_slice()) {
+            BodyLine::Reload => {
+                if block.reload {
+                    return Err(Refusal::Unbuilt);
+                }
+                block.reload = true;
+            }
             BodyLine::Whoami => {
                 if block.whoami {
                     return Err(Refusal::Unbuilt);
@@ -81,7 +89,7 @@ fn body_line(words: &[Word]) -> BodyLine
         return alone(others, BodyLine::Whoami);
     }
     if is_text(word, "reload") {
-        return BodyLine::Unbuilt;
+        return alone(others, BodyLine::Reload);
     }
     BodyLine::Unknown
 }

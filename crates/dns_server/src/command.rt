@@ -1,4 +1,4 @@
-ghost use Rattle.std.specs.Prelude.{ℕ, ◌↔◌, ◌≤◌, ◌^◌, IsTrue, IfSome, MatchOption};
+ghost use Rattle.std.specs.Prelude.{ℕ, ◌↔◌, ◌≤◌, ◌<◌, ◌^◌, IsTrue, IfSome, MatchOption};
 ghost use Rattle.dns_server.specs.Command.{CommandData, IsCommand, IsValue, LimitsQueries};
 
 use crate::number::read_number;
@@ -19,6 +19,7 @@ pub struct Command<'a> {
 pub fn read_command(words: &[Text]) -> Option<Command<'_>>
     ensures command { MatchOption result ((c : CommandData) → IsCommand words.now c → ⊥) (λ c. IsCommand words.now (record { conf = c.conf.now; most = c.most })) }
     ensures few { IfSome result (λ c. c.most ≤ 2 ^ 46) }
+    ensures some { IfSome result (λ c. 0 < c.most) }
 {
     let (serve, words) = words.split_first()?;
     let (option, words) = words.split_first()?;
@@ -40,6 +41,7 @@ pub fn read_command(words: &[Text]) -> Option<Command<'_>>
 fn read_queries(words: &[Text]) -> Option<u64>
     ensures queries { MatchOption result ((n : ℕ) → LimitsQueries words.now n → ⊥) (LimitsQueries words.now) }
     ensures few { IfSome result (λ n. n ≤ 2 ^ 46) }
+    ensures some { IfSome result (λ n. 0 < n) }
 {
     let Some((option, words)) = words.split_first() else {
         return Some(MOST_DATAGRAMS);

@@ -15,10 +15,11 @@ pub struct Bundle {
     pub conf: Bytes,
 }
 
-/// A block: its port, and whether it holds `whoami`.
+/// A block: its port, and whether it holds `reload` and `whoami`.
 #[derive(Clone, Copy, Debug, PartialEq, Eq)]
 pub struct Block {
     pub port: u16,
+    pub reload: bool,
     pub whoami: bool,
 }
 

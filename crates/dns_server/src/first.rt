@@ -35,7 +35,7 @@ pub fn read_first<W: Watch>(
 }
 
 // The chain of a bundle's bytes.
-fn chain_of(alloc: Global, conf: Bytes, default_port: u16) -> Result<Chain, FirstFault>
+pub(crate) fn chain_of(alloc: Global, conf: Bytes, default_port: u16) -> Result<Chain, FirstFault>
     ensures { MakesChain conf default_port result }
 {
     match read_corefile(alloc, conf.as_slice(), default_port) {

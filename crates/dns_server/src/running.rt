@@ -1,27 +1,29 @@
-ghost use Rattle.std.specs.Prelude.{◌≡◌, ◌≤◌, ◌<◌, ◌^◌, List, Some, option_map, slice_get};
-ghost use Rattle.outside.specs.Causes.{HostNoneFell};
+ghost use Rattle.std.specs.Prelude.{◌≡◌, ◌≤◌, ◌<◌, ◌^◌, false, option_map};
+ghost use Rattle.outside.specs.Causes.{HostNoneFell, WatchNoneFell};
 ghost use Rattle.outside.specs.Hosts.{IsFreshSide, IsFreshWatch};
-ghost use Rattle.dns_server.specs.declared.corefile.Bundle.{Bundle};
 ghost use Rattle.dns_server.specs.Serve.{IsChain};
-ghost use Rattle.dns_server.specs.Report.{RunsCommand, IsRunOf, IsEndStatus, IsFirstStatus, TellsRun, side_run, run_data, stopped_run};
+ghost use Rattle.dns_server.specs.Report.{Finishes, IsEndStatus, IsFirstStatus, IsRunOf, RunsCommand, run_data, side_run, stopped_run};
 ghost use Rattle.dns_server.specs.Telling.{IsToldRun};
 
-use crate::chain::Chain;
 use crate::command::{Command, read_command};
 use crate::first::{FirstFault, read_first};
+use crate::generation::Generations;
 use crate::report::{Done, Report, Status};
+use crate::rounds::serve_rounds;
 use crate::telling::tell_status;
-use crate::worker::{WorkEnd, Worker, work};
+use crate::watcher::Watcher;
+use crate::worker::{WorkEnd, Worker};
 use dns_data::{Copies, NoMemory, Text, Transport};
 use outside::{Host, OpenFault, Side, Watch};
 use std::alloc::Global;
+use std::sync::Wait;
 
 /// The port of keys that name none (RFC 1035, section 4.2).
 pub const DEFAULT_PORT: u16 = 53;
 
-/// Runs the command that the words ask for, over what the host opens, until all sides have ended, and tells the line of
-/// its status. The words are those behind the program's own name.
-pub fn run<H: Host>(alloc: Global, words: &[Text], host: &mut H) -> Report<H>
+/// Runs the command that the words ask for, over what the host opens, until its side has ended and no look comes any more,
+/// and tells the line of its status. The words are those behind the program's own name.
+pub fn run<R: Wait, H: Host>(rt: &R, alloc: Global, words: &[Text], host: &mut H) -> Report<H>
     ensures runs { IsToldRun words.now DEFAULT_PORT (run_data H.Side.journal H.Side.counts H.Watch.state result.status result.sides.items result.watch result.published result.starved) (H.told host.old) (H.told host.new) (H.counts host.old) (H.counts host.new) }
     ensures counts { HostNoneFell (H.counts host.old) (H.counts host.new) }
 {
@@ -31,7 +33,7 @@ pub fn run<H: Host>(alloc: Global, words: &[Text], host: &mut H) -> Report<H>
         watch,
         published,
         starved,
-    } = run_words(alloc, words, host);
+    } = run_words(rt, alloc, words, host);
     Report {
         status: tell_status(alloc, host, status),
         sides,
@@ -42,7 +44,7 @@ pub fn run<H: Host>(alloc: Global, words: &[Text], host: &mut H) -> Report<H>
 }
 
 // Runs the command that the words ask for, before its status is told.
-fn run_words<H: Host>(alloc: Global, words: &[Text], host: &mut H) -> Report<H>
+fn run_words<R: Wait, H: Host>(rt: &R, alloc: Global, words: &[Text], host: &mut H) -> Report<H>
     ensures runs { IsRunOf words.now DEFAULT_PORT (run_data H.Side.journal H.Side.counts H.Watch.state result.status result.sides.items result.watch result.published result.starved) (H.told host.old) (H.told host.new) (H.counts host.old) (H.counts host.new) }
     ensures counts { HostNoneFell (H.counts host.old) (H.counts host.new) }
 {
@@ -50,20 +52,22 @@ fn run_words<H: Host>(alloc: Global, words: &[Text], host: &mut H) -> Report<H>
         return stopped(alloc, Status::Usage, None);
     };
     match host.open_watch() {
-        Ok(watch) => run_command(alloc, command, host, watch),
+        Ok(watch) => run_command(rt, alloc, command, host, watch),
         Err(OpenFault::Failed) => stopped(alloc, Status::OpenFailed, None),
         Err(OpenFault::NoMemory) => stopped(alloc, Status::NoMemory, None),
     }
 }
 
 // Runs a command over a watch that was just opened.
-fn run_command<H: Host>(
+fn run_command<R: Wait, H: Host>(
+    rt: &R,
     alloc: Global,
     command: Command<'_>,
     host: &mut H,
     mut watch: H::Watch,
 ) -> Report<H>
     requires fresh { IsFreshWatch (H.Watch.state watch) }
+    requires some { 0 < command.most }
     requires most { command.most ≤ 2 ^ 46 }
     ensures runs { RunsCommand (record { conf = command.entry.conf.now; most = command.entry.most }) DEFAULT_PORT (run_data H.Side.journal H.Side.counts H.Watch.state result.status result.sides.items result.watch result.published result.starved) (H.told host.old) (H.told host.new) (H.counts host.old) (H.counts host.new) }
     ensures counts { HostNoneFell (H.counts host.old) (H.counts host.new) }
@@ -79,21 +83,24 @@ fn run_command<H: Host>(
     let Ok(mut sides) = Vec::with_capacity(alloc, 1) else {
         return stopped(alloc, Status::NoMemory, Some(watch));
     };
+    let Ok(mut generations) = Generations::new(alloc, chain) else {
+        return stopped(alloc, Status::NoMemory, Some(watch));
+    };
     let side = match host.open_side(block.port, Transport::Udp, 0) {
         Ok(side) => side,
         Err(OpenFault::Failed) => return stopped(alloc, Status::OpenFailed, Some(watch)),
         Err(OpenFault::NoMemory) => return stopped(alloc, Status::NoMemory, Some(watch)),
     };
     watch.saw_published(0);
-    let done = finish(alloc, side, &chain, command.most);
-    let status = end_status(done.end, done.starved);
+    let (done, watcher) = finish(rt, alloc, side, watch, command, &mut generations);
+    let status = end_status(done.end, done.starved, watcher.starved);
     sides.push(done).unwrap();
     Report {
         status,
         sides,
-        watch: Some(watch),
-        published: 1,
-        starved: 0,
+        watch: Some(watcher.watch),
+        published: generations.published(),
+        starved: watcher.starved,
     }
 }
 
@@ -123,30 +130,51 @@ fn status_of(alloc: Global, fault: FirstFault, conf: &Text) -> Status
     }
 }
 
-// Serves by a chain, as serial 0, until the side ends, which is then told to leave.
-fn finish<S: Side>(alloc: Global, side: S, chain: &Chain, most: u64) -> Done<S>
+// Serves by the first generation and those that looks publish, until the side has ended and no look comes any more.
+fn finish<R: Wait, S: Side, W: Watch>(
+    rt: &R,
+    alloc: Global,
+    side: S,
+    watch: W,
+    command: Command<'_>,
+    generations: &mut Generations,
+) -> (Done<S>, Watcher<W>)
     requires fresh { IsFreshSide (S.journal side) (S.counts side) }
-    requires chain { IsChain chain.now }
-    requires most { most ≤ 2 ^ 46 }
-    ensures { (bundles : List Bundle) → slice_get bundles 0 ≡ Some chain.now.bundle
-        → TellsRun bundles chain.now.default_port most (side_run S.journal S.counts result) }
+    requires chain { IsChain generations.old.chain }
+    requires first { generations.old.published ≡ 1 }
+    requires idle { generations.old.pinned ≡ false }
+    requires pins { generations.old.pins ≡ 0 }
+    requires some { 0 < command.most }
+    requires most { command.most ≤ 2 ^ 46 }
+    ensures finishes { Finishes command.entry.conf.now generations.old.chain.default_port command.entry.most generations.old.chain.bundle (W.state watch) (W.state result.1.watch) generations.new.published result.1.starved (side_run S.journal S.counts result.0) }
+    ensures counts { WatchNoneFell (W.state watch).counts (W.state result.1.watch).counts }
 {
     let mut worker = Worker::new(side);
-    let end = work(alloc, &mut worker, chain, 0, most);
-    worker.side.leave();
-    Done {
+    let mut watcher = Watcher { watch, starved: 0 };
+    let end = serve_rounds(
+        rt,
+        alloc,
+        &mut worker,
+        &mut watcher,
+        command.conf,
+        generations,
+        command.most,
+    );
+    let done = Done {
         side: worker.side,
         end,
-        pins: worker.pins,
-        seen: 0,
-        starved: worker.starved,
-    }
+        pins: worker.tally.pins,
+        seen: worker.tally.seen,
+        starved: worker.tally.starved,
+    };
+    (done, watcher)
 }
 
-fn end_status(end: WorkEnd, starved: u64) -> Status
-    ensures { IsEndStatus end starved result }
+// The status of a run, by how its worker ended and how often that and the looks met want of memory.
+fn end_status(end: WorkEnd, starved: u64, looking: u64) -> Status
+    ensures { IsEndStatus end starved looking result }
 {
-    if 0 < starved {
+    if 0 < starved || 0 < looking {
         return Status::NoMemory;
     }
     match end {

@@ -1,22 +1,33 @@
-ghost use Rattle.std.specs.Prelude.{◌≡◌, [], IfOk};
-ghost use Rattle.dns_server.specs.Serve.{Serves, IsChain, query_of, reply_to, replying, block_answer, refusal};
-ghost use Rattle.dns_server.specs.Whoami.{HasFewRecords};
+ghost use Rattle.std.specs.Prelude.{◌≡◌, ◌≤◌, ◌<◌, [], IfOk, option_map};
+ghost use Rattle.dns_server.specs.Serve.{Serves, IsChain, block_answer, class_answer, header_reply, is_known_version, limit_of, nothing, opt_reply, query_of, reply_to, replying};
 ghost use Rattle.dns_wire.specs.Written.{written};
 
 use crate::chain::Chain;
 use crate::corefile::Block;
 use crate::whoami::whoami_answer;
-use dns_data::{Answer, Bytes, Message, NoMemory, Query, Question, Seq};
-use dns_wire::{QueryFault, read_query, write_message};
+use dns_data::{Answer, Bytes, Message, NoMemory, Opt, Query, Question, Seq, Transport};
+use dns_wire::{Head, QueryFault, read_query, write_message};
 use outside::Datagram;
 use std::alloc::Global;
 
-/// Why a datagram gets no reply: fewer than 12 bytes, a response, or a form that is not built yet.
+// RCODEs (RFC 1035, section 4.1.1).
+const FORMERR: u8 = 1;
+
+const NOTIMP: u8 = 4;
+
+const REFUSED: u8 = 5;
+
+// The upper bits of BADVERS (RFC 6891, section 9).
+const BADVERS: u8 = 1;
+
+// The payload size in bytes that replies give (RFC 6891, section 6.2.5, and what networks carry whole).
+const PAYLOAD: u16 = 1232;
+
+/// Why a datagram gets no reply: fewer than 12 bytes, or a response.
 #[derive(Clone, Copy, Debug, PartialEq, Eq)]
 pub enum Silence {
     Short,
     Response,
-    Unbuilt,
 }
 
 /// What serving one datagram gives.
@@ -33,30 +44,103 @@ pub fn serve(alloc: Global, chain: &Chain, datagram: &Datagram) -> Served
     ensures { Serves chain.now.bundle chain.now.default_port datagram.now [] result }
 {
     match read_query(alloc, datagram.bytes.as_slice()) {
-        Ok(message) => match reply(alloc, chain, datagram, message) {
+        Ok(message) => match reply(alloc, chain.corefile.block, datagram, message) {
             Ok(bytes) => Served::Reply(bytes),
             Err(NoMemory) => Served::NoMemory,
         },
         Err(QueryFault::Short) => Served::Silent(Silence::Short),
         Err(QueryFault::Response) => Served::Silent(Silence::Response),
-        Err(QueryFault::Unbuilt) => Served::Silent(Silence::Unbuilt),
+        Err(QueryFault::NotImp(head)) => match header_reply(alloc, head, NOTIMP) {
+            Ok(bytes) => Served::Reply(bytes),
+            Err(NoMemory) => Served::NoMemory,
+        },
+        Err(QueryFault::FormErr(head)) => match header_reply(alloc, head, FORMERR) {
+            Ok(bytes) => Served::Reply(bytes),
+            Err(NoMemory) => Served::NoMemory,
+        },
         Err(QueryFault::NoMemory) => Served::NoMemory,
     }
 }
 
-// The reply to a message: what the block on the datagram's port answers.
+// A header alone, for a query that wasn't read.
+#[tactic(auto, unfolding(crate::specs::Serve::header_reply))]
+fn header_reply(alloc: Global, head: Head, rcode: u8) -> Result<Bytes, NoMemory>
+    requires { head.opcode < 16 }
+    ensures { IfOk result (λ bytes. bytes ≡ header_reply head.id head.opcode head.rd rcode) }
+{
+    let [high, low] = head.id.to_be_bytes();
+    let flags = 128 + 8 * head.opcode + u8::from(head.rd);
+    Bytes::from_slice(alloc, &[high, low, flags, rcode, 0, 0, 0, 0, 0, 0, 0, 0])
+}
+
+// The reply to a message.
 fn reply(
     alloc: Global,
-    chain: &Chain,
+    block: Option<Block>,
     datagram: &Datagram,
     message: Message,
 ) -> Result<Bytes, NoMemory>
-    ensures { IfOk result (λ bytes. bytes ≡ written (reply_to datagram.now message (block_answer chain.now.corefile.block (query_of datagram.now message)))) }
+    ensures { IfOk result (λ bytes. bytes ≡ written (reply_to block datagram.now message) (limit_of datagram.now.by message.opt)) }
 {
-    let (id, class) = (message.id, message.question.class);
+    let limit = limit_of(datagram.by, message.opt);
+    let reply = reply_to(alloc, block, datagram, message)?;
+    write_message(alloc, &reply, limit)
+}
+
+// The message that answers a message.
+fn reply_to(
+    alloc: Global,
+    block: Option<Block>,
+    datagram: &Datagram,
+    message: Message,
+) -> Result<Message, NoMemory>
+    ensures { IfOk result (λ reply. reply ≡ reply_to block datagram.now message) }
+{
+    let (id, class, opt) = (message.id, message.question.class, message.opt);
     let query = query_of(datagram, message);
-    let answer = block_answer(alloc, chain.corefile.block, &query)?;
-    write_message(alloc, &reply_to(id, class, query, answer))
+    if !is_known_version(opt) {
+        return Ok(replying(id, class, opt_reply(BADVERS, opt), query, nothing(alloc, 0)));
+    }
+    let answer = class_answer(alloc, class, block, &query)?;
+    Ok(replying(id, class, opt_reply(0, opt), query, answer))
+}
+
+// As many bytes as a reply may have.
+fn limit_of(by: Transport, opt: Option<Opt>) -> u32
+    ensures value { result ≡ limit_of by opt }
+    ensures range { (512 ≤ result) × (result ≤ 65535) }
+{
+    match by {
+        Transport::Tcp => 65_535,
+        Transport::Udp => match opt {
+            Some(opt) => u32::from(opt.size).max(512),
+            None => 512,
+        },
+    }
+}
+
+fn is_known_version(opt: Option<Opt>) -> bool
+    ensures { result ≡ is_known_version opt }
+{
+    match opt {
+        Some(opt) => opt.version == 0,
+        None => true,
+    }
+}
+
+// The OPT record of a reply, where the query had one.
+fn opt_reply(ext: u8, opt: Option<Opt>) -> Option<Opt>
+    ensures { result ≡ opt_reply ext opt }
+{
+    match opt {
+        Some(opt) => Some(Opt {
+            size: PAYLOAD,
+            ext,
+            version: 0,
+            dnssec: opt.dnssec,
+        }),
+        None => None,
+    }
 }
 
 // The query of a message, whose name is moved and not copied.
@@ -64,6 +148,10 @@ fn query_of(datagram: &Datagram, message: Message) -> Query
     ensures { result ≡ query_of datagram.now message }
 {
     let (cd, rd) = (message.cd, message.rd);
+    let (edns, dnssec) = match message.opt {
+        Some(opt) => (true, opt.dnssec),
+        None => (false, false),
+    };
     let Question {
         name,
         kind,
@@ -72,10 +160,10 @@ fn query_of(datagram: &Datagram, message: Message) -> Query
     Query {
         name,
         kind,
-        dnssec: false,
+        dnssec,
         cd,
         rd,
-        edns: false,
+        edns,
         client: datagram.client,
         port: datagram.port,
         by: datagram.by,
@@ -83,23 +171,36 @@ fn query_of(datagram: &Datagram, message: Message) -> Query
     }
 }
 
+fn class_answer(
+    alloc: Global,
+    class: u16,
+    block: Option<Block>,
+    query: &Query,
+) -> Result<Answer, NoMemory>
+    ensures { IfOk result (λ answer. answer ≡ class_answer class block query.now) }
+{
+    if class == 1 {
+        return block_answer(alloc, block, query);
+    }
+    Ok(nothing(alloc, REFUSED))
+}
+
 fn block_answer(alloc: Global, block: Option<Block>, query: &Query) -> Result<Answer, NoMemory>
-    ensures value { IfOk result (λ answer. answer ≡ block_answer block query.now) }
-    ensures few { IfOk result HasFewRecords }
+    ensures { IfOk result (λ answer. answer ≡ block_answer block query.now) }
 {
     match block {
         Some(block) if block.whoami && block.port == query.local => whoami_answer(alloc, query),
-        _ => Ok(refusal(alloc)),
+        _ => Ok(nothing(alloc, REFUSED)),
     }
 }
 
-// REFUSED, without records (RFC 1035, section 4.1.1).
-fn refusal(alloc: Global) -> Answer
-    ensures value { result ≡ refusal }
-    ensures few { HasFewRecords result }
+// An RCODE without records.
+fn nothing(alloc: Global, rcode: u8) -> Answer
+    requires { rcode < 16 }
+    ensures { result ≡ nothing rcode }
 {
     Answer {
-        rcode: 5,
+        rcode,
         aa: false,
         ra: false,
         tc: false,
@@ -109,9 +210,9 @@ fn refusal(alloc: Global) -> Answer
     }
 }
 
-// The message that answers a query of this id and class.
-fn reply_to(id: u16, class: u16, query: Query, answer: Answer) -> Message
-    ensures { result ≡ replying id class query answer }
+// The message that answers a query of this id, class and OPT record.
+fn replying(id: u16, class: u16, opt: Option<Opt>, query: Query, answer: Answer) -> Message
+    ensures { result ≡ replying id class opt query answer }
 {
     Message {
         id,
@@ -132,6 +233,6 @@ fn reply_to(id: u16, class: u16, query: Query, answer: Answer) -> Message
         answer: answer.answer,
         authority: answer.authority,
         additional: answer.additional,
-        opt: None,
+        opt,
     }
 }

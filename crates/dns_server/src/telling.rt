@@ -12,7 +12,7 @@ use std::fmt::{Display, Formatter, Write};
 
 impl Display for Refusal {
     ghost use Rattle.std.specs.Prelude.{Some};
-    ghost use Rattle.dns_server.specs.Telling.{refusal_text};
+    ghost use Rattle.dns_server.specs.Messages.{refusal_text};
 
     ghost output = { λ refusal. Some (refusal_text refusal) };
 
@@ -36,7 +36,7 @@ impl Display for Refusal {
 /// The line that tells a status. `Ended` and `TellFailed` have none.
 impl Display for Status {
     ghost use Rattle.std.specs.Prelude.{Some};
-    ghost use Rattle.dns_server.specs.Telling.{status_text};
+    ghost use Rattle.dns_server.specs.Messages.{status_text};
 
     ghost output = { λ how. Some (status_text how) };
 

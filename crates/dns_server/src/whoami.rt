@@ -1,5 +1,5 @@
-ghost use Rattle.std.specs.Prelude.{◌≡◌, ◌≤◌, ◌++◌, IfOk, OnOk, length};
-ghost use Rattle.dns_server.specs.Whoami.{whoami_of, service_name, service_records, address_data, HasFewRecords};
+ghost use Rattle.std.specs.Prelude.{◌≡◌, ◌++◌, IfOk, OnOk};
+ghost use Rattle.dns_server.specs.Whoami.{whoami_of, service_name, service_records, address_data};
 
 use dns_data::{
     Addr, Answer, Copies, Name, NoMemory, Query, Rdata, Record, Records, Seq, Transport,
@@ -8,10 +8,9 @@ use std::alloc::Global;
 
 /// Tells the client its own address, in an A or AAAA record at the query name, and its port, in an SRV record below it.
 /// Both have TTL 0.
-#[tactic(auto, using(crate::proofs::WhoamiLemmas::few_records), unfolding(crate::specs::Whoami::whoami_of))]
+#[tactic(auto, unfolding(crate::specs::Whoami::whoami_of))]
 pub fn whoami_answer(alloc: Global, query: &Query) -> Result<Answer, NoMemory>
     ensures value { IfOk result (λ answer. answer ≡ whoami_of query.now) }
-    ensures few { IfOk result HasFewRecords }
 {
     let mut additional = Seq::with_capacity(alloc, 2)?;
     additional.push(Record::new(query.name.copy(alloc)?, 1, 0, address(query.client)))?;

@@ -1,12 +1,12 @@
-ghost use Rattle.std.specs.Prelude.{◌≡◌, ◌≤◌, ◌<◌, ◌^◌, List, ◌∷◌, Some, slice_get};
+ghost use Rattle.std.specs.Prelude.{◌≡◌, ◌≤◌, ◌<◌, ◌+◌, ◌*◌, ◌-◌, ◌^◌, true, false, ◌∷◌};
 ghost use Rattle.outside.specs.declared.mark.Mark.TheVariants.{Got};
 ghost use Rattle.outside.specs.Marks.{Grows};
-ghost use Rattle.outside.specs.Causes.{NoneFell, Rose, RoseBy};
+ghost use Rattle.outside.specs.Causes.{NoneFell, Rose};
 ghost use Rattle.dns_server.specs.Serve.{IsChain};
-ghost use Rattle.dns_server.specs.Worker.{AddsTurn, IsIdle, WorkerRun};
-ghost use Rattle.dns_server.specs.declared.corefile.Bundle.{Bundle};
+ghost use Rattle.dns_server.specs.Tally.{DatagramEnds, IsIdle, RowEnds, missed, took};
+ghost use Rattle.dns_server.specs.Worker.{AddsTurn, IsOfDatagram, Pins, PinsBy, SendsServed, TakesTurn};
 
-use crate::chain::Chain;
+use crate::generation::Generations;
 use crate::serving::{Served, serve};
 use outside::{Datagram, Received, Seen, Side};
 use std::alloc::Global;
@@ -23,12 +23,13 @@ pub enum WorkEnd {
 /// How many calls of `recv` in a row may fail.
 pub const MOST_FAILURES: u64 = 64;
 
-/// A worker: its side, and what it has done so far.
-#[derive(Drop)]
-pub struct Worker<S: Side> {
-    pub side: S,
+/// What a worker counts.
+#[derive(Clone, Copy, Debug, PartialEq, Eq)]
+pub struct Tally {
     /// How many datagrams it took, each under a pin of its own.
     pub pins: u64,
+    /// The serial of its last pin, or 0.
+    pub seen: u64,
     /// In how many turns it met want of memory.
     pub starved: u64,
     /// How many of the last calls of `recv` in a row failed or met want of memory.
@@ -37,18 +38,62 @@ pub struct Worker<S: Side> {
     pub hungry: bool,
 }
 
+impl Tally {
+    // A datagram was taken under this serial. The last of `most` ends the worker.
+    fn took(&mut self, serial: u64, most: u64) -> Option<WorkEnd>
+        requires { self.old.pins < most }
+        ensures tally { self.new ≡ took serial self.old }
+        ensures end { DatagramEnds most self.new result }
+    {
+        self.pins += 1;
+        self.seen = serial;
+        self.failures = 0;
+        self.hungry = false;
+        if self.pins == most {
+            return Some(WorkEnd::End);
+        }
+        None
+    }
+
+    // A call of `recv` gave nothing. The 64th in a row ends the worker.
+    fn missed(&mut self) -> Option<WorkEnd>
+        requires { self.old.failures < 64 }
+        ensures tally { self.new ≡ missed self.old }
+        ensures end { RowEnds self.new result }
+    {
+        self.failures += 1;
+        if self.failures < MOST_FAILURES {
+            return None;
+        }
+        if self.hungry {
+            return Some(WorkEnd::NoMemory);
+        }
+        Some(WorkEnd::RecvFailed)
+    }
+}
+
+/// A worker: its side, and what it has counted so far.
+#[derive(Drop)]
+pub struct Worker<S: Side> {
+    pub side: S,
+    pub tally: Tally,
+}
+
 impl<S: Side> Worker<S> {
     /// A worker that has done nothing yet.
     pub fn new(side: S) -> Worker<S>
         ensures side { result.side ≡ side }
-        ensures idle { IsIdle result.pins result.starved result.failures result.hungry }
+        ensures idle { IsIdle result.tally }
     {
         Worker {
             side,
-            pins: 0,
-            starved: 0,
-            failures: 0,
-            hungry: false,
+            tally: Tally {
+                pins: 0,
+                seen: 0,
+                starved: 0,
+                failures: 0,
+                hungry: false,
+            },
         }
     }
 }
@@ -65,15 +110,53 @@ pub enum Turned {
     RecvEnd,
 }
 
-/// One turn: takes a datagram, pins the generation with this serial, serves, sends, and unpins.
-pub fn take_turn<S: Side>(alloc: Global, side: &mut S, chain: &Chain, serial: u64) -> Turned
-    requires { IsChain chain.now }
-    ensures told { Grows (S.journal side.old) (S.journal side.new) (AddsTurn chain.now.bundle chain.now.default_port serial result) }
+/// Takes a turn, counts it, and says how the worker ended where this was its last turn.
+pub fn work_once<S: Side>(
+    alloc: Global,
+    worker: &mut Worker<S>,
+    generations: &mut Generations,
+    most: u64,
+) -> Option<WorkEnd>
+    requires chain { IsChain generations.old.chain }
+    requires idle { generations.old.pinned ≡ false }
+    requires pins { generations.old.pins ≡ worker.old.tally.pins }
+    requires more { worker.old.tally.pins < most }
+    requires most { most ≤ 2 ^ 46 }
+    requires failures { worker.old.tally.failures < 64 }
+    requires starved { worker.old.tally.starved ≤ 65 * worker.old.tally.pins + worker.old.tally.failures }
+    ensures takes { TakesTurn generations.old most (S.journal worker.old.side) (S.journal worker.new.side) (S.counts worker.old.side) (S.counts worker.new.side) worker.old.tally worker.new.tally result }
+    ensures generations { Pins generations.old worker.new.tally.pins generations.new }
+    ensures later { NoneFell (S.counts worker.old.side) (S.counts worker.new.side) }
+{
+    let serial = generations.published() - 1;
+    match take_turn(alloc, &mut worker.side, generations) {
+        Turned::Answered => worker.tally.took(serial, most),
+        Turned::Starved => {
+            worker.tally.starved += 1;
+            worker.tally.took(serial, most)
+        }
+        Turned::RecvFailed => worker.tally.missed(),
+        Turned::RecvStarved => {
+            worker.tally.starved += 1;
+            worker.tally.hungry = true;
+            worker.tally.missed()
+        }
+        Turned::RecvEnd => Some(WorkEnd::End),
+    }
+}
+
+/// One turn: takes a datagram, pins the last generation, serves, sends, and unpins.
+pub fn take_turn<S: Side>(alloc: Global, side: &mut S, generations: &mut Generations) -> Turned
+    requires chain { IsChain generations.old.chain }
+    requires idle { generations.old.pinned ≡ false }
+    requires few { generations.old.pins < 2 ^ 46 }
+    ensures told { Grows (S.journal side.old) (S.journal side.new) (AddsTurn generations.old.chain.bundle generations.old.chain.default_port (generations.old.published - 1) result) }
     ensures later { NoneFell (S.counts side.old) (S.counts side.new) }
     ensures failed { result ≡ Turned.RecvFailed → Rose (S.counts side.old).recv (S.counts side.new).recv }
+    ensures generations { PinsBy generations.old result generations.new }
 {
     match side.recv() {
-        Received::Got(datagram) => answer(alloc, side, chain, serial, &datagram),
+        Received::Got(datagram) => answer(alloc, side, generations, &datagram),
         Received::End => Turned::RecvEnd,
         Received::Failed => Turned::RecvFailed,
         Received::NoMemory => Turned::RecvStarved,
@@ -84,83 +167,37 @@ pub fn take_turn<S: Side>(alloc: Global, side: &mut S, chain: &Chain, serial: u6
 fn answer<S: Side>(
     alloc: Global,
     side: &mut S,
-    chain: &Chain,
-    serial: u64,
+    generations: &mut Generations,
     datagram: &Datagram,
 ) -> Turned
-    requires { IsChain chain.now }
-    ensures told { Grows (S.journal side.old) (S.journal side.new) (λ marks. AddsTurn chain.now.bundle chain.now.default_port serial result (Got datagram.now ∷ marks)) }
+    requires chain { IsChain generations.old.chain }
+    requires idle { generations.old.pinned ≡ false }
+    requires few { generations.old.pins < 2 ^ 46 }
+    ensures told { Grows (S.journal side.old) (S.journal side.new) (λ marks. AddsTurn generations.old.chain.bundle generations.old.chain.default_port (generations.old.published - 1) result (Got datagram.now ∷ marks)) }
     ensures later { NoneFell (S.counts side.old) (S.counts side.new) }
+    ensures generations { Pins generations.old (generations.old.pins + 1) generations.new }
+    ensures datagram { IsOfDatagram result }
 {
+    let serial = generations.pin();
     side.saw(Seen::Pinned(serial));
-    match serve(alloc, chain, datagram) {
-        Served::Reply(bytes) => {
-            // A reply that didn't go out ends nothing: the client asks again.
-            let _ = side.send(bytes.as_slice());
-            side.saw(Seen::Unpinned(serial));
-            Turned::Answered
-        }
-        Served::Silent(_) => {
-            side.saw(Seen::Unpinned(serial));
-            Turned::Answered
-        }
-        Served::NoMemory => {
-            side.saw(Seen::Unpinned(serial));
-            Turned::Starved
-        }
-    }
+    let served = serve(alloc, generations.chain(), datagram);
+    let turned = send(side, served);
+    side.saw(Seen::Unpinned(serial));
+    generations.unpin();
+    turned
 }
 
-/// Serves until the side ends, `most` datagrams were taken, or 64 calls of `recv` in a row gave nothing.
-pub fn work<S: Side>(
-    alloc: Global,
-    worker: &mut Worker<S>,
-    chain: &Chain,
-    serial: u64,
-    most: u64,
-) -> WorkEnd
-    requires chain { IsChain chain.now }
-    requires idle { IsIdle worker.old.pins worker.old.starved worker.old.failures worker.old.hungry }
-    requires most { most ≤ 2 ^ 46 }
-    ensures told { (bundles : List Bundle) → slice_get bundles serial ≡ Some chain.now.bundle
-        → Grows (S.journal worker.old.side) (S.journal worker.new.side) (WorkerRun bundles chain.now.default_port most worker.new.pins serial worker.new.starved result) }
-    ensures later { NoneFell (S.counts worker.old.side) (S.counts worker.new.side) }
-    ensures failed { result ≡ WorkEnd.RecvFailed → RoseBy 64 (S.counts worker.old.side).recv (S.counts worker.new.side).recv }
-    ensures starved { result ≡ WorkEnd.NoMemory → 0 < worker.new.starved }
+// Sends the reply, where there is one. A reply that didn't go out ends nothing: the client asks again.
+fn send<S: Side>(side: &mut S, served: Served) -> Turned
+    ensures sends { SendsServed (S.journal side.old) (S.journal side.new) served result }
+    ensures later { NoneFell (S.counts side.old) (S.counts side.new) }
 {
-    while worker.pins < most {
-        match take_turn(alloc, &mut worker.side, chain, serial) {
-            Turned::Answered => {
-                worker.pins += 1;
-                worker.failures = 0;
-                worker.hungry = false;
-            }
-            Turned::Starved => {
-                worker.pins += 1;
-                worker.starved += 1;
-                worker.failures = 0;
-                worker.hungry = false;
-            }
-            Turned::RecvFailed => {
-                worker.failures += 1;
-                if worker.failures == MOST_FAILURES {
-                    return if worker.hungry {
-                        WorkEnd::NoMemory
-                    } else {
-                        WorkEnd::RecvFailed
-                    };
-                }
-            }
-            Turned::RecvStarved => {
-                worker.starved += 1;
-                worker.failures += 1;
-                worker.hungry = true;
-                if worker.failures == MOST_FAILURES {
-                    return WorkEnd::NoMemory;
-                }
-            }
-            Turned::RecvEnd => return WorkEnd::End,
+    match served {
+        Served::Reply(bytes) => {
+            let _ = side.send(bytes.as_slice());
+            Turned::Answered
         }
+        Served::Silent(_) => Turned::Answered,
+        Served::NoMemory => Turned::Starved,
     }
-    WorkEnd::End
 }

@@ -5,7 +5,11 @@ use std::test::Fail;
 
 fn block(port: u16, whoami: bool) -> Result<Corefile, ReadFault> {
     Ok(Corefile {
-        block: Some(Block { port, whoami }),
+        block: Some(Block {
+            port,
+            reload: false,
+            whoami,
+        }),
     })
 }
 
@@ -39,7 +43,7 @@ fn refuses_other_forms(rt: HostRuntime) -> Result<(), Fail> {
     let rows = [
         b". {\nwhoami whoami\n}\n".as_slice(),
         b". {\nwhoami\nwhoami\n}\n",
-        b". {\nreload\nwhoami\n}\n",
+        b". {\nreload\nwhoami\nreload\n}\n",
         b". {\nwhoami\n",
         b". {\nwhoami\n} {\n",
         b". {\nwhoami {\n}\n}\n",

@@ -1,43 +1,18 @@
-use Rattle.std.proofs.Common.{refl, []}
-use Rattle.outside.specs.Journals.{adds-then}
-use Rattle.outside.specs.Marks.{went}
-use Rattle.dns_server.specs.Turn.{replied, silenced, starved}
+use Rattle.std.proofs.Common.{◌≡◌, ◌-◌, ℕ, [], ◌∷◌, arith, ap, subst, ◌∙◌}
+use Rattle.outside.specs.declared.mark.Mark.TheVariants.{Pinned, Unpinned}
+use Rattle.outside.specs.Marks.{Adds}
+use Rattle.dns_server.specs.declared.chain.Chain.{Chain}
+use Rattle.dns_server.specs.Generation.{GenerationsData}
+use Rattle.dns_server.specs.Serve.{Serves}
+use Rattle.dns_server.proofs.Answering.{answered}
 use Rattle.dns_server.proofs.worker.answer.Goals as goal
 
-pub returns-in-Reply-clause-told : goal.returns-in-Reply-clause-told
-returns-in-Reply-clause-told g c =
-    let all = adds-then c.saw.ensures.told (adds-then c.send.ensures.told c.saw-in-Reply.ensures.told) in
-    record {
-      marks = _;
-      told = rw c.as_slice.ensures at all;
-      are = record {
-        turn = replied c.args.serial c.args.datagram.now [] c.in-Reply.bytes (went c.send.result);
-        told = refl;
-        by_bundle = (refl, c.in-Reply.ensures);
-        wants_are = refl;
-      };
-    }
-
-pub returns-in-Silent-clause-told : goal.returns-in-Silent-clause-told
-returns-in-Silent-clause-told g c = record {
-  marks = _;
-  told = adds-then c.saw.ensures.told c.saw-in-Silent.ensures.told;
-  are = record {
-    turn = silenced c.args.serial c.args.datagram.now [] c.in-Silent.field-0;
-    told = refl;
-    by_bundle = (refl, c.in-Silent.ensures);
-    wants_are = refl;
-  };
-}
-
-pub returns-in-NoMemory-clause-told : goal.returns-in-NoMemory-clause-told
-returns-in-NoMemory-clause-told g c = record {
-  marks = _;
-  told = adds-then c.saw.ensures.told c.saw-in-NoMemory.ensures.told;
-  are = record {
-    turn = starved c.args.serial c.args.datagram.now [];
-    told = refl;
-    by_bundle = (refl, c.in-NoMemory.ensures);
-    wants_are = refl;
-  };
-}
+pub returns-clause-told : goal.returns-clause-told
+returns-clause-told g c =
+    let serial : c.pin-serial.result ≡ c.args.generations.now.published - 1 = omega (arith, c.pin-serial.ensures.serial) in
+    let chain = c.chain.ensures ∙ ap (λ (x : GenerationsData). x.chain) c.pin-serial.ensures.pinned in
+    let serves = subst (λ (x : Chain). Serves x.bundle x.default_port c.args.datagram.now [] c.serve-served.result) chain c.serve-served.ensures in
+    let pinned = subst (λ (n : ℕ). Adds (g.S.Side.journal c.args.side.now) (g.S.Side.journal c.saw.new.self) (Pinned n ∷ [])) serial c.saw.ensures.told in
+    let unpinned = subst (λ (n : ℕ). Adds (g.S.Side.journal c.send-turned.new.side) (g.S.Side.journal c.saw-2.new.self) (Unpinned n ∷ [])) serial c.saw-2.ensures.told in
+    answered c.args.generations.now.chain.bundle c.args.generations.now.chain.default_port (c.args.generations.now.published - 1) c.args.datagram.now (g.S.Side.journal c.args.side.now) (g.S.Side.journal c.saw.new.self)
+    (g.S.Side.journal c.send-turned.new.side) (g.S.Side.journal c.saw-2.new.self) c.serve-served.result c.send-turned.result pinned serves c.send-turned.ensures.sends unpinned

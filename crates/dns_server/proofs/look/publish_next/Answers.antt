@@ -1,0 +1,20 @@
+use Rattle.std.proofs.Common.{◌≡◌, ℕ, List, ◌∷◌, rules, subst, ◌∙◌}
+use Rattle.outside.specs.declared.mark.WatchMark.TheVariants.{Published}
+use Rattle.outside.specs.WatchMarks.{AddsWatch}
+use Rattle.dns_server.specs.declared.looking.Looking.TheVariants as answer
+use Rattle.dns_server.specs.Look.{note_marks}
+use Rattle.dns_server.specs.Messages.{look_text}
+use Rattle.outside.specs.Journals.{watch-adds-then}
+use Rattle.dns_server.proofs.look.publish_next.Goals as goal
+
+pub returns-clause-publishes : goal.returns-clause-publishes
+returns-clause-publishes g c = record {
+  few = search rules;
+  serial_is = search rules;
+  replaces = record { published = search rules; pins = search rules; pinned = search rules; conf = search rules; port = search rules; is = search rules };
+  flag = c.note_line.ensures.notes.flag;
+  told =
+      let line : c.as_bytes.result.now ≡ look_text (answer.Published c.published-serial.result) = c.as_bytes.ensures.value ∙ c.in-Ok.ensures.ok in
+      subst (λ (l : List ℕ). AddsWatch (g.W.PatternMaker.state c.args.watch.now) (g.W.PatternMaker.state c.note_line.new.watch) (Published c.published-serial.result ∷ note_marks l c.note_line.ensures.notes.flag)) line
+      (watch-adds-then c.saw_published.ensures.told c.note_line.ensures.notes.told);
+}

@@ -1,0 +1,105 @@
+ghost use Rattle.std.specs.Prelude.{◌≡◌, ◌≤◌, ◌<◌, ◌+◌, ◌*◌, ◌^◌, false, IfNone};
+ghost use Rattle.outside.specs.Causes.{NoneFell, RoseBy, WatchNoneFell};
+ghost use Rattle.dns_server.specs.Rounds.{ServedRounds, WorksUnlessEnded, LooksUnlessEnded, end_of};
+ghost use Rattle.dns_server.specs.Serve.{IsChain};
+ghost use Rattle.dns_server.specs.Tally.{IsIdle};
+
+use crate::generation::Generations;
+use crate::watcher::{WatchEnd, Watcher, take_look};
+use crate::worker::{WorkEnd, Worker, work_once};
+use dns_data::Text;
+use outside::{Side, Watch};
+use std::alloc::Global;
+use std::sync::Wait;
+
+/// Serves in rounds of one turn of the side, until that has ended, and one look, until there are no more.
+pub fn serve_rounds<R: Wait, S: Side, W: Watch>(
+    rt: &R,
+    alloc: Global,
+    worker: &mut Worker<S>,
+    watcher: &mut Watcher<W>,
+    conf: &Text,
+    generations: &mut Generations,
+    most: u64,
+) -> WorkEnd
+    requires chain { IsChain generations.old.chain }
+    requires first { generations.old.published ≡ 1 }
+    requires idle { generations.old.pinned ≡ false }
+    requires pins { generations.old.pins ≡ 0 }
+    requires worker { IsIdle worker.old.tally }
+    requires some { 0 < most }
+    requires most { most ≤ 2 ^ 46 }
+    ensures serves { ServedRounds conf.now generations.old.chain.default_port most generations.old.chain.bundle (S.journal worker.old.side) (S.journal worker.new.side) (W.state watcher.old.watch) (W.state watcher.new.watch) generations.new.published watcher.new.starved result worker.new.tally.pins worker.new.tally.seen worker.new.tally.starved }
+    ensures later { NoneFell (S.counts worker.old.side) (S.counts worker.new.side) }
+    ensures counts { WatchNoneFell (W.state watcher.old.watch).counts (W.state watcher.new.watch).counts }
+    ensures failed { result ≡ WorkEnd.RecvFailed → RoseBy 64 (S.counts worker.old.side).recv (S.counts worker.new.side).recv }
+    ensures starved { result ≡ WorkEnd.NoMemory → 0 < worker.new.tally.starved }
+{
+    let mut worked = None;
+    let mut watched = None;
+    for _ in rt.forever() {
+        worked = work_unless_ended(alloc, worker, generations, most, worked);
+        watched = look_unless_ended(alloc, watcher, conf, generations, watched);
+        if let Some(end) = end_of(worked, watched) {
+            return end;
+        }
+    }
+    unreachable!()
+}
+
+// How the worker ended, once the watcher has ended too.
+fn end_of(worked: Option<WorkEnd>, watched: Option<WatchEnd>) -> Option<WorkEnd>
+    ensures { result ≡ end_of worked watched }
+{
+    match watched {
+        Some(_) => worked,
+        None => None,
+    }
+}
+
+// The turn of a side in a round. A side that has ended is told to leave, once.
+fn work_unless_ended<S: Side>(
+    alloc: Global,
+    worker: &mut Worker<S>,
+    generations: &mut Generations,
+    most: u64,
+    ended: Option<WorkEnd>,
+) -> Option<WorkEnd>
+    requires chain { IsChain generations.old.chain }
+    requires idle { generations.old.pinned ≡ false }
+    requires pins { generations.old.pins ≡ worker.old.tally.pins }
+    requires more { IfNone ended (worker.old.tally.pins < most) }
+    requires most { most ≤ 2 ^ 46 }
+    requires failures { IfNone ended (worker.old.tally.failures < 64) }
+    requires starved { worker.old.tally.starved ≤ 65 * worker.old.tally.pins + worker.old.tally.failures }
+    ensures works { WorksUnlessEnded generations.old generations.new most (S.journal worker.old.side) (S.journal worker.new.side) (S.counts worker.old.side) (S.counts worker.new.side) worker.old.tally worker.new.tally ended result }
+    ensures later { NoneFell (S.counts worker.old.side) (S.counts worker.new.side) }
+{
+    if ended.is_some() {
+        return ended;
+    }
+    let ended = work_once(alloc, worker, generations, most);
+    if ended.is_some() {
+        worker.side.leave();
+    }
+    ended
+}
+
+// The look in a round.
+fn look_unless_ended<W: Watch>(
+    alloc: Global,
+    watcher: &mut Watcher<W>,
+    conf: &Text,
+    generations: &mut Generations,
+    ended: Option<WatchEnd>,
+) -> Option<WatchEnd>
+    requires idle { generations.old.pinned ≡ false }
+    requires chain { IsChain generations.old.chain }
+    ensures looks { LooksUnlessEnded conf.now generations.old generations.new (W.state watcher.old.watch) (W.state watcher.new.watch) watcher.old.starved watcher.new.starved ended result }
+    ensures counts { WatchNoneFell (W.state watcher.old.watch).counts (W.state watcher.new.watch).counts }
+{
+    if ended.is_some() {
+        return ended;
+    }
+    take_look(alloc, watcher, conf, generations)
+}

@@ -1,0 +1,278 @@
+ghost use Rattle.std.specs.Prelude.{◌≡◌, ◌+◌, None};
+
+use crate::{Report, Status, run};
+use dns_data::{Addr, Bytes, NoMemory, Text, Transport};
+use outside::{
+    Datagram, FileSet, Host, Mark, OpenFault, SideScript, WatchMark, WatchScript, Wrote,
+};
+use outside_mem::{MemHost, MemSide, MemWatch};
+use std::alloc::Global;
+use std::sync::Wait;
+
+/// Words that serve by the Corefile of every host here.
+pub const SERVE: &str = "serve --conf /Corefile";
+
+/// From 127.0.0.1, port 4000, over UDP to port 53.
+pub fn datagram(alloc: Global, bytes: &[u8]) -> Result<Datagram, NoMemory> {
+    Ok(Datagram {
+        bytes: Bytes::from_slice(alloc, bytes)?,
+        client: Addr::V4(0x7f00_0001),
+        port: 4000,
+        by: Transport::Udp,
+        local: 53,
+    })
+}
+
+/// A script that gives these datagrams.
+pub fn gets(alloc: Global, queries: &[&[u8]]) -> Result<SideScript, NoMemory> {
+    let mut gets = Vec::new(alloc);
+    for query in queries {
+        gets.push(datagram(alloc, query)?)?;
+    }
+    Ok(SideScript::of_gets(alloc, gets))
+}
+
+/// A script that finds these Corefiles, the first at the start and one more at each look.
+pub fn finds(alloc: Global, corefiles: &[&[u8]]) -> Result<WatchScript, NoMemory> {
+    let mut looks = Vec::new(alloc);
+    for corefile in corefiles {
+        looks.push(FileSet::of_file(alloc, "/Corefile", corefile)?)?;
+    }
+    Ok(WatchScript::of_looks(alloc, looks))
+}
+
+/// A host of one side and a watch that follow these scripts.
+pub fn host_of(alloc: Global, watch: WatchScript, side: SideScript) -> Result<MemHost, NoMemory> {
+    let watch = MemWatch::new(alloc, watch)?;
+    let side = MemSide::new(alloc, side)?;
+    Ok(MemHost::new(alloc, vec![in alloc; side]?, watch))
+}
+
+/// A run over a host in memory, and that host.
+#[derive(Drop)]
+pub struct Observed {
+    pub report: Report<MemHost>,
+    pub host: MemHost,
+}
+
+/// A run by words that stand behind one another with a space between, over a host of these scripts.
+pub fn ran(
+    rt: &impl Wait,
+    alloc: Global,
+    words: &str,
+    watch: WatchScript,
+    side: SideScript,
+) -> Result<Observed, NoMemory> {
+    let mut host = host_of(alloc, watch, side)?;
+    let report = run_by(rt, alloc, words, &mut host)?;
+    Ok(Observed { report, host })
+}
+
+/// A run by one Corefile, with one datagram.
+pub fn ran_once(
+    rt: &impl Wait,
+    alloc: Global,
+    corefile: &[u8],
+    query: &[u8],
+) -> Result<Observed, NoMemory> {
+    let watch = finds(alloc, &[corefile])?;
+    let side = gets(alloc, &[query])?;
+    ran(rt, alloc, SERVE, watch, side)
+}
+
+/// A run by words that stand behind one another with a space between.
+pub fn run_by<H: Host>(
+    rt: &impl Wait,
+    alloc: Global,
+    words: &str,
+    host: &mut H,
+) -> Result<Report<H>, NoMemory> {
+    let mut texts = Vec::new(alloc);
+    if !words.is_empty() {
+        for word in words.split(' ') {
+            texts.push(Text::from_str(alloc, word)?)?;
+        }
+    }
+    Ok(run(rt, alloc, &texts, host))
+}
+
+impl Observed {
+    fn marks(&self) -> &[Mark] {
+        match self.report.sides.as_slice() {
+            [done] => done.side.journal().unwrap_or(&[]),
+            _ => &[],
+        }
+    }
+
+    fn watched(&self) -> &[WatchMark] {
+        match &self.report.watch {
+            Some(watch) => watch.journal().unwrap_or(&[]),
+            None => &[],
+        }
+    }
+
+    /// Whether the one side told marks of these letters, one each.
+    pub fn tells(&self, letters: &str) -> bool {
+        let mut left = letters.as_bytes().iter();
+        for mark in self.marks() {
+            match left.next() {
+                Some(letter) if *letter == letter_of(mark) => {}
+                _ => return false,
+            }
+        }
+        left.next().is_none()
+    }
+
+    /// Whether the watch told marks of these letters, one each.
+    pub fn watch_tells(&self, letters: &str) -> bool {
+        let mut left = letters.as_bytes().iter();
+        for mark in self.watched() {
+            match left.next() {
+                Some(letter) if *letter == watch_letter_of(mark) => {}
+                _ => return false,
+            }
+        }
+        left.next().is_none()
+    }
+
+    /// Whether the one side sent just these replies.
+    pub fn has_sent(&self, replies: &[&[u8]]) -> bool {
+        let mut left = replies.iter();
+        for mark in self.marks() {
+            if let Mark::Sent(reply, _) = mark {
+                match left.next() {
+                    Some(wanted) if reply.is(wanted) => {}
+                    _ => return false,
+                }
+            }
+        }
+        left.next().is_none()
+    }
+
+    /// Whether the one side sent this reply and no other, or none.
+    pub fn has_sent_once(&self, reply: Option<&[u8]>) -> bool {
+        match reply {
+            Some(reply) => self.has_sent(&[reply]),
+            None => self.has_sent(&[]),
+        }
+    }
+
+    /// Whether the watch noted just these lines.
+    pub fn has_noted(&self, lines: &[&str]) -> bool {
+        let mut left = lines.iter();
+        for mark in self.watched() {
+            if let WatchMark::Noted(line, _) = mark {
+                match left.next() {
+                    Some(wanted) if line.is(wanted.as_bytes()) => {}
+                    _ => return false,
+                }
+            }
+        }
+        left.next().is_none()
+    }
+
+    /// Whether this line, and no other, was told.
+    pub fn is_told(&self, text: &str) -> bool {
+        match self.host.lines() {
+            Some([line]) => line.line.is(text.as_bytes()) && line.out,
+            _ => false,
+        }
+    }
+
+    /// Whether no line was told.
+    pub fn is_silent(&self) -> bool {
+        matches!(self.host.lines(), Some([]))
+    }
+
+    /// The port of the one side that was opened.
+    pub fn port(&self) -> Option<u16> {
+        match self.host.opens() {
+            Some([open]) => Some(open.port),
+            _ => None,
+        }
+    }
+
+    /// The pins of the one side, the last serial that it saw, and how many generations were published.
+    pub fn counts(&self) -> (u64, u64, u64) {
+        match self.report.sides.as_slice() {
+            [done] => (done.pins, done.seen, self.report.published),
+            _ => (0, 0, self.report.published),
+        }
+    }
+
+    pub fn has_ended(&self) -> bool {
+        matches!(self.report.status, Status::Ended) && self.report.starved == 0
+    }
+}
+
+// S is a reply that went out, s one that didn't.
+fn letter_of(mark: &Mark) -> u8 {
+    match mark {
+        Mark::Got(_) => b'G',
+        Mark::Pinned(_) => b'P',
+        Mark::Sent(_, out) => { if *out { b'S' } else { b's' } }
+        Mark::Unpinned(_) => b'U',
+        Mark::RecvEnd => b'E',
+        Mark::RecvFailed => b'F',
+        _ => b'?',
+    }
+}
+
+fn watch_letter_of(mark: &WatchMark) -> u8 {
+    match mark {
+        WatchMark::Read(_, _) => b'R',
+        WatchMark::Published(_) => b'P',
+        WatchMark::Look(_, _) => b'L',
+        WatchMark::Noted(_, _) => b'N',
+        WatchMark::End => b'E',
+    }
+}
+
+/// A host over a host in memory, which can't open a watch, or can't tell a line. It tells nothing.
+#[derive(Drop)]
+pub struct DeafHost {
+    pub host: MemHost,
+    pub has_watch: bool,
+    open_faults: u64,
+    tell_faults: u64,
+}
+
+impl DeafHost {
+    pub fn new(host: MemHost, has_watch: bool) -> DeafHost {
+        DeafHost {
+            host,
+            has_watch,
+            open_faults: 0,
+            tell_faults: 0,
+        }
+    }
+}
+
+impl Host for DeafHost {
+    type Side = MemSide;
+
+    type Watch = MemWatch;
+
+    ghost told = { λ _. None };
+
+    ghost counts = { λ h. record { opens = (⟦<MemHost as Host>⟧.counts h.host).opens + h.open_faults; tells = h.tell_faults } };
+
+    ghost supply = { λ _. None };
+
+    fn open_watch(&mut self) -> Result<MemWatch, OpenFault> {
+        if !self.has_watch {
+            self.open_faults = self.open_faults.saturating_add(1);
+            return Err(OpenFault::Failed);
+        }
+        self.host.open_watch()
+    }
+
+    fn open_side(&mut self, port: u16, by: Transport, number: u32) -> Result<MemSide, OpenFault> {
+        self.host.open_side(port, by, number)
+    }
+
+    fn tell(&mut self, _line: &[u8]) -> Wrote {
+        self.tell_faults = self.tell_faults.saturating_add(1);
+        Wrote::Failed
+    }
+}

@@ -1,0 +1,57 @@
+ghost use Rattle.std.specs.Prelude.{◌≡◌, false, None};
+ghost use Rattle.outside.specs.Causes.{WatchNoneFell};
+ghost use Rattle.dns_server.specs.Serve.{IsChain};
+ghost use Rattle.dns_server.specs.Watcher.{TakesLook};
+
+use crate::generation::Generations;
+use crate::look::{look_once, reloads};
+use crate::looking::Looking;
+use dns_data::Text;
+use outside::{Look, Watch};
+use std::alloc::Global;
+
+/// How long a look waits, in milliseconds: an interval, and up to a jitter more.
+pub const INTERVAL: u64 = 30_000;
+
+pub const JITTER: u64 = 15_000;
+
+/// Why no further look for a changed configuration is made: the watch has ended, or what serves has no `reload`.
+#[derive(Clone, Copy, Debug, PartialEq, Eq)]
+pub enum WatchEnd {
+    End,
+    NoReload,
+}
+
+/// A watcher: its watch, and what it has counted so far.
+#[derive(Drop)]
+pub struct Watcher<W: Watch> {
+    pub watch: W,
+    /// How many looks met want of memory.
+    pub starved: u64,
+}
+
+/// Waits for the next look, and makes it, or says why there is none.
+pub fn take_look<W: Watch>(
+    alloc: Global,
+    watcher: &mut Watcher<W>,
+    conf: &Text,
+    generations: &mut Generations,
+) -> Option<WatchEnd>
+    requires idle { generations.old.pinned ≡ false }
+    requires chain { IsChain generations.old.chain }
+    ensures takes { TakesLook conf.now generations.old generations.new (W.state watcher.old.watch) (W.state watcher.new.watch) watcher.old.starved watcher.new.starved result }
+    ensures counts { WatchNoneFell (W.state watcher.old.watch).counts (W.state watcher.new.watch).counts }
+{
+    if !reloads(&generations.chain().corefile) {
+        return Some(WatchEnd::NoReload);
+    }
+    match watcher.watch.look(INTERVAL, JITTER) {
+        Look::Look => {
+            if let Looking::NoMemory = look_once(alloc, &mut watcher.watch, conf, generations) {
+                watcher.starved = watcher.starved.saturating_add(1);
+            }
+            None
+        }
+        Look::End => Some(WatchEnd::End),
+    }
+}

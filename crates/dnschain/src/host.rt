@@ -5,12 +5,14 @@ use crate::udp::UdpSide;
 use crate::watch::FileWatch;
 use dns_data::Transport;
 use outside::{Host, OpenFault, Wrote};
-use std::alloc::Global;
+use std::alloc::{AllocError, Global};
 use std::io;
 use std::io::ErrorKind;
 use std::net::{Ipv4Addr, Ipv6Addr, Net, SocketAddr, UdpSocket};
 use std::random::RandomSource;
 use std::rt::Files;
+use std::sync::Arc;
+use std::sync::atomic::AtomicU64;
 use std::time::Clock;
 
 /// The host over the system: UDP sockets at every address, files, standard output and standard error. It tells no lines,
@@ -19,6 +21,8 @@ use std::time::Clock;
 pub struct SystemHost<R: Net + Files + Clock + RandomSource + Print + Eprint + Copy + Send + Drop> {
     rt: R,
     alloc: Global,
+    // How many sides have not left yet, which the watch asks. It is made with the watch.
+    live: Option<Arc<AtomicU64, Global>>,
     open_faults: u64,
     tell_faults: u64,
 }
@@ -28,6 +32,7 @@ impl<R: Net + Files + Clock + RandomSource + Print + Eprint + Copy + Send + Drop
         SystemHost {
             rt,
             alloc,
+            live: None,
             open_faults: 0,
             tell_faults: 0,
         }
@@ -47,7 +52,14 @@ impl<R: Net + Files + Clock + RandomSource + Print + Eprint + Copy + Send + Drop
     ghost supply = { λ _. None };
 
     fn open_watch(&mut self) -> Result<FileWatch<R>, OpenFault> {
-        Ok(FileWatch::new(self.rt, self.alloc))
+        let Ok(live) = Arc::new(self.alloc, AtomicU64::new(0)) else {
+            return Err(OpenFault::NoMemory);
+        };
+        let Ok(asked) = Arc::try_clone(&live) else {
+            return Err(OpenFault::NoMemory);
+        };
+        self.live = Some(live);
+        Ok(FileWatch::new(self.rt, self.alloc, asked))
     }
 
     fn open_side(
@@ -56,8 +68,11 @@ impl<R: Net + Files + Clock + RandomSource + Print + Eprint + Copy + Send + Drop
         by: Transport,
         _number: u32,
     ) -> Result<UdpSide<R>, OpenFault> {
+        let Ok(live) = counter(&self.live, self.alloc) else {
+            return Err(OpenFault::NoMemory);
+        };
         match open_udp(&self.rt, port, by) {
-            Ok(socket) => match UdpSide::new(self.rt, self.alloc, socket, port) {
+            Ok(socket) => match UdpSide::new(self.rt, self.alloc, socket, port, live) {
                 Ok(side) => Ok(side),
                 Err(_) => Err(OpenFault::NoMemory),
             },
@@ -76,6 +91,17 @@ impl<R: Net + Files + Clock + RandomSource + Print + Eprint + Copy + Send + Drop
         }
         self.tell_faults = self.tell_faults.saturating_add(1);
         Wrote::Failed
+    }
+}
+
+// The counter that a side shares with the watch, or one of its own where no watch was opened.
+fn counter(
+    live: &Option<Arc<AtomicU64, Global>>,
+    alloc: Global,
+) -> Result<Arc<AtomicU64, Global>, AllocError> {
+    match live {
+        Some(live) => Arc::try_clone(live),
+        None => Ok(Arc::new(alloc, AtomicU64::new(0))?),
     }
 }
 

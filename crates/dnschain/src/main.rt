@@ -2,7 +2,9 @@
 //! with a number that says how the run ended: README.md.
 #![tactic(auto)]
 
+mod clock;
 mod host;
+mod kept;
 mod receive_buffer;
 mod udp;
 mod watch;
@@ -23,7 +25,7 @@ fn main(rt: HostRuntime) -> ExitCode {
     let words = words(&rt, alloc);
     let mut host = SystemHost::new(rt, alloc);
     let status = match words {
-        Ok(words) => run(alloc, words.as_slice(), &mut host).status,
+        Ok(words) => run(&rt, alloc, words.as_slice(), &mut host).status,
         Err(status) => tell_status(alloc, &mut host, status),
     };
     ExitCode::from(number_of(&status))

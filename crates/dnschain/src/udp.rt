@@ -1,10 +1,13 @@
 ghost use Rattle.std.specs.Prelude.{◌≡◌, None, IfOk};
 
+use crate::clock::moment;
 use dns_data::{Addr, Bytes, Transport};
 use outside::{Datagram, Outcome, Received, Seen, Side, Upstream, Wrote};
 use std::alloc::{AllocError, Global};
 use std::net::{IpAddr, SocketAddr, UdpSocket};
 use std::random::RandomSource;
+use std::sync::Arc;
+use std::sync::atomic::{AtomicU64, Ordering};
 use std::time::Clock;
 
 // As many bytes as a UDP datagram can carry.
@@ -21,6 +24,8 @@ pub struct UdpSide<R: Clock + RandomSource + Eprint + Drop> {
     packet: Vec<u8>,
     // The sender of the last datagram.
     from: Option<SocketAddr>,
+    // How many sides have not left yet.
+    live: Arc<AtomicU64, Global>,
     recv_faults: u64,
     send_faults: u64,
     ask_faults: u64,
@@ -33,10 +38,12 @@ impl<R: Clock + RandomSource + Eprint + Drop> UdpSide<R> {
         alloc: Global,
         socket: UdpSocket,
         local: u16,
+        live: Arc<AtomicU64, Global>,
     ) -> Result<UdpSide<R>, AllocError>
         ensures { IfOk result (λ s. (s.recv_faults ≡ 0) × (s.send_faults ≡ 0) × (s.ask_faults ≡ 0) × (s.note_faults ≡ 0)) }
     {
         let packet = Vec::from_elem(alloc, 0u8, LARGEST)?;
+        live.fetch_add(1, Ordering::SeqCst);
         Ok(UdpSide {
             rt,
             alloc,
@@ -44,6 +51,7 @@ impl<R: Clock + RandomSource + Eprint + Drop> UdpSide<R> {
             local,
             packet,
             from: None,
+            live,
             recv_faults: 0,
             send_faults: 0,
             ask_faults: 0,
@@ -91,12 +99,8 @@ impl<R: Clock + RandomSource + Eprint + Drop> Side for UdpSide<R> {
         Wrote::Failed
     }
 
-    /// The time since some start, which never goes back. A clock that can't be read gives 0.
     fn now(&mut self) -> u64 {
-        match self.rt.monotonic() {
-            Ok(time) => u64::try_from(time.as_millis()).unwrap_or(u64::MAX),
-            Err(_) => 0,
-        }
+        moment(&self.rt)
     }
 
     /// A word of the system's random source, or 0 where that fails.
@@ -131,7 +135,10 @@ impl<R: Clock + RandomSource + Eprint + Drop> Side for UdpSide<R> {
 
     fn saw(&mut self, _what: Seen<'_>) {}
 
-    fn leave(&mut self) {}
+    /// The watch answers End once the last side has left.
+    fn leave(&mut self) {
+        self.live.fetch_sub(1, Ordering::SeqCst);
+    }
 }
 
 // An IPv4 client of a socket for both families comes as an IPv6 address that holds the IPv4 one.

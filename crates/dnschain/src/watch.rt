@@ -1,41 +1,54 @@
 ghost use Rattle.std.specs.Prelude.{◌≡◌, ◌≤◌, None, IfOk, vec_len};
 
-use dns_data::{Bytes, Text};
+use crate::clock::moment;
+use crate::kept::{KeptFile, KeptLine};
+use dns_data::{Bytes, Copies, Text};
 use outside::{Look, Made, PatternMaker, ReadOut, RegexMaker, Watch, Wrote};
 use std::alloc::Global;
 use std::fs::File;
 use std::io;
 use std::io::{ErrorKind, Read};
 use std::rt::Files;
+use std::sync::Arc;
+use std::sync::atomic::{AtomicU64, Ordering};
+use std::time::Clock;
 
 // One more byte than a file of a configuration may have, so that a longer one is seen to be longer.
 const MOST: usize = 1_048_577;
 
-/// The watch over the files of the system. It tells no journal and no script, and counts its failing calls.
+/// The watch over the files of the system. It tells no journal and no script, and counts its failing calls. A file is read
+/// once a second at most, and a line that repeats the one before is written once in 30 seconds.
 #[derive(Drop)]
-pub struct FileWatch<R: Files + Eprint + Drop> {
+pub struct FileWatch<R: Files + Clock + Eprint + Drop> {
     rt: R,
     alloc: Global,
     maker: RegexMaker,
+    // How many sides have not left yet.
+    live: Arc<AtomicU64, Global>,
+    file: Option<KeptFile>,
+    line: Option<KeptLine>,
     read_faults: u64,
     note_faults: u64,
 }
 
-impl<R: Files + Eprint + Drop> FileWatch<R> {
-    pub fn new(rt: R, alloc: Global) -> FileWatch<R>
+impl<R: Files + Clock + Eprint + Drop> FileWatch<R> {
+    pub fn new(rt: R, alloc: Global, live: Arc<AtomicU64, Global>) -> FileWatch<R>
         ensures { (result.read_faults ≡ 0) × (result.note_faults ≡ 0) }
     {
         FileWatch {
             rt,
             alloc,
             maker: RegexMaker::new(),
+            live,
+            file: None,
+            line: None,
             read_faults: 0,
             note_faults: 0,
         }
     }
 }
 
-impl<R: Files + Eprint + Drop> PatternMaker for FileWatch<R> {
+impl<R: Files + Clock + Eprint + Drop> PatternMaker for FileWatch<R> {
     ghost refusals = { λ w. ⟦<RegexMaker as PatternMaker>⟧.refusals w.maker };
 
     ghost state = { λ w. record { journal = None; counts = record { reads = w.read_faults; notes = w.note_faults }; script = None } };
@@ -45,19 +58,35 @@ impl<R: Files + Eprint + Drop> PatternMaker for FileWatch<R> {
     }
 }
 
-impl<R: Files + Eprint + Drop> Watch for FileWatch<R> {
+impl<R: Files + Clock + Eprint + Drop> Watch for FileWatch<R> {
     ghost quiet = { λ _. tt };
 
     ghost answered = { λ _. tt };
 
-    /// No look for a changed configuration is made yet.
+    /// Doesn't wait, since the one thread serves between looks. The end comes once all sides have left.
     fn look(&mut self, _interval: u64, _jitter: u64) -> Look {
-        Look::End
+        if self.live.load(Ordering::SeqCst) == 0 {
+            return Look::End;
+        }
+        Look::Look
     }
 
     fn read(&mut self, name: &Text) -> ReadOut {
+        let now = moment(&self.rt);
+        if let Some(file) = &self.file {
+            if let Some(bytes) = file.bytes(name, now) {
+                return match bytes.copy(self.alloc) {
+                    Ok(bytes) => ReadOut::Got(bytes),
+                    Err(_) => ReadOut::NoMemory,
+                };
+            }
+        }
         match read_limited(&self.rt, self.alloc, name.as_str()) {
-            Ok(bytes) => ReadOut::Got(Bytes::of(bytes)),
+            Ok(bytes) => {
+                let bytes = Bytes::of(bytes);
+                self.file = KeptFile::new(self.alloc, name, &bytes, now);
+                ReadOut::Got(bytes)
+            }
             Err(fault) => match fault.kind() {
                 ErrorKind::NotFound => ReadOut::Missing,
                 ErrorKind::OutOfMemory => ReadOut::NoMemory,
@@ -70,8 +99,15 @@ impl<R: Files + Eprint + Drop> Watch for FileWatch<R> {
     }
 
     fn note(&mut self, line: &[u8]) -> Wrote {
+        let now = moment(&self.rt);
+        if let Some(last) = &self.line {
+            if last.is_fresh(line, now) {
+                return Wrote::Ok;
+            }
+        }
         if let Ok(text) = std::str::from_utf8(line) {
             if self.rt.eprintln(text).is_ok() {
+                self.line = KeptLine::new(self.alloc, line, now);
                 return Wrote::Ok;
             }
         }

@@ -37,7 +37,14 @@ def serves(rows):
             rows.equal("a query gets the 69 bytes of its reply", got, reply(client.port, bytes([127, 0, 0, 1])))
             rows.equal("11 bytes get no reply", client.ask(QUERY[:11], 0.3), None)
             rows.equal("a response gets no reply", client.ask(QUERY[:2] + b"\x81" + QUERY[3:], 0.3), None)
-            rows.equal("a query with bytes behind it gets no reply", client.ask(QUERY + b"\x00", 0.3), None)
+            rows.equal("bytes behind a query are ignored", client.ask(QUERY + b"\x00"), reply(client.port, bytes([127, 0, 0, 1])))
+            rows.equal("another opcode gets NOTIMP", client.ask(QUERY[:2] + b"\x10" + QUERY[3:]), bytes.fromhex("123490040000000000000000"))
+            to_itself = bytes.fromhex("123401000001000000000000c00c00010001")
+            rows.equal("a name that points at itself gets FORMERR", client.ask(to_itself), bytes.fromhex("123481010000000000000000"))
+            rows.equal("another class is refused", client.ask(QUERY[:-1] + b"\x03"), bytes.fromhex("123481050001000000000000") + NAME + bytes.fromhex("00010003"))
+            version = QUERY[:11] + b"\x01" + QUERY[12:] + bytes.fromhex("0000290200000100000000")
+            want = bytes.fromhex("123481000001000000000001") + QUESTION + bytes.fromhex("00002904d0010000000000")
+            rows.equal("another version of EDNS gets BADVERS", client.ask(version), want)
             rows.equal("an empty datagram gets no reply", client.ask(b"", 0.3), None)
         over_ipv6(rows, server)
         with_dig(rows, server)
@@ -62,15 +69,43 @@ def over_ipv6(rows, server):
         rows.equal("a client over IPv6 gets an AAAA record", client.ask(QUERY), reply(client.port, bytes(15) + b"\x01"))
 
 
+def dig(server, *words):
+    """What dig prints, line by line, without blanks at the ends."""
+    asked = ["dig", "+time=2", "+tries=2", "@127.0.0.1", "-p", str(server.port), *words]
+    return [line.strip() for line in subprocess.run(asked, capture_output=True, text=True, timeout=10).stdout.split("\n")]
+
+
 def with_dig(rows, server):
     if shutil.which("dig") is None:
         print("skipped: there is no dig")
         return
-    words = ["dig", "+noedns", "+noall", "+additional", "+time=2", "+tries=2", "@127.0.0.1", "-p", str(server.port), "example.org"]
-    lines = subprocess.run(words, capture_output=True, text=True, timeout=10).stdout.split("\n")
-    found = [line.split() for line in lines if line and not line.startswith(";")]
-    rows.row("dig is told its address", ["example.org.", "0", "IN", "A", "127.0.0.1"] in found, lines)
-    rows.row("dig is told its port", any(row[:6] == ["_udp.example.org.", "0", "IN", "SRV", "0", "0"] for row in found), lines)
+    for text, words, status, edns in [
+        ("dig as it comes, with OPT and a cookie", ["example.org"], "NOERROR", "; EDNS: version: 0, flags:; udp: 1232"),
+        ("dig +noedns", ["+noedns", "example.org"], "NOERROR", None),
+        ("dig +bufsize=512", ["+bufsize=512", "example.org"], "NOERROR", "; EDNS: version: 0, flags:; udp: 1232"),
+        ("dig +dnssec", ["+dnssec", "example.org"], "NOERROR", "; EDNS: version: 0, flags: do; udp: 1232"),
+        ("dig ANY", ["+notcp", "ANY", "example.org"], "NOERROR", "; EDNS: version: 0, flags:; udp: 1232"),
+        ("dig of class CH", ["CH", "TXT", "version.bind"], "REFUSED", "; EDNS: version: 0, flags:; udp: 1232"),
+        ("dig of another opcode", ["+opcode=notify", "+noedns", "example.org"], "NOTIMP", None),
+        ("dig +edns=1", ["+edns=1", "+noednsneg", "example.org"], "BADVERS", "; EDNS: version: 0, flags:; udp: 1232"),
+    ]:
+        lines = dig(server, *words)
+        rows.row(f"{text}: {status}", any(f"status: {status}," in line for line in lines), lines)
+        rows.equal(f"{text}: its OPT", next((line for line in lines if line.startswith("; EDNS")), None), edns)
+        if status == "NOERROR":
+            found = [line.split() for line in lines if line and not line.startswith(";")]
+            rows.row(f"{text}: its address", ["example.org.", "0", "IN", "A", "127.0.0.1"] in found, lines)
+            rows.row(f"{text}: its port", any(row[:6] == ["_udp.example.org.", "0", "IN", "SRV", "0", "0"] for row in found), lines)
+    with_kdig(rows, server)
+
+
+def with_kdig(rows, server):
+    if shutil.which("kdig") is None:
+        print("skipped: there is no kdig")
+        return
+    asked = ["kdig", "+timeout=2", "@127.0.0.1", "-p", str(server.port), "example.org"]
+    said = subprocess.run(asked, capture_output=True, text=True, timeout=10).stdout
+    rows.row("kdig: NOERROR", "status: NOERROR" in said and "127.0.0.1" in said, said)
 
 
 def random_datagrams(rows, server):
@@ -105,7 +140,7 @@ def ends(rows):
             ("another plugin", ".:5300 {\n\nwhoamy\n}\n", 1, "corefile line 3: unknown directive"),
             ("an open quote", ".:5300 { # a\r\n\"whoami\r\n}\r\n", 1, "corefile line 2: open quote"),
             ("text after a quote", ".:5300 {\n\"whoami\"}\n", 1, "corefile line 2: text after quote"),
-            ("reload", ".:5300 {\nreload\nwhoami\n}\n", 1, "not built yet"),
+            ("reload twice", ".:5300 {\nreload\nreload\n}\n", 1, "not built yet"),
             ("two blocks", ".:5300 {\nwhoami\n}\n.:5301 {\nwhoami\n}\n", 1, "not built yet"),
             ("port 65536", ".:65536 {\nwhoami\n}\n", 1, "not built yet"),
             ("bytes that aren't UTF-8", b"\n# \xff\n", 1, "corefile line 2: not UTF-8"),

@@ -60,9 +60,9 @@ class Served:
     def __enter__(self):
         self.room = tempfile.TemporaryDirectory()
         self.port = free_port()
-        path = corefile(self.room.name, self.text.replace("{port}", str(self.port)))
+        self.path = corefile(self.room.name, self.text.replace("{port}", str(self.port)))
         self.process = subprocess.Popen(
-            [PROGRAM, "serve", "--conf", path, *self.words], stdout=subprocess.PIPE, stderr=subprocess.PIPE
+            [PROGRAM, "serve", "--conf", self.path, *self.words], stdout=subprocess.PIPE, stderr=subprocess.PIPE
         )
         return self
 
@@ -76,6 +76,12 @@ class Served:
 
     def status(self):
         return self.process.wait(SECONDS)
+
+    def noted(self):
+        """Ends the server, and gives the lines that it wrote on standard error."""
+        self.process.kill()
+        self.process.wait(SECONDS)
+        return self.process.stderr.read().decode().splitlines()
 
     def is_serving(self, query):
         """Whether a query is answered, asked again while the program starts."""

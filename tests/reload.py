@@ -1,0 +1,114 @@
+"""A changed Corefile under a running server: what serves behind it, the lines that note it, and what a broken one does."""
+import os
+import sys
+import time
+
+sys.path.insert(0, os.path.join(os.path.dirname(os.path.abspath(__file__)), "lib"))
+from program import SECONDS, Client, Rows, Served, free_port, needs_program  # noqa: E402
+
+NAME = bytes.fromhex("076578616d706c65036f726700")
+QUERY = bytes.fromhex("123401000001000000000000") + NAME + bytes.fromhex("00010001")
+REFUSED = bytes.fromhex("123481050001000000000000") + NAME + bytes.fromhex("00010001")
+
+WHOAMI = ".:{port} {\n\treload\n\twhoami\n}\n"
+EMPTY = ".:{port} {\n\treload\n}\n"
+BROKEN = ".:{port} {\n\treload\n\twhoamy\n}\n"
+QUOTED = ".:{port} {\n\treload\n\t\"whoami\n}\n"
+FIXED = ".:{port} { # no reload\n\twhoami\n}\n"
+
+
+def is_whoami(reply):
+    return reply is not None and reply[2:4] == b"\x85\x00" and reply[6:12] == b"\x00\x00\x00\x00\x00\x02"
+
+
+def is_refused(reply):
+    return reply == REFUSED
+
+
+def put(server, text):
+    """Replaces the Corefile in one step, as editors and `mv` do."""
+    with open(server.path + ".new", "w") as file:
+        file.write(text.replace("{port}", str(server.port)))
+    os.replace(server.path + ".new", server.path)
+
+
+def becomes(server, holds):
+    """Whether replies become such ones in time. A look comes behind each query, and reads at most once a second."""
+    end = time.monotonic() + SECONDS
+    with Client(server.port) as client:
+        while time.monotonic() < end:
+            if holds(client.ask(QUERY, 0.5)):
+                return True
+            time.sleep(0.1)
+    return False
+
+
+def stays(server, holds):
+    """Whether all replies of two seconds are such ones."""
+    end = time.monotonic() + 2
+    with Client(server.port) as client:
+        while time.monotonic() < end:
+            if not holds(client.ask(QUERY, 0.5)):
+                return False
+            time.sleep(0.1)
+    return True
+
+
+def changes(rows):
+    with Served(WHOAMI) as server:
+        rows.row("a Corefile with reload serves", server.is_serving(QUERY))
+        rows.row("it answers", stays(server, is_whoami))
+        put(server, EMPTY)
+        rows.row("one without whoami: REFUSED follows", becomes(server, is_refused))
+        put(server, BROKEN)
+        rows.row("a broken one changes no reply", stays(server, is_refused))
+        put(server, QUOTED)
+        rows.row("one with an open quote changes no reply", stays(server, is_refused))
+        put(server, WHOAMI)
+        rows.row("the first one again: it answers again", becomes(server, is_whoami))
+        put(server, WHOAMI.replace("{port}", str(free_port())))
+        rows.row("another port changes no reply", stays(server, is_whoami))
+        os.remove(server.path)
+        rows.row("no file changes no reply", stays(server, is_whoami))
+        os.mkdir(server.path)
+        rows.row("a folder in its place changes no reply", stays(server, is_whoami))
+        os.rmdir(server.path)
+        put(server, FIXED)
+        rows.row("one without reload answers", stays(server, is_whoami))
+        put(server, EMPTY)
+        rows.row("behind it no change is taken up", stays(server, is_whoami))
+        rows.equal("it still runs", server.process.poll(), None)
+        rows.equal("the lines that note the looks", server.noted(), [
+            "reload published 1",
+            "reload refused: corefile line 3: unknown directive",
+            "reload refused: corefile line 3: open quote",
+            "reload published 2",
+            "reload ports differ",
+            "reload refused: no corefile",
+            f"reload cannot read {server.path}",
+            "reload published 3",
+        ])
+
+
+def ends(rows):
+    with Served(WHOAMI, "--queries", "2") as server:
+        rows.row("--queries 2 with reload serves", server.is_serving(QUERY))
+        with Client(server.port) as client:
+            client.ask(QUERY, 1)
+        rows.equal("the run ends with status 0", server.status(), 0)
+        rows.equal("and with no line", (server.process.stdout.read(), server.process.stderr.read()), (b"", b""))
+    with Served(WHOAMI, "--queries", "1") as server:
+        rows.row("--queries 1 with reload serves", server.is_serving(QUERY))
+        rows.equal("it ends too", server.status(), 0)
+
+
+def main():
+    needs_program()
+    rows = Rows()
+    changes(rows)
+    ends(rows)
+    rows.end()
+
+
+if __name__ == "__main__":
+    main()

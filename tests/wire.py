@@ -1,0 +1,167 @@
+"""100,000 mutated messages to the program over loopback: it answers as the wire format says, beside what dnspython reads."""
+import os
+import random
+import sys
+import time
+
+sys.path.insert(0, os.path.join(os.path.dirname(os.path.abspath(__file__)), "lib"))
+sys.path.append("/usr/lib/python3/dist-packages")
+from program import Client, Rows, Served, needs_program  # noqa: E402
+
+try:
+    import dns.exception
+    import dns.message
+    import dns.rdataclass
+except ImportError:
+    dns = None
+
+WHOAMI = ".:{port} {\n\twhoami\n}\n"
+MESSAGES = 100_000
+SECONDS = 120
+
+HEAD = "123401000001{an}{ns}{ar}"
+NAME = "076578616d706c65036f726700"
+
+
+def message(an=0, ns=0, ar=0, rest=""):
+    counts = {"an": f"{an:04x}", "ns": f"{ns:04x}", "ar": f"{ar:04x}"}
+    return bytes.fromhex(HEAD.format(**counts) + NAME + "00010001" + rest)
+
+
+OPT = "00002904d000008000" + "0000"
+SEEDS = [
+    message(),
+    message(ar=1, rest=OPT),
+    message(ar=1, rest="00002904d0000000" + "00000c000a00080102030405060708"),
+    message(an=1, rest="c00c0001000100000e100004c0000201"),
+    message(an=1, rest="c00c000500010000003c0006037777" + "77c00c"),
+    message(ns=1, rest="c00c000600010000003c001c0161c00c0162c00c0000000100000002000000030000000400000005"),
+    message(an=2, ar=1, rest="c00c001000010000003c00040361626300000100010000003c0004c0000201" + OPT),
+    message(an=1, rest="c00c000f00010000003c000900" + "0a046d61696cc00c"),
+    message(an=1, rest="c00c002100010000003c000c00010002003503" + "737276c00c"),
+]
+GOOD = message()
+
+
+def mutated(made):
+    """One of the seeds with some bytes changed, left out or put in."""
+    bytes_ = bytearray(made.choice(SEEDS))
+    for _ in range(made.choice([0, 1, 1, 2, 3, 6])):
+        kind = made.randrange(4)
+        at = made.randrange(len(bytes_)) if bytes_ else 0
+        if kind == 0 and bytes_:
+            bytes_[at] = made.choice([0, 1, 12, 41, 63, 64, 128, 192, 255, made.randrange(256)])
+        elif kind == 1 and bytes_:
+            bytes_[at] ^= 1 << made.randrange(8)
+        elif kind == 2:
+            del bytes_[at:at + made.choice([1, 2, 11])]
+        else:
+            bytes_[at:at] = made.randbytes(made.choice([1, 2, 4]))
+    return bytes(bytes_)
+
+
+def expected(bytes_):
+    """By the header alone: no reply, NOTIMP, or None where it goes on."""
+    if len(bytes_) < 12 or bytes_[2] & 128:
+        return b""
+    if bytes_[2] & 120:
+        return bytes_[:2] + bytes([128 | bytes_[2] & 121, 4]) + bytes(8)
+    return None
+
+
+def form_error(bytes_):
+    return bytes_[:2] + bytes([128 | bytes_[2] & 1, 1]) + bytes(8)
+
+
+def is_of(bytes_, reply):
+    """The reply has the query's id, QR, RD and CD, and the question as it came."""
+    return (
+        reply[:2] == bytes_[:2]
+        and reply[2] & 0xF9 == 0x80 | bytes_[2] & 1
+        and reply[3] & 0x70 == bytes_[3] & 0x10
+        and reply[4:6] == b"\x00\x01"
+    )
+
+
+def main():
+    needs_program()
+    rows = Rows()
+    made = random.Random(4)
+    wrong = {"header": [], "form": [], "reply": [], "dnspython reads the reply": [], "dnspython reads what was answered": []}
+    count = {"silence": 0, "notimp": 0, "formerr": 0, "answered": 0, "compared": 0}
+    with Served(WHOAMI) as server:
+        rows.row("the program serves", server.is_serving(GOOD))
+        with Client(server.port) as client:
+            end = time.monotonic() + SECONDS
+            for _ in range(MESSAGES):
+                bytes_ = mutated(made)
+                want = expected(bytes_)
+                if want == b"":
+                    client.send(bytes_)
+                    count["silence"] += 1
+                    continue
+                got = client.ask(bytes_, 2)
+                check(bytes_, want, got, count, wrong)
+                if time.monotonic() > end:
+                    break
+            rows.equal("the good query is answered at the end", (client.ask(GOOD) or b"")[2:4], b"\x85\x00")
+        rows.equal("it still runs", server.process.poll(), None)
+    for what, found in wrong.items():
+        rows.row(f"{what}: none is wrong", not found, [bytes_.hex() for bytes_ in found[:3]])
+    for what in ["silence", "notimp", "formerr", "answered"]:
+        rows.row(f"some got {what}", count[what] > 0, count)
+    if dns is None:
+        print("skipped: there is no python3-dnspython")
+    else:
+        rows.row("some were compared with what dnspython reads", count["compared"] > 1000, count)
+    rows.end()
+
+
+def check(bytes_, want, got, count, wrong):
+    if want is not None:
+        count["notimp"] += 1
+        if got != want:
+            wrong["header"].append(bytes_)
+        return
+    if got is None or len(got) < 12:
+        wrong["reply"].append(bytes_)
+        return
+    if got == form_error(bytes_):
+        count["formerr"] += 1
+    elif is_of(bytes_, got):
+        count["answered"] += 1
+    else:
+        wrong["form"].append(bytes_)
+        return
+    if dns is not None:
+        compare(bytes_, got, count, wrong)
+
+
+def compare(bytes_, got, count, wrong):
+    """Where dnspython reads the query, it was answered; and it reads every reply."""
+    try:
+        dns.message.from_wire(got)
+    except dns.exception.DNSException:
+        wrong["dnspython reads the reply"].append(bytes_)
+    try:
+        read = dns.message.from_wire(bytes_, ignore_trailing=True, one_rr_per_rrset=True)
+    except Exception:  # dnspython refuses more than the format does: bad CAA tags, empty TXT, meta types and the like
+        return
+    if len(read.question) != 1:
+        return
+    count["compared"] += 1
+    if got == form_error(bytes_) and not is_stricter(bytes_, read):
+        wrong["dnspython reads what was answered"].append(bytes_)
+
+
+def is_stricter(bytes_, read):
+    """Where this server's reading is stricter on purpose: data has the form of its type in every class, and no pointer is
+    into the header."""
+    classes = [rrset.rdclass for section in (read.answer, read.authority, read.additional) for rrset in section]
+    if any(found != dns.rdataclass.IN for found in classes):
+        return True
+    return any(bytes_[at] == 0xC0 and bytes_[at + 1] < 12 for at in range(12, len(bytes_) - 1))
+
+
+if __name__ == "__main__":
+    main()

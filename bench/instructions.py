@@ -1,0 +1,110 @@
+#!/usr/bin/env python3
+"""User instructions a query of the built server, by callgrind, over loopback: one figure a case.
+
+Two runs of each case, of 2,000 and of 22,000 queries; the difference over 20,000 takes the start out. Each query waits for its
+reply. Wants valgrind and the built program (make build). With --functions, what the functions of one case cost, for one query.
+"""
+import os
+import re
+import shutil
+import socket
+import subprocess
+import sys
+import tempfile
+import time
+
+TOP = os.path.dirname(os.path.dirname(os.path.abspath(__file__)))
+PROGRAM = os.path.join(TOP, "crates", "dnschain", "out", "dnschain")
+FEW, MANY = 2_000, 22_000
+SECONDS = 600
+
+
+def name(*labels):
+    return b"".join(bytes([len(label)]) + label for label in labels) + b"\x00"
+
+
+def query(owner, kind=1, opt=b""):
+    head = bytes.fromhex("12340100000100000000") + (b"\x00\x01" if opt else b"\x00\x00")
+    return head + owner + kind.to_bytes(2, "big") + b"\x00\x01" + opt
+
+
+OPT = bytes.fromhex("0000291000000080000000")
+TWO = name(b"example", b"org")
+THREE = name(b"www", b"example", b"org")
+TEN = name(*[b"label%d" % number for number in range(8)], b"example", b"org")
+
+CASES = [
+    ("whoami, 2 labels", query(TWO)),
+    ("whoami, 2 labels, OPT with DO", query(TWO, opt=OPT)),
+    ("whoami, 3 labels", query(THREE)),
+    ("whoami, 10 labels", query(TEN)),
+    ("a response, which gets no reply", query(TWO)[:2] + b"\x81" + query(TWO)[3:]),
+]
+
+
+def count(message, queries, folder, answered):
+    """Instructions of a run of so many queries."""
+    with socket.socket(socket.AF_INET, socket.SOCK_DGRAM) as probe:
+        probe.bind(("127.0.0.1", 0))
+        port = probe.getsockname()[1]
+    conf = os.path.join(folder, "Corefile")
+    with open(conf, "w") as file:
+        file.write(".:%d {\n\twhoami\n}\n" % port)
+    out = os.path.join(folder, "callgrind.out")
+    server = subprocess.Popen(
+        ["valgrind", "--tool=callgrind", f"--callgrind-out-file={out}", PROGRAM, "serve", "--conf", conf, "--queries", str(queries)],
+        stdout=subprocess.DEVNULL, stderr=subprocess.PIPE,
+    )
+    try:
+        with socket.socket(socket.AF_INET, socket.SOCK_DGRAM) as client:
+            client.connect(("127.0.0.1", port))
+            client.settimeout(0.2)
+            end = time.monotonic() + SECONDS
+            sent = 0
+            while server.poll() is None and time.monotonic() < end:
+                try:
+                    client.send(message)
+                    if answered:
+                        client.recv(65535)
+                    else:
+                        sent += 1
+                        if sent % 64 == 0:
+                            time.sleep(0.002)
+                except (TimeoutError, ConnectionRefusedError):
+                    time.sleep(0.02)
+        server.wait(SECONDS)
+    finally:
+        if server.poll() is None:
+            server.kill()
+    said = server.stderr.read().decode()
+    return int(re.search(r"Collected : (\d+)", said).group(1)), out
+
+
+def functions(folder):
+    message = CASES[0][1]
+    _, out = count(message, MANY, folder, True)
+    said = subprocess.run(["callgrind_annotate", "--inclusive=no", out], capture_output=True, text=True).stdout
+    for line in said.splitlines():
+        found = re.match(r"\s*([\d,]+) \(\s*[\d.]+%\)\s+(.*)", line)
+        if found:
+            total = int(found.group(1).replace(",", ""))
+            if total > MANY * 5:
+                print(f"{total / MANY:8.0f}  {found.group(2)[:150]}")
+
+
+def main():
+    if shutil.which("valgrind") is None or not os.access(PROGRAM, os.X_OK):
+        print("skipped: there is no valgrind, or the program isn't built")
+        return
+    with tempfile.TemporaryDirectory() as folder:
+        if "--functions" in sys.argv:
+            functions(folder)
+            return
+        for text, message in CASES:
+            answered = "no reply" not in text
+            few, many = count(message, FEW, folder, answered)[0], count(message, MANY, folder, answered)[0]
+            print(f"{(many - few) / (MANY - FEW):8.0f}  {text}", flush=True)
+
+
+if __name__ == "__main__":
+    main()

@@ -33,23 +33,27 @@ TWO = name(b"example", b"org")
 THREE = name(b"www", b"example", b"org")
 TEN = name(*[b"label%d" % number for number in range(8)], b"example", b"org")
 
+WHOAMI = ".:%d {\n\twhoami\n}\n"
+RELOAD = ".:%d {\n\treload\n\twhoami\n}\n"
+
 CASES = [
-    ("whoami, 2 labels", query(TWO)),
-    ("whoami, 2 labels, OPT with DO", query(TWO, opt=OPT)),
-    ("whoami, 3 labels", query(THREE)),
-    ("whoami, 10 labels", query(TEN)),
-    ("a response, which gets no reply", query(TWO)[:2] + b"\x81" + query(TWO)[3:]),
+    ("whoami, 2 labels", WHOAMI, query(TWO)),
+    ("whoami, 2 labels, OPT with DO", WHOAMI, query(TWO, opt=OPT)),
+    ("whoami, 3 labels", WHOAMI, query(THREE)),
+    ("whoami, 10 labels", WHOAMI, query(TEN)),
+    ("whoami, 2 labels, with reload", RELOAD, query(TWO)),
+    ("a response, which gets no reply", WHOAMI, query(TWO)[:2] + b"\x81" + query(TWO)[3:]),
 ]
 
 
-def count(message, queries, folder, answered):
+def count(text, message, queries, folder, answered):
     """Instructions of a run of so many queries."""
     with socket.socket(socket.AF_INET, socket.SOCK_DGRAM) as probe:
         probe.bind(("127.0.0.1", 0))
         port = probe.getsockname()[1]
     conf = os.path.join(folder, "Corefile")
     with open(conf, "w") as file:
-        file.write(".:%d {\n\twhoami\n}\n" % port)
+        file.write(text % port)
     out = os.path.join(folder, "callgrind.out")
     server = subprocess.Popen(
         ["valgrind", "--tool=callgrind", f"--callgrind-out-file={out}", PROGRAM, "serve", "--conf", conf, "--queries", str(queries)],
@@ -81,8 +85,8 @@ def count(message, queries, folder, answered):
 
 
 def functions(folder):
-    message = CASES[0][1]
-    _, out = count(message, MANY, folder, True)
+    _, text, message = CASES[0]
+    _, out = count(text, message, MANY, folder, True)
     said = subprocess.run(["callgrind_annotate", "--inclusive=no", out], capture_output=True, text=True).stdout
     for line in said.splitlines():
         found = re.match(r"\s*([\d,]+) \(\s*[\d.]+%\)\s+(.*)", line)
@@ -100,10 +104,11 @@ def main():
         if "--functions" in sys.argv:
             functions(folder)
             return
-        for text, message in CASES:
-            answered = "no reply" not in text
-            few, many = count(message, FEW, folder, answered)[0], count(message, MANY, folder, answered)[0]
-            print(f"{(many - few) / (MANY - FEW):8.0f}  {text}", flush=True)
+        for case, text, message in CASES:
+            answered = "no reply" not in case
+            few = count(text, message, FEW, folder, answered)[0]
+            many = count(text, message, MANY, folder, answered)[0]
+            print(f"{(many - few) / (MANY - FEW):8.0f}  {case}", flush=True)
 
 
 if __name__ == "__main__":

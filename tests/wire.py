@@ -17,7 +17,7 @@ except ImportError:
 
 WHOAMI = ".:{port} {\n\twhoami\n}\n"
 MESSAGES = 100_000
-SECONDS = 120
+SECONDS = 300
 
 HEAD = "123401000001{an}{ns}{ar}"
 NAME = "076578616d706c65036f726700"
@@ -91,19 +91,8 @@ def main():
     count = {"silence": 0, "notimp": 0, "formerr": 0, "answered": 0, "compared": 0}
     with Served(WHOAMI) as server:
         rows.row("the program serves", server.is_serving(GOOD))
+        rows.equal("all messages were sent", send_all(server, made, count, wrong), MESSAGES)
         with Client(server.port) as client:
-            end = time.monotonic() + SECONDS
-            for _ in range(MESSAGES):
-                bytes_ = mutated(made)
-                want = expected(bytes_)
-                if want == b"":
-                    client.send(bytes_)
-                    count["silence"] += 1
-                    continue
-                got = client.ask(bytes_, 2)
-                check(bytes_, want, got, count, wrong)
-                if time.monotonic() > end:
-                    break
             rows.equal("the good query is answered at the end", (client.ask(GOOD) or b"")[2:4], b"\x85\x00")
         rows.equal("it still runs", server.process.poll(), None)
     for what, found in wrong.items():
@@ -115,6 +104,31 @@ def main():
     else:
         rows.row("some were compared with what dnspython reads", count["compared"] > 1000, count)
     rows.end()
+
+
+def send_all(server, made, count, wrong):
+    """Sends the messages one after another, each behind the reply to the one before. How many were sent in time."""
+    client = Client(server.port)
+    end = time.monotonic() + SECONDS
+    for sent in range(MESSAGES):
+        if time.monotonic() > end:
+            client.socket.close()
+            return sent
+        bytes_ = mutated(made)
+        want = expected(bytes_)
+        if want == b"":
+            client.send(bytes_)
+            count["silence"] += 1
+            continue
+        got = client.ask(bytes_, 2)
+        if got is None:
+            # A lost datagram is asked again from another port, where no late reply comes.
+            client.socket.close()
+            client = Client(server.port)
+            got = client.ask(bytes_, 5)
+        check(bytes_, want, got, count, wrong)
+    client.socket.close()
+    return MESSAGES
 
 
 def check(bytes_, want, got, count, wrong):

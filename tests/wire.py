@@ -94,6 +94,7 @@ def main():
         rows.equal("all messages were sent", send_all(server, made, count, wrong), MESSAGES)
         with Client(server.port) as client:
             rows.equal("the good query is answered at the end", (client.ask(GOOD) or b"")[2:4], b"\x85\x00")
+        full_of_pointers(rows, server)
         rows.equal("it still runs", server.process.poll(), None)
     for what, found in wrong.items():
         rows.row(f"{what}: none is wrong", not found, [bytes_.hex() for bytes_ in found[:3]])
@@ -104,6 +105,31 @@ def main():
     else:
         rows.row("some were compared with what dnspython reads", count["compared"] > 1000, count)
     rows.end()
+
+
+def pointers(size):
+    """A query of so many bytes: a chain of pointers in the data of a record, and records whose names begin at its end."""
+    question = bytes.fromhex("0000010001")
+    start = 12 + len(question) + 11
+    count = (min(16382, size // 4) - start) // 2
+    targets = [12] + [start + 2 * at for at in range(count - 1)]
+    chain = b"".join((0xC000 | target).to_bytes(2, "big") for target in targets)
+    last = (0xC000 | start + 2 * (count - 1)).to_bytes(2, "big")
+    first = bytes.fromhex("00ff00000100000000") + len(chain).to_bytes(2, "big") + chain
+    entry = last + bytes.fromhex("00020001000000000002") + last
+    entries = (size - 12 - len(question) - len(first)) // len(entry)
+    counts = (1).to_bytes(2, "big") + (1 + entries).to_bytes(2, "big") + bytes(4)
+    return bytes.fromhex("12340100") + counts + question + first + entry * entries
+
+
+def full_of_pointers(rows, server):
+    """Reading costs the square of such a message, so only the first bytes of a datagram are taken."""
+    with Client(server.port) as client:
+        rows.row("a message of 1,200 bytes full of pointers is read", (client.ask(pointers(1200)) or b"")[2:4] == b"\x85\x00")
+        for _ in range(40):
+            client.send(pointers(65_000))
+    with Client(server.port) as client:
+        rows.row("behind 40 of 65,000 bytes a query is answered soon", client.ask(GOOD, 5) is not None)
 
 
 def send_all(server, made, count, wrong):

@@ -10,8 +10,9 @@ use std::sync::Arc;
 use std::sync::atomic::{AtomicU64, Ordering};
 use std::time::Clock;
 
-// As many bytes as a UDP datagram can carry.
-const LARGEST: usize = 65_535;
+// As many bytes of a datagram as are taken. Queries have a few hundred, and what reading costs can grow with the square of a
+// message that is full of pointers.
+const LARGEST: usize = 4_096;
 
 /// A worker's side over a UDP socket. It tells no journal and no script, and counts its failing calls.
 #[derive(Drop)]

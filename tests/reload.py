@@ -1,6 +1,7 @@
 """A changed Corefile under a running server: what serves behind it, the lines that note it, and what a broken one does."""
 import os
 import sys
+import threading
 import time
 
 sys.path.insert(0, os.path.join(os.path.dirname(os.path.abspath(__file__)), "lib"))
@@ -90,6 +91,48 @@ def changes(rows):
         ])
 
 
+def under_load(rows):
+    """Two clients ask all the time while the Corefile changes: every reply is by one of the two, and none is lost for long."""
+    with Served(WHOAMI) as server:
+        rows.row("it serves under load", server.is_serving(QUERY))
+        found = {"whoami": 0, "refused": 0, "other": 0, "none": 0}
+        over = threading.Event()
+        clients = [threading.Thread(target=asks, args=(server, over, found)) for _ in range(2)]
+        for client in clients:
+            client.start()
+        for text in [EMPTY, BROKEN, WHOAMI, EMPTY, WHOAMI]:
+            time.sleep(1.3)
+            put(server, text)
+        time.sleep(1.3)
+        over.set()
+        for client in clients:
+            client.join()
+        rows.row("both Corefiles answered", found["whoami"] > 0 and found["refused"] > 0, found)
+        rows.equal("no reply was another", found["other"], 0)
+        rows.row("few datagrams were lost", found["none"] * 1000 <= found["whoami"] + found["refused"], found)
+        rows.equal("each change was published once, in order", server.noted(), [
+            "reload published 1",
+            "reload refused: corefile line 3: unknown directive",
+            "reload published 2",
+            "reload published 3",
+            "reload published 4",
+        ])
+
+
+def asks(server, over, found):
+    with Client(server.port) as client:
+        while not over.is_set():
+            reply = client.ask(QUERY, 1)
+            if reply is None:
+                found["none"] += 1
+            elif is_whoami(reply):
+                found["whoami"] += 1
+            elif is_refused(reply):
+                found["refused"] += 1
+            else:
+                found["other"] += 1
+
+
 def ends(rows):
     with Served(WHOAMI, "--queries", "2") as server:
         rows.row("--queries 2 with reload serves", server.is_serving(QUERY))
@@ -106,6 +149,7 @@ def main():
     needs_program()
     rows = Rows()
     changes(rows)
+    under_load(rows)
     ends(rows)
     rows.end()
 

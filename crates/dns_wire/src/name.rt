@@ -5,6 +5,7 @@ ghost use Rattle.dns_wire.specs.Runs.{RunAt};
 ghost use Rattle.dns_wire.specs.Reads.{Reads};
 
 use crate::ReplyFault;
+use crate::message::HEADER;
 use dns_data::Name;
 use std::alloc::Global;
 
@@ -16,9 +17,6 @@ const NAME_MOST: usize = 255;
 
 // The least byte whose upper two bits are set (RFC 1035, section 4.1.4).
 const POINTER: u8 = 192;
-
-// No name begins within the header.
-const HEADER: usize = 12;
 
 /// Reads the name at a place, and gives the place behind it. Each run of labels is copied at once.
 pub fn read_name(alloc: Global, bytes: &[u8], first: usize) -> Result<(Name, usize), ReplyFault>
@@ -44,6 +42,7 @@ pub fn read_name(alloc: Global, bytes: &[u8], first: usize) -> Result<(Name, usi
         let Some(target) = target_at(bytes, end) else {
             return Err(ReplyFault::Bad);
         };
+        // No name begins within the header.
         if target < HEADER {
             return Err(ReplyFault::Bad);
         }

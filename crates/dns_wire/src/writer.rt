@@ -3,12 +3,10 @@ ghost use Rattle.std.specs.Int.{w16, to_be_bytes};
 ghost use Rattle.dns_data.specs.Name.{IsName, IsWire, labels_of, same_labels};
 ghost use Rattle.dns_wire.specs.Written.{size, put, put_number, put_name, put_pointer, put_whole, keep, earliest};
 
+use crate::message::HEADER;
 use dns_data::{Bytes, Name, NoMemory};
 use std::alloc::Global;
 use std::marker::Model;
-
-// The length of a header in bytes (RFC 1035, section 4.1.1).
-const HEADER: usize = 12;
 
 // A pointer names its place in 14 bits (RFC 1035, section 4.1.4).
 const PLACES: usize = 16384;

@@ -264,7 +264,7 @@ pub look_on : (conf : List ℕ) (p most : ℕ) (first : Bundle) (a c : Option (L
     → HasServed 0 conf p most first a c w0 v k t less worked result
 look_on conf p most first a c w0 w v h k t starving less worked None None has looks =
     look_made conf p most first a c w0 v h k t less worked has.looks has.rounds has.side has.watch.count (has.in_step refl) has.seen (looks_on has.watch looks)
-look_on conf p most first a c w0 w v h k t starving less worked None (Some watchend.End) has looks = rw (looks.same, looks.fed) (record {
+look_on conf p most first a c w0 w v h k t starving less worked None (Some watchend.End) has looks = rw (looks.same, looks.no_want) (record {
   looks = has.looks;
   rounds = has.rounds;
   side = has.side;
@@ -272,7 +272,7 @@ look_on conf p most first a c w0 w v h k t starving less worked None (Some watch
   in_step = λ e. absurd cc;
   seen = has.seen;
 })
-look_on conf p most first a c w0 w v h k t starving less worked None (Some watchend.NoReload) has looks = rw (looks.same, looks.fed) (record {
+look_on conf p most first a c w0 w v h k t starving less worked None (Some watchend.NoReload) has looks = rw (looks.same, looks.no_want) (record {
   looks = has.looks;
   rounds = has.rounds;
   side = has.side;
@@ -340,31 +340,31 @@ all_served conf p most first a c w0 w g t starving (Some other) (Some watched) e
 pub record IsTallied (first now : ℕ) (t : Tally) : Type 0 where
   pub since : first ≤ now
   pub starved : t.starved ≤ 65 * t.pins + t.failures
-  pub rose : t.hungry ≡ false → min (first + t.failures) (2 ^ 64 - 1) ≤ now
-  pub hungry : t.hungry ≡ true → 0 < t.starved
+  pub rose : t.has_want ≡ false → min (first + t.failures) (2 ^ 64 - 1) ≤ now
+  pub has_want : t.has_want ≡ true → 0 < t.starved
 
 -- how a worker stands: it goes on below its bounds, or has ended at them
 abbrev pub StandsAt : ℕ → Tally → Option WorkEnd → Type 0
 StandsAt most t None = (t.pins < most) × (t.failures < 64)
 StandsAt most t (Some ends.End) = Unit {0}
-StandsAt most t (Some ends.RecvFailed) = (t.failures ≡ 64) × (t.hungry ≡ false)
-StandsAt most t (Some ends.NoMemory) = t.hungry ≡ true
+StandsAt most t (Some ends.RecvFailed) = (t.failures ≡ 64) × (t.has_want ≡ false)
+StandsAt most t (Some ends.NoMemory) = t.has_want ≡ true
 
 tallied_by : (what : Turned) (s first now next : ℕ) (t : Tally) → IsTallied first now t → t.failures < 64 → now ≤ next → (what ≡ turned.RecvFailed → Rose now next) → IsTallied first next (tallied s what t)
 tallied_by turned.Answered s first now next t is few later rose =
-    record { since = omega (arith, is.since, later); starved = omega (arith, is.starved, few); rose = λ e. omega (arith, is.since, later); hungry = λ e. absurd cc }
+    record { since = omega (arith, is.since, later); starved = omega (arith, is.starved, few); rose = λ e. omega (arith, is.since, later); has_want = λ e. absurd cc }
 tallied_by turned.Starved s first now next t is few later rose =
-    record { since = omega (arith, is.since, later); starved = omega (arith, is.starved, few); rose = λ e. omega (arith, is.since, later); hungry = λ e. absurd cc }
+    record { since = omega (arith, is.since, later); starved = omega (arith, is.starved, few); rose = λ e. omega (arith, is.since, later); has_want = λ e. absurd cc }
 tallied_by turned.RecvFailed s first now next t is few later rose = record {
   since = omega (arith, is.since, later);
   starved = omega (arith, is.starved);
   rose = λ e. let r = rose refl in let was = is.rose e in omega (arith, r, was);
-  hungry = is.hungry;
+  has_want = is.has_want;
 }
 tallied_by turned.RecvStarved s first now next t is few later rose =
-    record { since = omega (arith, is.since, later); starved = omega (arith, is.starved); rose = λ e. absurd cc; hungry = λ e. omega arith }
+    record { since = omega (arith, is.since, later); starved = omega (arith, is.starved); rose = λ e. absurd cc; has_want = λ e. omega arith }
 tallied_by turned.RecvEnd s first now next t is few later rose =
-    record { since = omega (arith, is.since, later); starved = is.starved; rose = λ e. let was = is.rose e in omega (arith, was, later); hungry = is.hungry }
+    record { since = omega (arith, is.since, later); starved = is.starved; rose = λ e. let was = is.rose e in omega (arith, was, later); has_want = is.has_want }
 
 stands_by : (what : Turned) (s most : ℕ) (t : Tally) (result : Option WorkEnd) → t.pins < most → TurnEnds most what (tallied s what t) result → StandsAt most (tallied s what t) result
 stands_by turned.Answered s most t None more ends = (ends, omega arith)
@@ -408,7 +408,7 @@ tally_on first most b c g h before now t u None result was later works =
       idle = ap (λ (x : GenerationsData). x.pinned) works.1.is;
     }
 tally_on first most b c g h before now t u (Some end) result was later works = rw (works.0, works.2, works.3) (record {
-  is = record { since = omega (arith, was.is.since, later); starved = was.is.starved; rose = λ e. let r = was.is.rose e in omega (arith, r, later); hungry = was.is.hungry };
+  is = record { since = omega (arith, was.is.since, later); starved = was.is.starved; rose = λ e. let r = was.is.rose e in omega (arith, r, later); has_want = was.is.has_want };
   stands = was.stands;
   pins = was.pins;
   idle = was.idle;
@@ -462,9 +462,9 @@ tallied_first count most t g idle none free some =
     let pins = ap (λ (x : Tally). x.pins) idle in
     let starved = ap (λ (x : Tally). x.starved) idle in
     let failures = ap (λ (x : Tally). x.failures) idle in
-    let hungry = ap (λ (x : Tally). x.hungry) idle in
+    let has_want = ap (λ (x : Tally). x.has_want) idle in
     record {
-      is = record { since = omega arith; starved = omega (arith, starved); rose = λ e. omega (arith, failures); hungry = λ e. absurd cc };
+      is = record { since = omega arith; starved = omega (arith, starved); rose = λ e. omega (arith, failures); has_want = λ e. absurd cc };
       stands = (omega (arith, pins, some), omega (arith, failures));
       pins = omega (arith, pins, none);
       idle = free;

@@ -59,9 +59,9 @@ end_cause command default_port before after watch side published starving status
 end_cause command default_port before after watch side published starving (status.Refused refusal) some is = absurd is
 end_cause command default_port before after watch side published starving status.NoMemory some is = tt
 end_cause command default_port before after watch side published starving status.WorkerFailed some is =
-    record { sides = (record { end = inr is.0; fed = is.1 }, tt); fed = is.2; some = inl is.0 }
+    record { sides = (record { end = inr is.0; no_want = is.1 }, tt); no_want = is.2; some = inl is.0 }
 end_cause command default_port before after watch side published starving status.Ended some is =
-    record { sides = (record { end = is.0; fed = is.1 }, tt); fed = is.2; nothing = λ e. absurd (some e) }
+    record { sides = (record { end = is.0; no_want = is.1 }, tt); no_want = is.2; nothing = λ e. absurd (some e) }
 
 -- what a look publishes is accepted
 read_accepted : (default_port : ℕ) (out : ReadOut) (bytes : List ℕ) (corefile : Corefile) → out ≡ readout.Got bytes → IsCorefile default_port bytes corefile → AllByRecursion (IsServed default_port) (read_bundle out)
@@ -169,7 +169,7 @@ no_block_stops command default_port old new chain told counts fresh reads none =
     stops status.Ended (Some new) (opens_nothing command.conf new.journal _ journal (one_read command.conf (readout.Got chain.bundle.conf))) (host-adds-nothing told)
     (record {
       sides = tt;
-      fed = refl;
+      no_want = refl;
       nothing = λ e. record {
         watch = λ f. absurd cc;
         conf = chain.bundle.conf;

@@ -93,7 +93,7 @@ pub record Again (conf : List ℕ) (p : ℕ) (first : Bundle) (looks : List Watc
 kept : {conf : List ℕ} {p : ℕ} {first : Bundle} {looks : List WatchTurn} {a b : WatchState} {g : GenerationsData} {had : ℕ} (answer : Looking) (mid c : WatchState) (h : GenerationsData) (has : ℕ)
     → HasWatched conf p first looks a b g had → AddsWatch b mid (Look 30000 15000 ∷ []) → (over : LooksOver conf g h mid c answer) → published_by (looked over.out answer over.flag) ≡ [] → h ≡ g → has ≡ had
     → Again conf p first looks a c h has
-kept {conf} {p} {first} {looks} {a} {b} {g} {had} answer mid c h has w waits over none same fed =
+kept {conf} {p} {first} {looks} {a} {b} {g} {had} answer mid c h has w waits over none same no_want =
     let nothing : bundles_of first looks ++ published_by (looked over.out answer over.flag) ≡ bundles_of first looks =
     ap (λ (l : List Bundle). bundles_of first looks ++ l) none ∙ append-nil (bundles_of first looks) in
     record {
@@ -101,7 +101,7 @@ kept {conf} {p} {first} {looks} {a} {b} {g} {had} answer mid c h has w waits ove
       watched = extends (looked over.out answer over.flag) w.earlier w (watch-adds-then waits over.told) (looked_of over.out answer w mid c h over over.answers)
           (ap length nothing ∙ w.count ∙ ap (λ (x : GenerationsData). x.published) (sym same))
           (nothing ∙ w.last ∙ ap (λ (x : GenerationsData). w.earlier ++ x.chain.bundle ∷ []) (sym same))
-          (ap (λ (x : GenerationsData). x.chain.default_port) same ∙ w.port) (subst (λ (x : GenerationsData). IsChain x.chain) (sym same) w.is) (omega (arith, fed));
+          (ap (λ (x : GenerationsData). x.chain.default_port) same ∙ w.port) (subst (λ (x : GenerationsData). IsChain x.chain) (sym same) w.is) (omega (arith, no_want));
     }
 
 length-more : {A : Type 0} (items : List A) (item : A) → length (items ++ item ∷ []) ≡ length items + 1
@@ -113,23 +113,23 @@ published_look : {conf : List ℕ} {p : ℕ} {first : Bundle} {looks : List Watc
     → HasWatched conf p first looks a b g had → AddsWatch b mid (Look 30000 15000 ∷ []) → LooksOver conf g h mid c (looking.Published serial) → AddsWatch mid c (look_marks conf out (looking.Published serial) flag)
     → AnswersLook conf g.chain.default_port g.chain.bundle.conf g.chain.corefile g.published out (looking.Published serial) → ServesRead g h out → has ≡ had
     → Again conf p first looks a c h has
-published_look {conf} {p} {first} {looks} {a} {b} {g} {had} serial mid c h has (readout.Got bytes) flag w waits over told answers replaces fed = record {
+published_look {conf} {p} {first} {looks} {a} {b} {g} {had} serial mid c h has (readout.Got bytes) flag w waits over told answers replaces no_want = record {
   look = looked (readout.Got bytes) (looking.Published serial) flag;
   watched = extends (looked (readout.Got bytes) (looking.Published serial) flag) (bundles_of first looks) w (watch-adds-then waits told)
       (looked_of (readout.Got bytes) (looking.Published serial) w mid c h over answers)
       (let r = replaces.published in let n = w.count in omega (arith, length-more (bundles_of first looks) (record { conf = bytes }), r, n))
       (ap (λ (b : List ℕ). bundles_of first looks ++ record { conf = b } ∷ []) (sym replaces.conf))
-      (replaces.port ∙ w.port) replaces.is (omega (arith, fed));
+      (replaces.port ∙ w.port) replaces.is (omega (arith, no_want));
 }
-published_look serial mid c h has readout.Missing flag w waits over told answers replaces fed = absurd replaces
-published_look serial mid c h has readout.Failed flag w waits over told answers replaces fed = absurd replaces
-published_look serial mid c h has readout.NoMemory flag w waits over told answers replaces fed = absurd replaces
+published_look serial mid c h has readout.Missing flag w waits over told answers replaces no_want = absurd replaces
+published_look serial mid c h has readout.Failed flag w waits over told answers replaces no_want = absurd replaces
+published_look serial mid c h has readout.NoMemory flag w waits over told answers replaces no_want = absurd replaces
 
 -- a look that met want of memory
 starved_look : {conf : List ℕ} {p : ℕ} {first : Bundle} {looks : List WatchTurn} {a b : WatchState} {g : GenerationsData} {had : ℕ} (mid c : WatchState) (h : GenerationsData) (has : ℕ)
     → HasWatched conf p first looks a b g had → AddsWatch b mid (Look 30000 15000 ∷ []) → Starves conf g h mid c → has ≡ min (had + 1) (2 ^ 64 - 1)
     → Again conf p first looks a c h has
-starved_look {conf} {p} {first} {looks} {a} {b} {g} {had} mid c h has w waits starves hungry =
+starved_look {conf} {p} {first} {looks} {a} {b} {g} {had} mid c h has w waits starves want =
     let nothing = append-nil (bundles_of first looks) in
     let same = starves.same in
     record {
@@ -146,26 +146,26 @@ starved_look {conf} {p} {first} {looks} {a} {b} {g} {had} mid c h has w waits st
           })
           (ap length nothing ∙ w.count ∙ ap (λ (x : GenerationsData). x.published) (sym same))
           (nothing ∙ w.last ∙ ap (λ (x : GenerationsData). w.earlier ++ x.chain.bundle ∷ []) (sym same))
-          (ap (λ (x : GenerationsData). x.chain.default_port) same ∙ w.port) (subst (λ (x : GenerationsData). IsChain x.chain) (sym same) w.is) (omega (arith, hungry));
+          (ap (λ (x : GenerationsData). x.chain.default_port) same ∙ w.port) (subst (λ (x : GenerationsData). IsChain x.chain) (sym same) w.is) (omega (arith, want));
     }
 
 by_answer : {conf : List ℕ} {p : ℕ} {first : Bundle} {looks : List WatchTurn} {a b : WatchState} {g : GenerationsData} {had : ℕ} (answer : Looking) (mid c : WatchState) (h : GenerationsData) (has : ℕ)
     → HasWatched conf p first looks a b g had → AddsWatch b mid (Look 30000 15000 ∷ []) → LooksOnce conf g h mid c answer → answer ≢ looking.NoReload
     → (answer ≡ looking.NoMemory → has ≡ min (had + 1) (2 ^ 64 - 1)) → (answer ≢ looking.NoMemory → has ≡ had) → Again conf p first looks a c h has
-by_answer looking.NoReload mid c h has w waits looks made hungry fed = absurd (made refl)
-by_answer (looking.ReadFailed name) mid c h has w waits looks made hungry fed = kept (looking.ReadFailed name) mid c h has w waits looks refl looks.behind (fed (λ e. absurd cc))
-by_answer looking.Same mid c h has w waits looks made hungry fed = kept looking.Same mid c h has w waits looks refl looks.behind (fed (λ e. absurd cc))
-by_answer (looking.Refused why) mid c h has w waits looks made hungry fed = kept (looking.Refused why) mid c h has w waits looks refl looks.behind (fed (λ e. absurd cc))
-by_answer (looking.PortsDiffer ports others) mid c h has w waits looks made hungry fed = kept (looking.PortsDiffer ports others) mid c h has w waits looks refl looks.behind (fed (λ e. absurd cc))
-by_answer looking.SerialsSpent mid c h has w waits looks made hungry fed = kept looking.SerialsSpent mid c h has w waits looks refl looks.behind (fed (λ e. absurd cc))
-by_answer (looking.Published serial) mid c h has w waits looks made hungry fed =
-    published_look serial mid c h has looks.out looks.flag w waits looks looks.told looks.answers looks.behind (fed (λ e. absurd cc))
-by_answer looking.NoMemory mid c h has w waits looks made hungry fed = starved_look mid c h has w waits looks (hungry refl)
+by_answer looking.NoReload mid c h has w waits looks made want no_want = absurd (made refl)
+by_answer (looking.ReadFailed name) mid c h has w waits looks made want no_want = kept (looking.ReadFailed name) mid c h has w waits looks refl looks.behind (no_want (λ e. absurd cc))
+by_answer looking.Same mid c h has w waits looks made want no_want = kept looking.Same mid c h has w waits looks refl looks.behind (no_want (λ e. absurd cc))
+by_answer (looking.Refused why) mid c h has w waits looks made want no_want = kept (looking.Refused why) mid c h has w waits looks refl looks.behind (no_want (λ e. absurd cc))
+by_answer (looking.PortsDiffer ports others) mid c h has w waits looks made want no_want = kept (looking.PortsDiffer ports others) mid c h has w waits looks refl looks.behind (no_want (λ e. absurd cc))
+by_answer looking.SerialsSpent mid c h has w waits looks made want no_want = kept looking.SerialsSpent mid c h has w waits looks refl looks.behind (no_want (λ e. absurd cc))
+by_answer (looking.Published serial) mid c h has w waits looks made want no_want =
+    published_look serial mid c h has looks.out looks.flag w waits looks looks.told looks.answers looks.behind (no_want (λ e. absurd cc))
+by_answer looking.NoMemory mid c h has w waits looks made want no_want = starved_look mid c h has w waits looks (want refl)
 
 -- a further look, by what the watcher's step came to
 pub looks_on : {conf : List ℕ} {p : ℕ} {first : Bundle} {looks : List WatchTurn} {a b c : WatchState} {g h : GenerationsData} {had has : ℕ}
     → HasWatched conf p first looks a b g had → LooksAgain conf g h b c had has → Again conf p first looks a c h has
-looks_on {c = c} {h = h} {has = has} w again = by_answer again.answer again.mid c h has w again.looked again.looks again.made again.hungry again.fed
+looks_on {c = c} {h = h} {has = has} w again = by_answer again.answer again.mid c h has w again.looked again.looks again.made again.want again.no_want
 
 same_journal : (journal : Option (List WatchMark)) → OnSome journal (journal ≡ watch_added journal [])
 same_journal None = tt

@@ -14,7 +14,7 @@ use Rattle.dns_server.specs.declared.worker.Tally.{Tally}
 use Rattle.dns_server.specs.declared.worker.Turned.{Turned}
 use Rattle.dns_server.specs.declared.worker.Turned.TheVariants as turned
 use Rattle.dns_server.specs.declared.worker.WorkEnd.{WorkEnd}
-use Rattle.dns_server.specs.Tally.{TurnEnds, IsIdle, tallied, missed, hungered}
+use Rattle.dns_server.specs.Tally.{TurnEnds, IsIdle, tallied, missed, with_want_in_row}
 use Rattle.dns_server.specs.WatchTurn.{WatchTurn, published_by}
 use Rattle.dns_server.specs.Worker.{IsBy, TakesOne, AddsTurn, last_row, HasNoLongRow, AreTurns, PinsFrom, KeepsPace, WorkerRun}
 
@@ -151,8 +151,8 @@ pub record HasWorked (bundles : List Bundle) (looks : List WatchTurn) (default_p
   pub are : AreTurns bundles default_port t.pins t.starved turns
   pub seen : AllByRecursion (λ n. n ≤ t.seen) (flat_map serials turns)
   pub no_row : HasNoLongRow 0 turns
-  pub row : last_row 0 turns + one_if t.hungry ≤ t.failures
-  pub whole : t.hungry ≡ false → last_row 0 turns ≡ t.failures
+  pub row : last_row 0 turns + one_if t.has_want ≤ t.failures
+  pub whole : t.has_want ≡ false → last_row 0 turns ≡ t.failures
   pub pace : KeepsPace 0 looks turns
   pub few : length turns ≤ rounds
 
@@ -172,7 +172,7 @@ starts {bundles} {default_port} a t idle = subst (HasWorked bundles [] default_p
 -- a turn that took a datagram
 takes : {bundles : List Bundle} {bundle : Bundle} {looks : List WatchTurn} {p s rounds : ℕ} {a b c : Option (List Mark)} {t : Tally} (want : ℕ)
     → slice_get bundles s ≡ Some bundle → t.seen ≤ s → count_published looks ≤ s → HasWorked bundles looks p rounds a b t → Grows b c (TakesOne bundle p s want)
-    → HasWorked bundles looks p (rounds + 1) a c (record { pins = t.pins + 1; seen = s; starved = t.starved + want; failures = 0; hungry = false })
+    → HasWorked bundles looks p (rounds + 1) a c (record { pins = t.pins + 1; seen = s; starved = t.starved + want; failures = 0; has_want = false })
 takes {bundles} {bundle} {looks} {p} {s} {rounds} {a} {b} {c} {t} want at rises ahead w grows =
     let turn = grows.are.turn in
     let is = grows.are.by_bundle in
@@ -237,9 +237,9 @@ fails {looks = looks} {t = t} w adds few = record {
 }
 
 -- a receive that met want of memory
-hungers : {bundles : List Bundle} {looks : List WatchTurn} {p rounds : ℕ} {a b c : Option (List Mark)} {t : Tally}
-    → HasWorked bundles looks p rounds a b t → Adds b c [] → HasWorked bundles looks p (rounds + 1) a c (missed (hungered t))
-hungers {a = a} {c = c} w adds = record {
+meets_want : {bundles : List Bundle} {looks : List WatchTurn} {p rounds : ℕ} {a b c : Option (List Mark)} {t : Tally}
+    → HasWorked bundles looks p rounds a b t → Adds b c [] → HasWorked bundles looks p (rounds + 1) a c (missed (with_want_in_row t))
+meets_want {a = a} {c = c} w adds = record {
   turns = w.turns;
   told = subst (Adds a c) (append-nil (flat_map marks_of w.turns)) (adds-then w.told adds);
   are = record { lawful = w.are.lawful; in_order = w.are.in_order; datagrams_are = w.are.datagrams_are; wants_at_most = omega (arith, w.are.wants_at_most) };
@@ -291,9 +291,9 @@ takes_last most w last = record {
 
 -- the 64th receive in a row failed, and none of them met want of memory
 fails_last : {bundles : List Bundle} {looks : List WatchTurn} {p rounds : ℕ} {a b c : Option (List Mark)} {t : Tally} (most : ℕ)
-    → HasWorked bundles looks p rounds a b t → Adds b c (RecvFailed ∷ []) → t.failures + 1 ≡ 64 → t.hungry ≡ false → t.pins ≤ most
+    → HasWorked bundles looks p rounds a b t → Adds b c (RecvFailed ∷ []) → t.failures + 1 ≡ 64 → t.has_want ≡ false → t.pins ≤ most
     → Stopped bundles looks p most (rounds + 1) a c (missed t) ends.RecvFailed
-fails_last {looks = looks} {t = t} most w adds last fed le = record {
+fails_last {looks = looks} {t = t} most w adds last no_want le = record {
   run = record {
     marks = _;
     told = failed_told w.turns w.told adds;
@@ -305,20 +305,20 @@ fails_last {looks = looks} {t = t} most w adds last fed le = record {
       at_most = le;
       seen_all = failed_seen t.seen w.turns w.seen;
       pace = failed_pace looks w.turns w.pace;
-      ends = (record { before = w.turns; last = refl; row = let whole = w.whole fed in omega (arith, whole, last); first = w.no_row }, refl);
+      ends = (record { before = w.turns; last = refl; row = let whole = w.whole no_want in omega (arith, whole, last); first = w.no_row }, refl);
     };
   };
   few = omega (arith, length-push w.turns failed, w.few);
 }
 
-one_of_true : (hungry : Bool) → hungry ≡ true → one_if hungry ≡ 1
-one_of_true hungry is = ap one_if is
+one_of_true : (has_want : Bool) → has_want ≡ true → one_if has_want ≡ 1
+one_of_true has_want is = ap one_if is
 
 -- the 64th receive in a row failed, and one of them met want of memory
-fails_hungry : {bundles : List Bundle} {looks : List WatchTurn} {p rounds : ℕ} {a b c : Option (List Mark)} {t : Tally} (most : ℕ)
-    → HasWorked bundles looks p rounds a b t → Adds b c (RecvFailed ∷ []) → t.failures + 1 ≡ 64 → t.hungry ≡ true → t.pins ≤ most
+fails_with_want : {bundles : List Bundle} {looks : List WatchTurn} {p rounds : ℕ} {a b c : Option (List Mark)} {t : Tally} (most : ℕ)
+    → HasWorked bundles looks p rounds a b t → Adds b c (RecvFailed ∷ []) → t.failures + 1 ≡ 64 → t.has_want ≡ true → t.pins ≤ most
     → Stopped bundles looks p most (rounds + 1) a c (missed t) ends.NoMemory
-fails_hungry {looks = looks} {t = t} most w adds last hungry le = record {
+fails_with_want {looks = looks} {t = t} most w adds last has_want le = record {
   run = record {
     marks = _;
     told = failed_told w.turns w.told adds;
@@ -330,17 +330,17 @@ fails_hungry {looks = looks} {t = t} most w adds last hungry le = record {
       at_most = le;
       seen_all = failed_seen t.seen w.turns w.seen;
       pace = failed_pace looks w.turns w.pace;
-      ends = (no_row_failed 0 w.turns w.no_row (omega (arith, w.row, last, one_of_true t.hungry hungry)), refl);
+      ends = (no_row_failed 0 w.turns w.no_row (omega (arith, w.row, last, one_of_true t.has_want has_want)), refl);
     };
   };
   few = omega (arith, length-push w.turns failed, w.few);
 }
 
 -- the 64th receive in a row met want of memory
-hungers_last : {bundles : List Bundle} {looks : List WatchTurn} {p rounds : ℕ} {a b c : Option (List Mark)} {t : Tally} (most : ℕ)
-    → HasWorked bundles looks p rounds a b t → Adds b c [] → t.pins ≤ most → Stopped bundles looks p most (rounds + 1) a c (missed (hungered t)) ends.NoMemory
-hungers_last most w adds le =
-    let h = hungers w adds in
+meets_last_want : {bundles : List Bundle} {looks : List WatchTurn} {p rounds : ℕ} {a b c : Option (List Mark)} {t : Tally} (most : ℕ)
+    → HasWorked bundles looks p rounds a b t → Adds b c [] → t.pins ≤ most → Stopped bundles looks p most (rounds + 1) a c (missed (with_want_in_row t)) ends.NoMemory
+meets_last_want most w adds le =
+    let h = meets_want w adds in
     record {
       run = record {
         marks = _;
@@ -364,10 +364,10 @@ pub goes_on : {bundles : List Bundle} {looks : List WatchTurn} {bundle : Bundle}
     → slice_get bundles s ≡ Some bundle → t.seen ≤ s → count_published looks ≤ s → HasWorked bundles looks p rounds a b t → Grows b c (AddsTurn bundle p s turned)
     → TurnEnds most turned (tallied s turned t) None → HasWorked bundles looks p (rounds + 1) a c (tallied s turned t)
 goes_on {bundles} {looks} {p = p} {s = s} {rounds = rounds} {a = a} {c = c} {t = t} most turned.Answered at rises ahead w grows ends =
-    subst (λ (n : ℕ). HasWorked bundles looks p (rounds + 1) a c (record { pins = t.pins + 1; seen = s; starved = n; failures = 0; hungry = false })) (add-zero t.starved) (takes 0 at rises ahead w grows)
+    subst (λ (n : ℕ). HasWorked bundles looks p (rounds + 1) a c (record { pins = t.pins + 1; seen = s; starved = n; failures = 0; has_want = false })) (add-zero t.starved) (takes 0 at rises ahead w grows)
 goes_on most turned.Starved at rises ahead w grows ends = takes 1 at rises ahead w grows
 goes_on most turned.RecvFailed at rises ahead w grows ends = fails w (adds_just grows) ends
-goes_on most turned.RecvStarved at rises ahead w grows ends = hungers w (adds_just grows)
+goes_on most turned.RecvStarved at rises ahead w grows ends = meets_want w (adds_just grows)
 goes_on most turned.RecvEnd at rises ahead w grows ends = absurd cc
 
 -- the last turn
@@ -376,7 +376,7 @@ pub stops : {bundles : List Bundle} {looks : List WatchTurn} {bundle : Bundle} {
     → TurnEnds most turned (tallied s turned t) (Some end)
     → Stopped bundles looks p most (rounds + 1) a c (tallied s turned t) end
 stops {bundles} {looks} {p = p} {s = s} {rounds = rounds} {a = a} {c = c} {t = t} most turned.Answered ends.End at rises ahead more w grows last =
-    takes_last most (subst (λ (n : ℕ). HasWorked bundles looks p (rounds + 1) a c (record { pins = t.pins + 1; seen = s; starved = n; failures = 0; hungry = false })) (add-zero t.starved) (takes 0 at rises ahead w grows)) last
+    takes_last most (subst (λ (n : ℕ). HasWorked bundles looks p (rounds + 1) a c (record { pins = t.pins + 1; seen = s; starved = n; failures = 0; has_want = false })) (add-zero t.starved) (takes 0 at rises ahead w grows)) last
 stops most turned.Answered ends.RecvFailed at rises ahead more w grows last = absurd last
 stops most turned.Answered ends.NoMemory at rises ahead more w grows last = absurd last
 stops most turned.Starved ends.End at rises ahead more w grows last = takes_last most (takes 1 at rises ahead w grows) last
@@ -384,10 +384,10 @@ stops most turned.Starved ends.RecvFailed at rises ahead more w grows last = abs
 stops most turned.Starved ends.NoMemory at rises ahead more w grows last = absurd last
 stops most turned.RecvFailed ends.End at rises ahead more w grows last = absurd last
 stops most turned.RecvFailed ends.RecvFailed at rises ahead more w grows last = fails_last most w (adds_just grows) last.0 last.1 (omega (arith, more))
-stops most turned.RecvFailed ends.NoMemory at rises ahead more w grows last = fails_hungry most w (adds_just grows) last.0 last.1 (omega (arith, more))
+stops most turned.RecvFailed ends.NoMemory at rises ahead more w grows last = fails_with_want most w (adds_just grows) last.0 last.1 (omega (arith, more))
 stops most turned.RecvStarved ends.End at rises ahead more w grows last = absurd last
-stops most turned.RecvStarved ends.RecvFailed at rises ahead more w grows last = absurd (let fed = last.1 in cc)
-stops most turned.RecvStarved ends.NoMemory at rises ahead more w grows last = hungers_last most w (adds_just grows) (omega (arith, more))
+stops most turned.RecvStarved ends.RecvFailed at rises ahead more w grows last = absurd (let no_want = last.1 in cc)
+stops most turned.RecvStarved ends.NoMemory at rises ahead more w grows last = meets_last_want most w (adds_just grows) (omega (arith, more))
 stops most turned.RecvEnd ends.End at rises ahead more w grows last = ends_with most w (adds_just grows) (omega (arith, more))
 stops most turned.RecvEnd ends.RecvFailed at rises ahead more w grows last = absurd cc
 stops most turned.RecvEnd ends.NoMemory at rises ahead more w grows last = absurd cc

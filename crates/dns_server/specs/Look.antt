@@ -115,7 +115,8 @@ pub record Starves (conf : List ℕ) (old new : GenerationsData) (before after :
   pub same : new ≡ old
   pub again : reloads old.chain.corefile ≡ true
 
--- what the read of the Corefile comes to before anything is published: an answer, or a chain that is to serve next
+-- what the read of the Corefile comes to before anything is published: an answer, or a chain that is to serve next. No answer
+-- here depends on how many generations were published, which is 0 for all of them.
 abbrev pub AnswersKept : List ℕ → Chain → ReadOut → Looking → Type 0
 AnswersKept conf chain out looking.NoReload = ⊥
 AnswersKept conf chain out (looking.ReadFailed name) = AnswersLook conf chain.default_port chain.bundle.conf chain.corefile 0 out (looking.ReadFailed name)

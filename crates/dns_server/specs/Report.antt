@@ -124,12 +124,12 @@ pub record HasNoBlock (command : CommandData) (default_port : ℕ) (run : RunDat
 -- a worker took its last datagram, and met no want of memory
 pub record TookAll (side : SideRun) : Type 0 where
   pub end : side.end ≡ ends.End
-  pub fed : side.starved ≡ 0
+  pub no_want : side.starved ≡ 0
 
 -- a worker took its last datagram or could not receive any more, and met no want of memory
 pub record MetNoWant (side : SideRun) : Type 0 where
   pub end : (side.end ≡ ends.End) ⊎ (side.end ≡ ends.RecvFailed)
-  pub fed : side.starved ≡ 0
+  pub no_want : side.starved ≡ 0
 
 abbrev pub SomeFailed : List SideRun → Type 0
 SomeFailed [] = ⊥
@@ -138,13 +138,13 @@ SomeFailed (side ∷ sides) = (side.end ≡ ends.RecvFailed) ⊎ SomeFailed side
 -- every worker took its last datagram; without a side there was nothing to serve
 pub record HasEnded (command : CommandData) (default_port : ℕ) (run : RunData) : Type 0 where
   pub sides : AllByRecursion TookAll run.sides
-  pub fed : run.starved ≡ 0
+  pub no_want : run.starved ≡ 0
   pub nothing : run.published ≡ 0 → HasNoBlock command default_port run
 
 -- some worker could not receive any more, and nothing met want of memory
 pub record HasFailed (run : RunData) : Type 0 where
   pub sides : AllByRecursion MetNoWant run.sides
-  pub fed : run.starved ≡ 0
+  pub no_want : run.starved ≡ 0
   pub some : SomeFailed run.sides
 
 -- the cause of each status that a run by a command comes to, before that is told. Want of memory is always allowed.

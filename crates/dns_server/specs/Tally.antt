@@ -8,29 +8,29 @@ use Rattle.dns_server.specs.declared.worker.WorkEnd.TheVariants as ends
 
 -- a worker that has done nothing yet
 abbrev pub IsIdle : Tally → Type 0
-IsIdle tally = tally ≡ record { pins = 0; seen = 0; starved = 0; failures = 0; hungry = false }
+IsIdle tally = tally ≡ record { pins = 0; seen = 0; starved = 0; failures = 0; has_want = false }
 
 -- behind a datagram under this serial
 abbrev pub took : ℕ → Tally → Tally
-took serial tally = record { pins = tally.pins + 1; seen = serial; starved = tally.starved; failures = 0; hungry = false }
+took serial tally = record { pins = tally.pins + 1; seen = serial; starved = tally.starved; failures = 0; has_want = false }
 
 -- behind a call of `recv` that gave nothing
 abbrev pub missed : Tally → Tally
-missed tally = record { pins = tally.pins; seen = tally.seen; starved = tally.starved; failures = tally.failures + 1; hungry = tally.hungry }
+missed tally = record { pins = tally.pins; seen = tally.seen; starved = tally.starved; failures = tally.failures + 1; has_want = tally.has_want }
 
 -- behind want of memory for a datagram that was taken, and for one that wasn't
-abbrev pub wanted : Tally → Tally
-wanted tally = record { pins = tally.pins; seen = tally.seen; starved = tally.starved + 1; failures = tally.failures; hungry = tally.hungry }
+abbrev pub with_want : Tally → Tally
+with_want tally = record { pins = tally.pins; seen = tally.seen; starved = tally.starved + 1; failures = tally.failures; has_want = tally.has_want }
 
-abbrev pub hungered : Tally → Tally
-hungered tally = record { pins = tally.pins; seen = tally.seen; starved = tally.starved + 1; failures = tally.failures; hungry = true }
+abbrev pub with_want_in_row : Tally → Tally
+with_want_in_row tally = record { pins = tally.pins; seen = tally.seen; starved = tally.starved + 1; failures = tally.failures; has_want = true }
 
 -- behind a turn over the generation with this serial
 abbrev pub tallied : ℕ → Turned → Tally → Tally
 tallied serial turned.Answered tally = took serial tally
-tallied serial turned.Starved tally = took serial (wanted tally)
+tallied serial turned.Starved tally = took serial (with_want tally)
 tallied serial turned.RecvFailed tally = missed tally
-tallied serial turned.RecvStarved tally = missed (hungered tally)
+tallied serial turned.RecvStarved tally = missed (with_want_in_row tally)
 tallied serial turned.RecvEnd tally = tally
 
 -- whether a datagram was the last one
@@ -44,8 +44,8 @@ DatagramEnds most tally (Some ends.NoMemory) = ⊥
 abbrev pub RowEnds : Tally → Option WorkEnd → Type 0
 RowEnds tally None = tally.failures < 64
 RowEnds tally (Some ends.End) = ⊥
-RowEnds tally (Some ends.RecvFailed) = (tally.failures ≡ 64) × (tally.hungry ≡ false)
-RowEnds tally (Some ends.NoMemory) = (tally.failures ≡ 64) × (tally.hungry ≡ true)
+RowEnds tally (Some ends.RecvFailed) = (tally.failures ≡ 64) × (tally.has_want ≡ false)
+RowEnds tally (Some ends.NoMemory) = (tally.failures ≡ 64) × (tally.has_want ≡ true)
 
 -- whether a turn was the last one, by what the worker counts behind it
 abbrev pub TurnEnds : ℕ → Turned → Tally → Option WorkEnd → Type 0

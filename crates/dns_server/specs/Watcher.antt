@@ -16,22 +16,22 @@ pub record LooksAgain (conf : List ℕ) (old new : GenerationsData) (before afte
   pub answer : Looking
   pub looks : LooksOnce conf old new mid after answer
   pub made : answer ≢ looking.NoReload
-  pub hungry : answer ≡ looking.NoMemory → has ≡ min (had + 1) (2 ^ 64 - 1)
-  pub fed : answer ≢ looking.NoMemory → has ≡ had
+  pub want : answer ≡ looking.NoMemory → has ≡ min (had + 1) (2 ^ 64 - 1)
+  pub no_want : answer ≢ looking.NoMemory → has ≡ had
 
 -- the watch has ended
 pub record WatchEnds (old new : GenerationsData) (before after : WatchState) (had has : ℕ) : Type 0 where
   pub told : AddsWatch before after (End ∷ [])
   pub again : reloads old.chain.corefile ≡ true
   pub same : new ≡ old
-  pub fed : has ≡ had
+  pub no_want : has ≡ had
 
 -- what serves is not to be looked at again
 pub record ReloadsNoMore (old new : GenerationsData) (before after : WatchState) (had has : ℕ) : Type 0 where
   pub told : AddsWatch before after []
   pub no_reload : reloads old.chain.corefile ≡ false
   pub same : new ≡ old
-  pub fed : has ≡ had
+  pub no_want : has ≡ had
 
 abbrev pub TakesLook : List ℕ → GenerationsData → GenerationsData → WatchState → WatchState → ℕ → ℕ → Option WatchEnd → Type 0
 TakesLook conf old new before after had has None = LooksAgain conf old new before after had has

@@ -10,9 +10,10 @@ use dns_data::Text;
 use outside::{Look, Watch};
 use std::alloc::Global;
 
-/// How long a look waits, in milliseconds: an interval, and up to a jitter more.
+/// How long a look waits at least, in milliseconds.
 pub const INTERVAL: u64 = 30_000;
 
+/// How much longer a look waits at most, in milliseconds.
 pub const JITTER: u64 = 15_000;
 
 /// Why no further look for a changed configuration is made: the watch has ended, or what serves has no `reload`.

@@ -35,7 +35,7 @@ pub struct Tally {
     /// How many of the last calls of `recv` in a row failed or met want of memory.
     pub failures: u64,
     /// Whether one of these met want of memory.
-    pub hungry: bool,
+    pub has_want: bool,
 }
 
 impl Tally {
@@ -48,7 +48,7 @@ impl Tally {
         self.pins += 1;
         self.seen = serial;
         self.failures = 0;
-        self.hungry = false;
+        self.has_want = false;
         if self.pins == most {
             return Some(WorkEnd::End);
         }
@@ -65,7 +65,7 @@ impl Tally {
         if self.failures < MOST_FAILURES {
             return None;
         }
-        if self.hungry {
+        if self.has_want {
             return Some(WorkEnd::NoMemory);
         }
         Some(WorkEnd::RecvFailed)
@@ -92,7 +92,7 @@ impl<S: Side> Worker<S> {
                 seen: 0,
                 starved: 0,
                 failures: 0,
-                hungry: false,
+                has_want: false,
             },
         }
     }
@@ -138,7 +138,7 @@ pub fn work_once<S: Side>(
         Turned::RecvFailed => worker.tally.missed(),
         Turned::RecvStarved => {
             worker.tally.starved += 1;
-            worker.tally.hungry = true;
+            worker.tally.has_want = true;
             worker.tally.missed()
         }
         Turned::RecvEnd => Some(WorkEnd::End),

@@ -1,4 +1,4 @@
-ghost use Rattle.std.specs.Prelude.{◌≡◌, ◌≤◌, length, vec_len, IfOk, IfSome};
+ghost use Rattle.std.specs.Prelude.{◌≡◌, ◌≤◌, ◌<◌, ◌+◌, ◌↔◌, length, IfSome, IsTrue};
 
 use dns_data::{Bytes, Copies, Text};
 use std::alloc::Global;
@@ -22,6 +22,7 @@ impl KeptFile {
     /// Keeps the bytes of a file that was read at this time, where there is memory for it.
     pub fn new(alloc: Global, name: &Text, bytes: &Bytes, at: u64) -> Option<KeptFile>
         requires { length bytes.now ≤ 1048577 }
+        ensures { IfSome result (λ file. (file.name ≡ name.now) × (file.bytes ≡ bytes.now) × (file.at ≡ at)) }
     {
         let Ok(name) = name.copy(alloc) else {
             return None;
@@ -34,7 +35,9 @@ impl KeptFile {
 
     /// The bytes of the file of this name, where they were read less than a second before.
     pub fn bytes(&self, name: &Text, now: u64) -> Option<&Bytes>
-        ensures { IfSome result (λ bytes. length bytes.now ≤ 1048577) }
+        ensures short { IfSome result (λ bytes. length bytes.now ≤ 1048577) }
+        ensures kept { IfSome result (λ bytes. (bytes.now ≡ self.now.bytes) × (self.now.name ≡ name.now)) }
+        ensures recent { IfSome result (λ bytes. (self.now.at ≤ now) × (now < self.now.at + 1000)) }
     {
         if self.name.as_str() == name.as_str() && is_before(self.at, now, SECOND) {
             return Some(&self.bytes);
@@ -51,7 +54,10 @@ pub struct KeptLine {
 }
 
 impl KeptLine {
-    pub fn new(alloc: Global, line: &[u8], at: u64) -> Option<KeptLine> {
+    /// Keeps a line that was written at this time, where there is memory for it.
+    pub fn new(alloc: Global, line: &[u8], at: u64) -> Option<KeptLine>
+        ensures { IfSome result (λ kept. (kept.line ≡ line.now) × (kept.at ≡ at)) }
+    {
         match Bytes::from_slice(alloc, line) {
             Ok(line) => Some(KeptLine { line, at }),
             Err(_) => None,
@@ -59,11 +65,16 @@ impl KeptLine {
     }
 
     /// Whether this line was written less than 30 seconds before.
-    pub fn is_fresh(&self, line: &[u8], now: u64) -> bool {
+    pub fn is_fresh(&self, line: &[u8], now: u64) -> bool
+        ensures { IsTrue result ↔ ((self.now.line ≡ line.now) × (self.now.at ≤ now) × (now < self.now.at + 30000)) }
+    {
         self.line.is(line) && is_before(self.at, now, INTERVAL)
     }
 }
 
-fn is_before(at: u64, now: u64, limit: u64) -> bool {
+// Whether a time is behind another, by less than a limit.
+fn is_before(at: u64, now: u64, limit: u64) -> bool
+    ensures { IsTrue result ↔ ((at ≤ now) × (now < at + limit)) }
+{
     at <= now && now - at < limit
 }

@@ -100,8 +100,9 @@ impl<R: Clock + RandomSource + Eprint + Drop> Side for UdpSide<R> {
         Wrote::Failed
     }
 
+    /// A clock that can't be read gives 0.
     fn now(&mut self) -> u64 {
-        moment(&self.rt)
+        moment(&self.rt).unwrap_or(0)
     }
 
     /// A word of the system's random source, or 0 where that fails.

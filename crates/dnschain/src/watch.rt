@@ -1,4 +1,4 @@
-ghost use Rattle.std.specs.Prelude.{◌≡◌, ◌≤◌, None, IfOk, vec_len};
+ghost use Rattle.std.specs.Prelude.{◌≡◌, ◌≤◌, None, length, IfOk, IfSome, vec_len};
 
 use crate::clock::moment;
 use crate::kept::{KeptFile, KeptLine};
@@ -46,6 +46,24 @@ impl<R: Files + Clock + Eprint + Drop> FileWatch<R> {
             note_faults: 0,
         }
     }
+
+    // The bytes that stand for a file; without a clock none do.
+    fn kept_bytes(&self, name: &Text, now: Option<u64>) -> Option<&Bytes>
+        ensures { IfSome result (λ bytes. length bytes.now ≤ 1048577) }
+    {
+        match (&self.file, now) {
+            (Some(file), Some(now)) => file.bytes(name, now),
+            _ => None,
+        }
+    }
+
+    // Whether a line was written too short a time before; without a clock no line was.
+    fn was_just_written(&self, line: &[u8], now: Option<u64>) -> bool {
+        match (&self.line, now) {
+            (Some(last), Some(now)) => last.is_fresh(line, now),
+            _ => false,
+        }
+    }
 }
 
 impl<R: Files + Clock + Eprint + Drop> PatternMaker for FileWatch<R> {
@@ -73,18 +91,19 @@ impl<R: Files + Clock + Eprint + Drop> Watch for FileWatch<R> {
 
     fn read(&mut self, name: &Text) -> ReadOut {
         let now = moment(&self.rt);
-        if let Some(file) = &self.file {
-            if let Some(bytes) = file.bytes(name, now) {
-                return match bytes.copy(self.alloc) {
-                    Ok(bytes) => ReadOut::Got(bytes),
-                    Err(_) => ReadOut::NoMemory,
-                };
-            }
+        if let Some(bytes) = self.kept_bytes(name, now) {
+            return match bytes.copy(self.alloc) {
+                Ok(bytes) => ReadOut::Got(bytes),
+                Err(_) => ReadOut::NoMemory,
+            };
         }
         match read_limited(&self.rt, self.alloc, name.as_str()) {
             Ok(bytes) => {
                 let bytes = Bytes::of(bytes);
-                self.file = KeptFile::new(self.alloc, name, &bytes, now);
+                self.file = match now {
+                    Some(now) => KeptFile::new(self.alloc, name, &bytes, now),
+                    None => None,
+                };
                 ReadOut::Got(bytes)
             }
             Err(fault) => match fault.kind() {
@@ -100,14 +119,15 @@ impl<R: Files + Clock + Eprint + Drop> Watch for FileWatch<R> {
 
     fn note(&mut self, line: &[u8]) -> Wrote {
         let now = moment(&self.rt);
-        if let Some(last) = &self.line {
-            if last.is_fresh(line, now) {
-                return Wrote::Ok;
-            }
+        if self.was_just_written(line, now) {
+            return Wrote::Ok;
         }
         if let Ok(text) = std::str::from_utf8(line) {
             if self.rt.eprintln(text).is_ok() {
-                self.line = KeptLine::new(self.alloc, line, now);
+                self.line = match now {
+                    Some(now) => KeptLine::new(self.alloc, line, now),
+                    None => None,
+                };
                 return Wrote::Ok;
             }
         }

@@ -3,6 +3,7 @@
 A test script prints one line a row, `ok TEXT` or `not ok TEXT`, and ends with status 1 where a row failed.
 """
 import os
+import random
 import socket
 import subprocess
 import sys
@@ -32,10 +33,18 @@ class Rows:
 
 
 def free_port():
-    """A UDP port that nothing has at the moment, in both families where there are two."""
-    with socket.socket(socket.AF_INET, socket.SOCK_DGRAM) as probe:
-        probe.bind(("0.0.0.0", 0))
-        return probe.getsockname()[1]
+    """A UDP port that nothing has at the moment, below those that the system gives to clients.
+
+    A client that asks before the server stands could be given the server's port otherwise, and would hear itself.
+    """
+    while True:
+        port = random.randrange(20000, 32000)
+        with socket.socket(socket.AF_INET, socket.SOCK_DGRAM) as probe:
+            try:
+                probe.bind(("0.0.0.0", port))
+                return port
+            except OSError:
+                pass
 
 
 def corefile(folder, text):
@@ -90,6 +99,7 @@ class Served:
             with Client(self.port) as client:
                 if client.ask(query, 0.2) is not None:
                     return True
+            time.sleep(0.01)
         return False
 
 

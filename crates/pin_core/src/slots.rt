@@ -76,6 +76,7 @@ impl Phase {
         matches!(self, Phase::Free)
     }
 
+    #[inline]
     pub(crate) fn is_current(&self) -> bool
         ensures { result ≡ is_current self.now }
     {
@@ -137,14 +138,15 @@ impl Slot {
         })
     }
 
-    pub(crate) fn pinned(self) -> Slot
-        requires { due self + 1 < 2 ^ 64 }
-        ensures { result ≡ pinned_slot self }
+    // In place: a slot is 72 bytes, and each query pins.
+    #[inline]
+    pub(crate) fn add_pin(&mut self)
+        requires { due self.old + 1 < 2 ^ 64 }
+        ensures { self.new ≡ pinned_slot self.old }
     {
-        let Phase::Current(pins) = self.phase else {
-            return self;
-        };
-        self.with_phase(Phase::Current(pins + 1))
+        if let Phase::Current(pins) = &mut self.phase {
+            *pins += 1;
+        }
     }
 
     pub(crate) fn drained(self, workers: usize, worker: usize) -> Slot

@@ -51,6 +51,7 @@ fn replace_all(slots: &mut [Slot; SLOTS])
     }
 }
 
+#[inline]
 fn current_of(slots: &[Slot]) -> Option<usize>
     ensures { result ≡ position (λ x. is_current x.phase) slots.now }
 {
@@ -95,6 +96,7 @@ impl PinState {
     }
 
     /// The slot of the current generation; `None` before the first publication.
+    #[inline]
     pub fn current_slot(&self) -> Option<u32>
         ensures none { IsNone result ↔ (self.now.published ≡ 0) }
         ensures slot { IfSome result (λ s. s ≡ current self.now) }
@@ -113,6 +115,8 @@ impl PinState {
     }
 
     /// Makes one step where it is lawful. Takes no memory.
+    // A caller that names its step gets just that arm.
+    #[inline(always)]
     #[tactic(auto, using(crate::specs::Laws::unlawful_same))]
     pub fn step(&mut self, step: PinStep) -> PinReply
         ensures machine { self.new ≡ (after self.old step).0 }
@@ -129,6 +133,7 @@ impl PinState {
         }
     }
 
+    #[inline(never)]
     fn fill(&mut self, slot: u32, worker: u32) -> PinReply
         ensures machine { self.new ≡ (fill self.old slot worker).0 }
         ensures reply { result ≡ (fill self.old slot worker).1 }
@@ -144,6 +149,7 @@ impl PinState {
         PinReply::Done
     }
 
+    #[inline(never)]
     fn publish(&mut self, slot: u32) -> PinReply
         ensures machine { self.new ≡ (publish self.old slot).0 }
         ensures reply { result ≡ (publish self.old slot).1 }
@@ -162,6 +168,7 @@ impl PinState {
         PinReply::Done
     }
 
+    #[inline]
     fn pin(&mut self, worker: u32) -> PinReply
         ensures machine { self.new ≡ (pin self.old worker).0 }
         ensures reply { result ≡ (pin self.old worker).1 }
@@ -177,7 +184,7 @@ impl PinState {
         if had.held.is_some() || had.pins >= MOST_PINS {
             return PinReply::Unlawful;
         }
-        self.slots[at] = self.slots[at].pinned();
+        self.slots[at].add_pin();
         self.workers[worker] = PinWorker {
             held: Some(slot),
             pins: had.pins + 1,
@@ -188,6 +195,7 @@ impl PinState {
         }
     }
 
+    #[inline]
     fn unpin(&mut self, worker: u32) -> PinReply
         ensures machine { self.new ≡ (unpin self.old worker).0 }
         ensures reply { result ≡ (unpin self.old worker).1 }
@@ -204,6 +212,7 @@ impl PinState {
         PinReply::Done
     }
 
+    #[inline(never)]
     fn sweep(&mut self, slot: u32) -> PinReply
         ensures machine { self.new ≡ (sweep self.old slot).0 }
         ensures reply { result ≡ (sweep self.old slot).1 }
@@ -227,6 +236,7 @@ impl PinState {
         PinReply::Ready
     }
 
+    #[inline(never)]
     fn drain(&mut self, slot: u32, worker: u32) -> PinReply
         ensures machine { self.new ≡ (drain self.old slot worker).0 }
         ensures reply { result ≡ (drain self.old slot worker).1 }

@@ -17,5 +17,5 @@ invariant_of-self c =
     let had : worker_at m w ≡ c.index.result.now = sym (get_or_read m.workers w c.index.result.now here c.index.ensures idle) in
     let none : (worker_at m w).held ≡ None = ap (λ (x : PinWorker). x.held) had ∙ no_pin c.index.result.now.held (ap not (sym c.is_some.ensures ∙ c.if-is_some.false)) in
     subst (λ (x : Slot × PinWorker). IsSound (with_worker (with_slot m s x.0) w (record { held = Some s; pins = x.1.pins + 1 })))
-    (λ i. (sym c.pinned.ensures i, had i))
+    (λ i. (sym c.add_pin.ensures i, had i))
     (sound_pin m s w c.self.invariant c.in-Some.ensures.within here is none (omega (arith, ap (λ (x : PinWorker). x.pins) had)))

@@ -2,10 +2,14 @@
 //! with a number that says how the run ended: README.md.
 #![tactic(auto)]
 
+mod calls;
 mod clock;
 mod host;
 mod kept;
 mod receive_buffer;
+mod sender;
+#[cfg(test)]
+mod tests;
 mod udp;
 mod watch;
 

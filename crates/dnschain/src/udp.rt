@@ -1,10 +1,12 @@
 ghost use Rattle.std.specs.Prelude.{◌≡◌, None, IfOk};
 
+use crate::calls::{receive, reply_to};
 use crate::clock::moment;
-use dns_data::{Addr, Bytes, Transport};
+use crate::sender::Sender;
+use dns_data::{Bytes, Transport};
 use outside::{Datagram, Outcome, Received, Seen, Side, Upstream, Wrote};
 use std::alloc::{AllocError, Global};
-use std::net::{IpAddr, SocketAddr, UdpSocket};
+use std::net::UdpSocket;
 use std::random::RandomSource;
 use std::sync::Arc;
 use std::sync::atomic::{AtomicU64, Ordering};
@@ -24,7 +26,7 @@ pub struct UdpSide<R: Clock + RandomSource + Eprint + Drop> {
     local: u16,
     packet: Vec<u8>,
     // The sender of the last datagram.
-    from: Option<SocketAddr>,
+    from: Sender,
     // How many sides have not left yet.
     live: Arc<AtomicU64, Global>,
     recv_faults: u64,
@@ -51,7 +53,7 @@ impl<R: Clock + RandomSource + Eprint + Drop> UdpSide<R> {
             socket,
             local,
             packet,
-            from: None,
+            from: Sender::nobody(),
             live,
             recv_faults: 0,
             send_faults: 0,
@@ -73,16 +75,16 @@ impl<R: Clock + RandomSource + Eprint + Drop> Side for UdpSide<R> {
     ghost answered = { λ _. tt };
 
     fn recv(&mut self) -> Received {
-        let Ok((count, from)) = self.socket.recv_from(self.packet.as_mut_slice()) else {
+        let packet = self.packet.as_mut_slice();
+        let Some((count, client)) = receive(&self.socket, packet, &mut self.from) else {
             self.recv_faults = self.recv_faults.saturating_add(1);
             return Received::Failed;
         };
-        self.from = Some(from);
         match Bytes::from_slice(self.alloc, &self.packet[..count]) {
             Ok(bytes) => Received::Got(Datagram {
                 bytes,
-                client: address(from.ip()),
-                port: from.port(),
+                client: client.address,
+                port: client.port,
                 by: Transport::Udp,
                 local: self.local,
             }),
@@ -91,10 +93,8 @@ impl<R: Clock + RandomSource + Eprint + Drop> Side for UdpSide<R> {
     }
 
     fn send(&mut self, reply: &[u8]) -> Wrote {
-        if let Some(to) = self.from {
-            if self.socket.send_to(reply, to).is_ok() {
-                return Wrote::Ok;
-            }
+        if reply_to(&self.socket, reply, &self.from) {
+            return Wrote::Ok;
         }
         self.send_faults = self.send_faults.saturating_add(1);
         Wrote::Failed
@@ -140,16 +140,5 @@ impl<R: Clock + RandomSource + Eprint + Drop> Side for UdpSide<R> {
     /// The watch answers End once the last side has left.
     fn leave(&mut self) {
         self.live.fetch_sub(1, Ordering::SeqCst);
-    }
-}
-
-// An IPv4 client of a socket for both families comes as an IPv6 address that holds the IPv4 one.
-fn address(ip: IpAddr) -> Addr {
-    match ip {
-        IpAddr::V4(ip) => Addr::V4(ip.to_bits()),
-        IpAddr::V6(ip) => match ip.to_ipv4_mapped() {
-            Some(ip) => Addr::V4(ip.to_bits()),
-            None => Addr::V6(ip.to_bits()),
-        },
     }
 }

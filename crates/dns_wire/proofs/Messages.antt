@@ -1,32 +1,45 @@
 -- The places of the sections of a message.
-use Rattle.std.proofs.Common.{◌≡◌, ℕ, List, None, sym, subst, arith}
+use Rattle.std.proofs.Common.{◌≡◌, ℕ, List, Option, None, sym, subst, arith}
 use Rattle.dns_data.specs.Record.{RecordData}
 use Rattle.dns_data.specs.Message.{MessageData}
+use Rattle.dns_data.specs.declared.message.Opt.{Opt}
 use Rattle.dns_data.specs.declared.message.Question.{Question}
 use Rattle.dns_wire.specs.Wire.{number_at}
-use Rattle.dns_wire.specs.Records.{SectionAt}
+use Rattle.dns_wire.specs.Records.{SectionAt, SectionsAt}
 use Rattle.dns_wire.specs.Spells.{QuestionAt, Spells}
 use Rattle.dns_wire.proofs.Names.{same_end}
 use Rattle.dns_wire.proofs.Unique.{one_section}
 
+-- first the answer section stands
+pub answer_here : {bytes : List ℕ} {n x : ℕ} {a b c : List RecordData} {o : Option Opt} → n ≡ number_at bytes 6 → (h : SectionsAt bytes x a b c o) → SectionAt bytes n x a None h.authority_start
+answer_here {bytes} {n} {x} {a} count h = subst (λ (k : ℕ). SectionAt bytes k x a None h.authority_start) (sym count) h.answer_at
+
+-- behind that the authority section
+pub authority_here : {bytes : List ℕ} {n k x y : ℕ} {a b c d : List RecordData} {o : Option Opt} → n ≡ number_at bytes 6 → k ≡ number_at bytes 8 → SectionAt bytes n x d None y
+    → (h : SectionsAt bytes x a b c o) → SectionAt bytes k y b None h.additional_start
+authority_here {bytes} {n} {k} {b = b} count other answer h =
+    subst (λ (at : ℕ). SectionAt bytes k at b None h.additional_start) (one_section (answer_here count h) answer).end
+    (subst (λ (c : ℕ). SectionAt bytes c h.authority_start b None h.additional_start) (sym other) h.authority_at)
+
+-- and behind that the additional section
+pub additional_here : {bytes : List ℕ} {n k j x y z : ℕ} {a b c d e : List RecordData} {o : Option Opt} → n ≡ number_at bytes 6 → k ≡ number_at bytes 8 → j ≡ number_at bytes 10
+    → SectionAt bytes n x d None y → SectionAt bytes k y e None z → (h : SectionsAt bytes x a b c o) → SectionAt bytes j z c o h.behind
+additional_here {bytes} {n} {k} {j} {c = c} {o = o} count other last answer authority h =
+    subst (λ (at : ℕ). SectionAt bytes j at c o h.behind) (one_section (authority_here count other answer h) authority).end
+    (subst (λ (i : ℕ). SectionAt bytes i h.additional_start c o h.behind) (sym last) h.additional_at)
+
 question_end : {bytes : List ℕ} {at x y : ℕ} {p q : Question} → QuestionAt bytes at p x → QuestionAt bytes at q y → x ≡ y
 question_end {bytes} {at} {x} {y} {p} {q} a b = omega (arith, a.behind_is, b.behind_is, same_end bytes at a.middle b.middle p.name q.name a.name b.name)
 
--- behind the question the answer section stands
-pub answer_here : {bytes : List ℕ} {n x : ℕ} {q : Question} → n ≡ number_at bytes 6 → QuestionAt bytes 12 q x → (m : MessageData) (h : Spells bytes m) → SectionAt bytes n x m.answer None h.authority_start
-answer_here {bytes} {n} count question m h =
-    subst (λ (at : ℕ). SectionAt bytes n at m.answer None h.authority_start) (question_end h.question question) (subst (λ (k : ℕ). SectionAt bytes k h.answer_start m.answer None h.authority_start) (sym count) h.answer)
-
--- behind that the authority section
-pub authority_here : {bytes : List ℕ} {n k x y : ℕ} {q : Question} {a : List RecordData} → n ≡ number_at bytes 6 → k ≡ number_at bytes 8 → QuestionAt bytes 12 q x → SectionAt bytes n x a None y
-    → (m : MessageData) (h : Spells bytes m) → SectionAt bytes k y m.authority None h.additional_start
-authority_here {bytes} {n} {k} count other question answer m h =
-    subst (λ (at : ℕ). SectionAt bytes k at m.authority None h.additional_start) (one_section (answer_here count question m h) answer).end
-    (subst (λ (c : ℕ). SectionAt bytes c h.authority_start m.authority None h.additional_start) (sym other) h.authority)
-
--- and behind that the additional section
-pub additional_here : {bytes : List ℕ} {n k j x y z : ℕ} {q : Question} {a b : List RecordData} → n ≡ number_at bytes 6 → k ≡ number_at bytes 8 → j ≡ number_at bytes 10 → QuestionAt bytes 12 q x
-    → SectionAt bytes n x a None y → SectionAt bytes k y b None z → (m : MessageData) (h : Spells bytes m) → SectionAt bytes j z m.additional m.opt h.behind
-additional_here {bytes} {n} {k} {j} count other last question answer authority m h =
-    subst (λ (at : ℕ). SectionAt bytes j at m.additional m.opt h.behind) (one_section (authority_here count other question answer m h) authority).end
-    (subst (λ (c : ℕ). SectionAt bytes c h.additional_start m.additional m.opt h.behind) (sym last) h.additional)
+-- behind the question the sections stand
+pub sections_here : {bytes : List ℕ} {x : ℕ} {q : Question} → QuestionAt bytes 12 q x → (m : MessageData) → Spells bytes m → SectionsAt bytes x m.answer m.authority m.additional m.opt
+sections_here {bytes} question m h =
+    let here : SectionsAt bytes h.answer_start m.answer m.authority m.additional m.opt = record {
+      authority_start = h.authority_start;
+      answer_at = h.answer;
+      additional_start = h.additional_start;
+      authority_at = h.authority;
+      behind = h.behind;
+      additional_at = h.additional;
+    } in
+    subst (λ (at : ℕ). SectionsAt bytes at m.answer m.authority m.additional m.opt) (question_end h.question question) here

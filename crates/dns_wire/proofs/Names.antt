@@ -1,8 +1,10 @@
 -- Reading a name run by run, through pointers.
-use Rattle.std.proofs.Common.{◌≡◌, ◌≤◌, ◌<◌, ℕ, ◌+◌, ◌-◌, List, [], ◌∷◌, ◌++◌, length, take, drop, get_or, slice_index, slice_range, Option, Some, None, unwrap_or, refl, sym, ap, subst, ◌∙◌, append_assoc, arith, inl, inr, ◌⊎◌}
+use Rattle.std.proofs.Common.{◌≡◌, ◌≤◌, ◌<◌, ℕ, ◌+◌, ◌-◌, List, [], ◌∷◌, ◌++◌, length, min, Bool, false, IsTrue, take, drop, get_or, slice_index, slice_range, Option, Some, None, unwrap_or, refl, sym, ap, subst, ◌∙◌, append_assoc, arith, inl, inr, ◌⊎◌}
 use Rattle.std.proofs.lemmas.List.{append-nil, drop-drop}
 use Rattle.std.proofs.lemmas.List.Edits.{between_more, between_none, length-between}
+use Rattle.std.proofs.Math.Nat.{min-eq_left, min-eq_right}
 use Rattle.std.proofs.Math.Seq.{take-add}
+use Rattle.std.proofs.lemmas.Bool.{cases_lt}
 use Rattle.std.specs.List.{AllByRecursion}
 use Rattle.dns_data.specs.Name.{IsLabel, IsName, IsWire, wire_length, spelled, labels_of}
 use Rattle.dns_data.specs.NameLaws.{spells_name, pushed, length-spelled}
@@ -217,6 +219,66 @@ run_to bytes start at r inside ends = record {
   stops = λ l here.
       elim ends [ inl zero ↦ absurd (omega (arith, here.size.is, here.sized.0)) | inr big ↦ absurd (omega (arith, here.size.is, here.sized.1)) ];
 }
+
+-- the least place at which a run that began at start can't end
+pub record IsLimit (bytes : List ℕ) (start limit : ℕ) : Type 0 where
+  pub inside : limit ≤ length bytes
+  pub few : limit ≤ start + 255
+  pub full : (length bytes ≤ limit) ⊎ (start + 255 ≤ limit)
+
+pub limit_is : (bytes : List ℕ) (start : ℕ) → start ≤ length bytes → IsLimit bytes start (start + min (length bytes - start) 255)
+limit_is bytes start inside =
+    elim (cases_lt (length bytes - start) 255) [
+      | inl short ↦
+          let is : min (length bytes - start) 255 ≡ length bytes - start = min-eq_left (omega arith) in
+          record { inside = omega (arith, is); few = omega (arith, is); full = inl (omega (arith, is)) }
+      | inr long ↦
+          let is : min (length bytes - start) 255 ≡ 255 = min-eq_right long in
+          record { inside = omega (arith, is); few = omega (arith, is); full = inr (omega (arith, is)) }
+    ]
+
+-- a walk over the labels of a run: below the limit it has read up to its place, and behind that there is no name
+pub record Walked (bytes : List ℕ) (start limit at : ℕ) : Type 0 where
+  pub limited : IsLimit bytes start limit
+  pub read : at < limit → ReadTo bytes start at
+  pub past : limit ≤ at → (name : List (List ℕ)) (behind : ℕ) → IsName name → NameAt bytes start start name behind → ⊥
+
+pub walk_starts : (bytes : List ℕ) (start limit : ℕ) → start ≤ length bytes → IsLimit bytes start limit → Walked bytes start limit start
+walk_starts bytes start limit inside limited = record {
+  limited = limited;
+  read = λ less. read_starts bytes start inside;
+  past = λ far name behind proper h.
+      past_end bytes start start (read_starts bytes start inside) (elim limited.full [ inl all ↦ omega arith | inr most ↦ absurd (omega arith) ]) name behind h;
+}
+
+-- behind a label that ends at the limit or behind it there is no name
+walk_ends : (bytes : List ℕ) (start limit at n : ℕ) → IsLimit bytes start limit → ReadTo bytes start at → n ≡ get_or bytes at 0 → 1 ≤ n → n ≤ 63 → limit ≤ at + 1 + n
+    → (name : List (List ℕ)) (behind : ℕ) → IsName name → NameAt bytes start start name behind → ⊥
+walk_ends bytes start limit at n limited r is more few far name behind proper h =
+    elim (cases_lt (length bytes) (at + 1 + n)) [
+      | inl out ↦ no_label bytes start at r (λ zero. omega arith) (omega arith) (inr (omega arith)) name behind h
+      | inr inside ↦
+          elim (cases_lt 254 (at - start + 1 + n)) [
+            | inl long ↦ no_room bytes start at n r is more few inside long name behind proper h
+            | inr room ↦
+                let end : length bytes ≤ at + 1 + n = elim limited.full [ inl all ↦ omega arith | inr most ↦ absurd (omega (arith, r.order)) ] in
+                past_end bytes start (at + 1 + n) (reads_label bytes start at n r is more few inside room) end name behind h
+          ]
+    ]
+
+pub walks_on : (bytes : List ℕ) (start limit at n : ℕ) → Walked bytes start limit at → at < limit → n ≡ get_or bytes at 0 → 1 ≤ n → n ≤ 63 → Walked bytes start limit (at + (1 + n))
+walks_on bytes start limit at n w less is more few =
+    let r = w.read less in
+    let next : Walked bytes start limit (at + 1 + n) = record {
+      limited = w.limited;
+      read = λ near. reads_label bytes start at n r is more few (omega (arith, w.limited.inside)) (omega (arith, r.order, w.limited.few));
+      past = λ far name behind proper h. walk_ends bytes start limit at n w.limited r is more few far name behind proper h;
+    } in
+    subst (Walked bytes start limit) (omega arith) next
+
+-- a byte that is no length is too great, where it isn't zero
+pub no_size : {n : ℕ} {is : Bool} → ((1 ≤ n) × (n ≤ 63) → IsTrue is) → is ≡ false → 0 < n → 63 < n
+no_size {n} any none more = elim (cases_lt 63 n) [ inl big ↦ big | inr few ↦ absurd (let e = sym none ∙ any (more, few) in cc) ]
 
 -- how long a run is
 pub run_size : (bytes : List ℕ) (start end : ℕ) → RunAt bytes start end → (front : List (List ℕ)) → wire_length (front ++ labels_of (slice_range bytes start end)) ≡ wire_length front + (end - start)

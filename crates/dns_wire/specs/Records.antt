@@ -51,6 +51,15 @@ pub data SectionAt (bytes : List ℕ) : ℕ → ℕ → List RecordData → Opti
   options : {count left at middle behind : ℕ} {found : Opt} {others : List RecordData}
       → count ≡ left + 1 → OptAt bytes at found middle → SectionAt bytes left middle others None behind → SectionAt bytes count at others (Some found) behind
 
+-- the three sections that a header counts stand one after the other, OPT in the last one alone
+pub record SectionsAt (bytes : List ℕ) (at : ℕ) (answer authority additional : List RecordData) (opt : Option Opt) : Type 0 where
+  pub authority_start : ℕ
+  pub answer_at : SectionAt bytes (number_at bytes 6) at answer None authority_start
+  pub additional_start : ℕ
+  pub authority_at : SectionAt bytes (number_at bytes 8) authority_start authority None additional_start
+  pub behind : ℕ
+  pub additional_at : SectionAt bytes (number_at bytes 10) additional_start additional opt behind
+
 -- a record of either kind
 abbrev pub PartAt : List ℕ → ℕ → Part → ℕ → Type 0
 PartAt bytes at (part.Record r) behind = RecordAt bytes at r behind

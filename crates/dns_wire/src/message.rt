@@ -1,18 +1,21 @@
-ghost use Rattle.std.specs.Prelude.{◌≤◌, length, IfOk};
+ghost use Rattle.std.specs.Prelude.{◌≤◌, [], length, IfOk, IfSome};
+ghost use Rattle.dns_wire.specs.Records.{SectionsAt};
 ghost use Rattle.dns_wire.specs.Spells.{QuestionAt, Spells, SpellsAlone};
 ghost use Rattle.dns_wire.specs.Reads.{Reads};
 
 use crate::ReplyFault;
 use crate::name::read_name;
 use crate::number::{flag_at, number_at};
-use crate::section::{Section, read_records, read_section};
-use dns_data::{Message, Question};
+use crate::record::plain_opt_at;
+use crate::section::{Sections, read_sections};
+use dns_data::{Message, Opt, Question, Seq};
 use std::alloc::Global;
 
 /// The length of a header in bytes (RFC 1035, section 4.1.1).
 pub const HEADER: usize = 12;
 
 /// Reads a message with one question, whatever its QR and its opcode are. Bytes behind it are ignored.
+#[inline]
 pub fn read_message(alloc: Global, bytes: &[u8]) -> Result<Message, ReplyFault>
     requires { 12 ≤ length bytes.now }
     ensures spelt { Reads (Spells bytes.now) result }
@@ -22,13 +25,15 @@ pub fn read_message(alloc: Global, bytes: &[u8]) -> Result<Message, ReplyFault>
         return Err(ReplyFault::Bad);
     }
     let (question, behind) = read_question(alloc, bytes, HEADER)?;
-    let (answer, behind) = read_records(alloc, bytes, behind, number_at(bytes, 6))?;
-    let (authority, behind) = read_records(alloc, bytes, behind, number_at(bytes, 8))?;
-    let Section {
-        records: additional,
-        opt,
-        behind: _,
-    } = read_section(alloc, bytes, behind, number_at(bytes, 10))?;
+    let sections = match opt_alone(bytes, behind) {
+        Some(opt) => Sections {
+            answer: Seq::new(alloc),
+            authority: Seq::new(alloc),
+            additional: Seq::new(alloc),
+            opt,
+        },
+        None => read_sections(alloc, bytes, behind)?,
+    };
     Ok(Message {
         id: number_at(bytes, 0),
         qr: flag_at(bytes, 2, 7),
@@ -41,14 +46,15 @@ pub fn read_message(alloc: Global, bytes: &[u8]) -> Result<Message, ReplyFault>
         cd: flag_at(bytes, 3, 4),
         rcode: bytes[3] % 16,
         question,
-        answer,
-        authority,
-        additional,
-        opt,
+        answer: sections.answer,
+        authority: sections.authority,
+        additional: sections.additional,
+        opt: sections.opt,
     })
 }
 
 // The question at a place, and the place behind it.
+#[inline]
 fn read_question(alloc: Global, bytes: &[u8], at: usize) -> Result<(Question, usize), ReplyFault>
     requires { at ≤ length bytes.now }
     ensures spelt { Reads (λ found. QuestionAt bytes.now at found.0 found.1) result }
@@ -64,4 +70,27 @@ fn read_question(alloc: Global, bytes: &[u8], at: usize) -> Result<(Question, us
         class: number_at(bytes, middle + 2),
     };
     Ok((question, middle + 4))
+}
+
+// The OPT record of a message without other records, if it has one. Most queries are such messages.
+#[inline]
+fn opt_alone(bytes: &[u8], at: usize) -> Option<Option<Opt>>
+    requires long { 12 ≤ length bytes.now }
+    requires inside { at ≤ length bytes.now }
+    ensures { IfSome result (SectionsAt bytes.now at [] [] []) }
+{
+    if number_at(bytes, 6) != 0 {
+        return None;
+    }
+    if number_at(bytes, 8) != 0 {
+        return None;
+    }
+    match number_at(bytes, 10) {
+        0 => Some(None),
+        1 => {
+            let (opt, _) = plain_opt_at(bytes, at)?;
+            Some(Some(opt))
+        }
+        _ => None,
+    }
 }

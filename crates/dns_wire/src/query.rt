@@ -18,13 +18,12 @@ pub fn read_query(alloc: Global, bytes: &[u8]) -> Result<Message, QueryFault>
     if flag_at(bytes, 2, 7) {
         return Err(QueryFault::Response);
     }
-    let head = head_at(bytes);
-    if head.opcode != 0 {
-        return Err(QueryFault::NotImp(head));
+    if bytes[2] / 8 % 16 != 0 {
+        return Err(QueryFault::NotImp(head_at(bytes)));
     }
     match read_message(alloc, bytes) {
         Ok(message) => Ok(message),
-        Err(ReplyFault::Bad) => Err(QueryFault::FormErr(head)),
+        Err(ReplyFault::Bad) => Err(QueryFault::FormErr(head_at(bytes))),
         Err(ReplyFault::NoMemory) => Err(QueryFault::NoMemory),
     }
 }

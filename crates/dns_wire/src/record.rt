@@ -45,20 +45,25 @@ pub fn read_part(alloc: Global, bytes: &[u8], at: usize) -> Result<(Part, usize)
     Ok((Part::Record(Record::new(owner, class, ttl, rdata)), behind))
 }
 
-// The OPT record at a place, where its owner is a zero byte there, as it mostly is: no name is made for it.
-fn plain_opt_at(bytes: &[u8], at: usize) -> Option<(Opt, usize)>
+/// The OPT record at a place, where its owner is a zero byte there, as it mostly is: no name is made for it.
+#[inline]
+pub fn plain_opt_at(bytes: &[u8], at: usize) -> Option<(Opt, usize)>
     requires { at ≤ length bytes.now }
     ensures spelt { IfSome result (λ found. OptAt bytes.now at found.0 found.1) }
     ensures inside { IfSome result (λ found. found.1 ≤ length bytes.now) }
 {
-    if bytes.len() - at < 3 || bytes[at] != 0 || number_at(bytes, at + 1) != OPT {
+    if bytes.len() == at || bytes[at] != 0 {
         return None;
     }
     let behind = end_of_part(bytes, at + 1)?;
+    if number_at(bytes, at + 1) != OPT {
+        return None;
+    }
     Some((opt_at(bytes, at + 1), behind))
 }
 
 // The place behind the record whose type stands at a place, where its data ends within the bytes.
+#[inline]
 fn end_of_part(bytes: &[u8], middle: usize) -> Option<usize>
     requires { middle ≤ length bytes.now }
     ensures found { IfSome result (λ behind. EndsAt bytes.now middle behind) }
@@ -75,6 +80,7 @@ fn end_of_part(bytes: &[u8], middle: usize) -> Option<usize>
 }
 
 // What the class and the TTL of an OPT record say (RFC 6891, sections 6.1.2 and 6.1.3).
+#[inline]
 fn opt_at(bytes: &[u8], middle: usize) -> Opt
     requires { middle + 10 ≤ length bytes.now }
     ensures { OptFieldsAt bytes.now middle result }

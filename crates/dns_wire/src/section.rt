@@ -1,27 +1,77 @@
 ghost use Rattle.std.specs.Prelude.{◌≤◌, length, None, IfOk};
-ghost use Rattle.dns_wire.specs.Records.{SectionAt};
+ghost use Rattle.dns_wire.specs.Records.{SectionAt, SectionsAt};
 ghost use Rattle.dns_wire.specs.Reads.{Reads};
 
 use crate::ReplyFault;
+use crate::number::number_at;
 use crate::record::{Part, read_part};
 use dns_data::{Opt, Records, Seq};
 use std::alloc::Global;
 
-/// The records of a section, its OPT record apart, and the place behind them.
+// The records of a section, its OPT record apart, and the place behind them.
 #[derive(Drop)]
-pub struct Section {
-    pub records: Records,
-    pub opt: Option<Opt>,
-    pub behind: usize,
+struct Section {
+    records: Records,
+    opt: Option<Opt>,
+    behind: usize,
 }
 
-/// Reads so many records, at most one OPT record among them.
-pub fn read_section(
+/// The records of the three sections of a message, its OPT record apart.
+#[derive(Drop)]
+pub struct Sections {
+    pub answer: Records,
+    pub authority: Records,
+    pub additional: Records,
+    pub opt: Option<Opt>,
+}
+
+/// Reads the three sections that a header counts. Stays a call, so that what reads a plain query is small.
+#[inline(never)]
+pub fn read_sections(alloc: Global, bytes: &[u8], start: usize) -> Result<Sections, ReplyFault>
+    requires long { 12 ≤ length bytes.now }
+    requires inside { start ≤ length bytes.now }
+    ensures { Reads (λ s. SectionsAt bytes.now start s.answer s.authority s.additional s.opt) result }
+{
+    let (answer, behind) = read_records(alloc, bytes, start, number_at(bytes, 6))?;
+    let (authority, behind) = read_records(alloc, bytes, behind, number_at(bytes, 8))?;
+    let Section {
+        records: additional,
+        opt,
+        behind: _,
+    } = read_section(alloc, bytes, behind, number_at(bytes, 10))?;
+    Ok(Sections {
+        answer,
+        authority,
+        additional,
+        opt,
+    })
+}
+
+// Reads so many records, at most one OPT record among them.
+#[inline]
+fn read_section(
     alloc: Global,
     bytes: &[u8],
     start: usize,
     count: u16,
 ) -> Result<Section, ReplyFault>
+    requires { start ≤ length bytes.now }
+    ensures spelt { Reads (λ found. SectionAt bytes.now count start found.records found.opt found.behind) result }
+    ensures inside { IfOk result (λ found. found.behind ≤ length bytes.now) }
+{
+    if count == 0 {
+        return Ok(Section {
+            records: Seq::new(alloc),
+            opt: None,
+            behind: start,
+        });
+    }
+    read_parts(alloc, bytes, start, count)
+}
+
+// Reads so many records one after the other. Stays a call, so that an empty section costs next to nothing.
+#[inline(never)]
+fn read_parts(alloc: Global, bytes: &[u8], start: usize, count: u16) -> Result<Section, ReplyFault>
     requires { start ≤ length bytes.now }
     ensures spelt { Reads (λ found. SectionAt bytes.now count start found.records found.opt found.behind) result }
     ensures inside { IfOk result (λ found. found.behind ≤ length bytes.now) }
@@ -51,8 +101,9 @@ pub fn read_section(
     })
 }
 
-/// Reads so many records, none of which is an OPT record.
-pub fn read_records(
+// Reads so many records, none of which is an OPT record.
+#[inline]
+fn read_records(
     alloc: Global,
     bytes: &[u8],
     start: usize,

@@ -125,6 +125,24 @@ fn reads_an_opt_record(rt: HostRuntime) -> Result<(), Fail> {
 }
 
 #[test]
+fn reads_a_query_whose_one_record_is_no_opt_record(rt: HostRuntime) -> Result<(), Fail> {
+    // NULL without data (RFC 1035, section 3.3.10).
+    let null = with(rt.alloc(), &QUERY_OPT, 31, 10)?;
+    let message = read_query(rt.alloc(), &null)?;
+    assert_eq!(rt; shape(&message), (0, 0, 0, 1));
+    assert_eq!(rt; message.opt, None);
+    Ok(())
+}
+
+#[test]
+fn refuses_an_opt_record_that_is_cut(rt: HostRuntime) -> Result<(), Fail> {
+    for end in 29..QUERY_OPT.len() {
+        assert!(rt; is_form_error(rt.alloc(), &QUERY_OPT[..end]), "{end} bytes");
+    }
+    Ok(())
+}
+
+#[test]
 fn reads_names_through_pointers(rt: HostRuntime) -> Result<(), Fail> {
     let rows = [
         (20, b"\x01F\x03ISI\x04ARPA".as_slice(), 32),

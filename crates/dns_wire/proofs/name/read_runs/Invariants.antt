@@ -1,6 +1,6 @@
 use Rattle.std.proofs.Common.{◌≤◌, length}
 use Rattle.dns_wire.specs.Runs.{ReadSoFar}
-use Rattle.dns_wire.proofs.name.read_name.Given as goal
+use Rattle.dns_wire.proofs.name.read_runs.Given as goal
 
 abbrev pub invariant-loop-end : goal.invariant-loop-end
 invariant-loop-end l = record {

@@ -1,6 +1,6 @@
 use Rattle.std.proofs.Common.{◌≤◌, length}
 use Rattle.dns_wire.proofs.Sections.{SectionSoFar}
-use Rattle.dns_wire.proofs.section.read_section.Given as goal
+use Rattle.dns_wire.proofs.section.read_parts.Given as goal
 
 abbrev pub invariant-loop-left : goal.invariant-loop-left
 invariant-loop-left l = record { inside : l.at ≤ length l.bytes; so_far : SectionSoFar l.bytes l.count l.start l.left l.at l.records l.opt }

@@ -6,3 +6,4 @@ pub mod Record
 pub mod Message
 pub mod AddrText
 pub mod ReverseNames
+pub mod Wire

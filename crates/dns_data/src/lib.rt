@@ -29,11 +29,15 @@ mod record;
 mod reverse;
 mod runs;
 mod seq;
+mod short;
 #[cfg(test)]
 mod tests;
 mod text;
 mod v4;
 mod v6;
+mod wire;
+#[cfg(test)]
+mod wire_tests;
 mod zone;
 
 pub use addr::Addr;

@@ -2,16 +2,18 @@ ghost use Rattle.std.specs.Prelude.{◌≡◌, ℕ, ◌+◌, ◌<◌, ◌≤◌,
 ghost use Rattle.dns_data.specs.Name.{IsLabel, IsName, IsWire, IsWithin, wire_length, spelled, labels_of, lowered, same_labels};
 
 use crate::ascii::same_letters;
+use crate::wire::Wire;
 use crate::{Copies, Labels, NoMemory};
 use std::alloc::Global;
 use std::marker::Model;
 
 /// A domain name (RFC 1035, section 3.1): labels of 1 to 63 bytes, at most 255 bytes in wire form, with the letters that
-/// it came with. Contracts see the list of its labels.
+/// it came with. Contracts see the list of its labels. At most 38 bytes, the zero byte left out, are kept
+/// in the value itself, and more in an allocation, which stays when the name gets shorter.
 #[derive(Debug, Drop)]
 pub struct Name {
     // Each label behind its length byte, without the final zero byte.
-    wire: Vec<u8>,
+    wire: Wire,
 }
 
 impl Model for Name {
@@ -20,9 +22,9 @@ impl Model for Name {
 
     ghost Value = { List (List ℕ) };
 
-    ghost view = { λ n. labels_of n.wire.items };
+    ghost view = { λ n. labels_of n.wire };
 
-    ghost invariant = { λ n. IsWire n.wire.items };
+    ghost invariant = { λ n. IsWire n.wire };
 }
 
 impl Name {
@@ -31,7 +33,7 @@ impl Name {
         ensures { result ≡ [] }
     {
         Name {
-            wire: Vec::new(alloc),
+            wire: Wire::new(alloc),
         }
     }
 
@@ -40,7 +42,7 @@ impl Name {
         ensures { IfOk result (λ n. n ≡ []) }
     {
         Ok(Name {
-            wire: Vec::with_capacity(alloc, bytes)?,
+            wire: Wire::with_capacity(alloc, bytes)?,
         })
     }
 
@@ -50,7 +52,7 @@ impl Name {
         ensures { IfOk result (λ n. n ≡ labels_of wire.now) }
     {
         Ok(Name {
-            wire: Vec::from_slice(alloc, wire)?,
+            wire: Wire::from_slice(alloc, wire)?,
         })
     }
 
@@ -67,7 +69,7 @@ impl Name {
         ensures value { result.now ≡ spelled self.now }
         ensures proper { IsName self.now }
     {
-        &self.wire
+        self.wire.as_slice()
     }
 
     /// Its labels from the first on.
@@ -84,9 +86,7 @@ impl Name {
         ensures ok { OnOk result (self.new ≡ self.old ++ label.now ∷ []) }
         ensures err { OnErr result (self.new ≡ self.old) }
     {
-        self.wire.reserve(label.len() + 1)?;
-        self.wire.push(label.len() as u8)?;
-        self.wire.extend_from_slice(label)?;
+        self.wire.push_label(label)?;
         Ok(())
     }
 
@@ -96,27 +96,25 @@ impl Name {
         requires room { wire_length self.now + length label.now + 1 ≤ 255 }
         ensures { IfOk result (λ n. n ≡ label.now ∷ self.now) }
     {
-        let mut wire = Vec::with_capacity(alloc, self.wire.len() + label.len() + 1)?;
-        wire.push(label.len() as u8)?;
-        wire.extend_from_slice(label)?;
-        wire.extend_from_slice(&self.wire)?;
-        Ok(Name { wire })
+        Ok(Name {
+            wire: Wire::with_label(alloc, label, self.wire.as_slice())?,
+        })
     }
 
     /// The name with every ASCII capital made small.
     pub fn lower(&self, alloc: Global) -> Result<Name, NoMemory>
         ensures { IfOk result (λ n. n ≡ lowered self.now) }
     {
-        Ok(Name {
-            wire: self.wire.to_ascii_lowercase(alloc)?,
-        })
+        let mut wire = self.wire.copy(alloc)?;
+        wire.make_lower();
+        Ok(Name { wire })
     }
 
     /// Makes every ASCII capital small.
     pub fn make_lower(&mut self)
         ensures { self.new ≡ lowered self.old }
     {
-        self.wire.make_ascii_lowercase();
+        self.wire.make_lower();
     }
 
     /// Becomes the name that bytes spell, in the room that is there.
@@ -125,9 +123,7 @@ impl Name {
         ensures ok { OnOk result (self.new ≡ labels_of wire.now) }
         ensures err { OnErr result (self.new ≡ self.old) }
     {
-        self.wire.reserve(wire.len())?;
-        self.wire.clear();
-        self.wire.extend_from_slice(wire)?;
+        self.wire.set(wire)?;
         Ok(())
     }
 
@@ -145,7 +141,7 @@ impl Name {
         ensures ok { OnOk result (self.new ≡ self.old ++ labels_of wire.now) }
         ensures err { OnErr result (self.new ≡ self.old) }
     {
-        self.wire.extend_from_slice(wire)?;
+        self.wire.extend(wire)?;
         Ok(())
     }
 
@@ -154,7 +150,7 @@ impl Name {
         ensures ok { OnOk result (self.new ≡ other.now) }
         ensures err { OnErr result (self.new ≡ self.old) }
     {
-        self.set_wire(&other.wire)
+        self.set_wire(other.wire.as_slice())
     }
 
     /// Whether the names are equal byte for byte.
@@ -169,7 +165,7 @@ impl Name {
     pub fn same(&self, other: &Name) -> bool
         ensures { IsTrue result ↔ (lowered self.now ≡ lowered other.now) }
     {
-        same_letters(&self.wire, &other.wire)
+        same_letters(self.wire.as_slice(), other.wire.as_slice())
     }
 
     /// Whether the zone is a suffix of the name on whole labels, ASCII case aside.
@@ -180,7 +176,7 @@ impl Name {
         while zone.wire.len() < rest.len() {
             rest = behind_first(rest);
         }
-        same_letters(rest, &zone.wire)
+        same_letters(rest, zone.wire.as_slice())
     }
 
     /// How many labels it has. This is a walk.
@@ -202,7 +198,7 @@ impl Name {
         ensures value { slice_get self.now index ≡ Some result.now }
         ensures label { IsLabel result.now }
     {
-        first_label(behind(&self.wire, index))
+        first_label(behind(self.wire.as_slice(), index))
     }
 
     /// The name without its first labels.
@@ -210,13 +206,15 @@ impl Name {
         requires { from ≤ length self.now }
         ensures { IfOk result (λ n. n ≡ drop from self.now) }
     {
-        Name::of_wire(alloc, behind(&self.wire, from))
+        Name::of_wire(alloc, behind(self.wire.as_slice(), from))
     }
 }
 
 impl Copies for Name {
     fn copy(&self, alloc: Global) -> Result<Name, NoMemory> {
-        Name::of_wire(alloc, &self.wire)
+        Ok(Name {
+            wire: self.wire.copy(alloc)?,
+        })
     }
 }
 

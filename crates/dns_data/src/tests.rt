@@ -167,7 +167,7 @@ fn record_of(alloc: Global, rdata: Rdata) -> Result<Record, NoMemory>
 }
 
 // The name of labels with dots between. What is no label is left out.
-fn name_of(alloc: Global, text: &str) -> Result<Name, NoMemory> {
+pub(crate) fn name_of(alloc: Global, text: &str) -> Result<Name, NoMemory> {
     let mut name = Name::root(alloc);
     for label in text.split('.') {
         let label = label.as_bytes();
@@ -180,7 +180,7 @@ fn name_of(alloc: Global, text: &str) -> Result<Name, NoMemory> {
 }
 
 // Adds the labels of another name, where there is room.
-fn append_all(name: &mut Name, other: &Name) -> Result<(), NoMemory> {
+pub(crate) fn append_all(name: &mut Name, other: &Name) -> Result<(), NoMemory> {
     let wire = other.as_wire();
     if name.wire_len() + wire.len() <= 255 {
         name.append(wire)?;

@@ -3,7 +3,7 @@ use Rattle.dns_data.specs.NameLaws.{spells_name}
 use Rattle.dns_data.proofs.name.Name.clear.Goals as goal
 
 pub invariant_of-self : goal.invariant_of-self
-invariant_of-self c = (spells_name c.clear.new.self.items [] c.clear.ensures.items (record { each = tt; short = omega arith })).right
+invariant_of-self c = (spells_name c.clear.new.self [] c.clear.ensures (record { each = tt; short = omega arith })).right
 
 pub returns : goal.returns
-returns c = (spells_name c.clear.new.self.items [] c.clear.ensures.items (record { each = tt; short = omega arith })).view
+returns c = (spells_name c.clear.new.self [] c.clear.ensures (record { each = tt; short = omega arith })).view

@@ -6,5 +6,5 @@ use Rattle.dns_data.proofs.name.Name.equals.Goals as goal
 
 pub returns-clause-test : goal.returns-clause-test
 returns-clause-test c =
-    let e = same_name c.eq.result c.as_slice.result.now c.as_slice-2.result.now c.self.inside.wire.items c.other.inside.wire.items c.args.self.now c.args.other.now c.self.invariant c.self.view_is c.other.invariant c.other.view_is c.as_slice.ensures.value c.as_slice-2.ensures.value c.eq.ensures in
+    let e = same_name c.eq.result c.as_slice.result.now c.as_slice-2.result.now c.self.inside.wire c.other.inside.wire c.args.self.now c.args.other.now c.self.invariant c.self.view_is c.other.invariant c.other.view_is c.as_slice.ensures c.as_slice-2.ensures c.eq.ensures in
     same_from_decides _ _ e (slice_eq-Decides (λ a b. slice_eq-Decides Decides-eqb a b _ refl) c.args.self.now c.args.other.now _ refl)

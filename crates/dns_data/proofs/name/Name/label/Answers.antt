@@ -8,17 +8,17 @@ use Rattle.dns_data.proofs.name.Name.label.Goals as goal
 
 pub first_label-requires : goal.first_label-requires
 first_label-requires c =
-    let r = rest_of c.self.inside.wire.items c.deref.result.now c.behind.result.now c.args.self.now c.args.index (omega arith) c.self.view_is c.deref.ensures.value c.behind.ensures in
+    let r = rest_of c.self.inside.wire c.as_slice.result.now c.behind.result.now c.args.self.now c.args.index (omega arith) c.self.view_is c.as_slice.ensures c.behind.ensures in
     has_room c.args.self.now c.args.index c.behind.result.now r (more_here _ _ _ r c.requires)
 
 pub returns-clause-value : goal.returns-clause-value
 returns-clause-value c =
-    let r = rest_of c.self.inside.wire.items c.deref.result.now c.behind.result.now c.args.self.now c.args.index (omega arith) c.self.view_is c.deref.ensures.value c.behind.ensures in
+    let r = rest_of c.self.inside.wire c.as_slice.result.now c.behind.result.now c.args.self.now c.args.index (omega arith) c.self.view_is c.as_slice.ensures c.behind.ensures in
     let is = label_here c.args.self.now c.args.index c.behind.result.now c.first_label.result.now r (more_here _ _ _ r c.requires) c.first_label.ensures in
     slice_get-get_or c.args.self.now c.args.index [] c.requires ∙ ap Some (sym is)
 
 pub returns-clause-label : goal.returns-clause-label
 returns-clause-label c =
-    let r = rest_of c.self.inside.wire.items c.deref.result.now c.behind.result.now c.args.self.now c.args.index (omega arith) c.self.view_is c.deref.ensures.value c.behind.ensures in
+    let r = rest_of c.self.inside.wire c.as_slice.result.now c.behind.result.now c.args.self.now c.args.index (omega arith) c.self.view_is c.as_slice.ensures c.behind.ensures in
     let is = label_here c.args.self.now c.args.index c.behind.result.now c.first_label.result.now r (more_here _ _ _ r c.requires) c.first_label.ensures in
-    subst IsLabel (sym is) (is_label c.args.self.now c.args.index (proper c.self.inside.wire.items c.args.self.now c.self.invariant c.self.view_is) c.requires)
+    subst IsLabel (sym is) (is_label c.args.self.now c.args.index (proper c.self.inside.wire c.args.self.now c.self.invariant c.self.view_is) c.requires)

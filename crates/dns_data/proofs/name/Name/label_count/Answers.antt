@@ -9,7 +9,7 @@ behind_first-rest-requires c = has_room c.args.self.now c.loop-rest.count c.loop
 pub overflow_add-count : goal.overflow_add-count
 overflow_add-count c =
     let s = step c.args.self.now c.loop-rest.count c.loop-rest.rest.now c.loop-rest.invariant c.loop-rest-test.true in
-    let n = proper c.self.inside.wire.items c.args.self.now c.self.invariant c.self.view_is in
+    let n = proper c.self.inside.wire c.args.self.now c.self.invariant c.self.view_is in
     omega (arith, s.inside, n.short, few c.args.self.now, length-spelled c.args.self.now)
 
 pub loop-rest-preserved : goal.loop-rest-preserved

@@ -6,10 +6,10 @@ use Rattle.dns_data.proofs.name.Name.lower.Goals as goal
 
 pub invariant_of-result : goal.invariant_of-result
 invariant_of-result c =
-    let is = c.in_ok-to_ascii_lowercase.ensures.ok ∙ ap (map to_ascii_lowercase) c.deref.ensures.value in
-    (lowered_wire c.self.inside.wire.items c.in_ok-to_ascii_lowercase.field-0.items c.args.self.now c.self.invariant c.self.view_is is).right
+    let is = c.make_lower.ensures ∙ ap (map to_ascii_lowercase) c.in_ok-wire.ensures.value in
+    (lowered_wire c.self.inside.wire _ c.args.self.now c.self.invariant c.self.view_is is).right
 
 pub returns : goal.returns
 returns c =
-    let is = c.in_ok-to_ascii_lowercase.ensures.ok ∙ ap (map to_ascii_lowercase) c.deref.ensures.value in
-    (lowered_wire c.self.inside.wire.items c.in_ok-to_ascii_lowercase.field-0.items c.args.self.now c.self.invariant c.self.view_is is).view
+    let is = c.make_lower.ensures ∙ ap (map to_ascii_lowercase) c.in_ok-wire.ensures.value in
+    (lowered_wire c.self.inside.wire _ c.args.self.now c.self.invariant c.self.view_is is).view

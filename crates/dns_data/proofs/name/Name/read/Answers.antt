@@ -12,7 +12,7 @@ returns-then-is_dot c = reads_dot c.args.text.now c.args.origin.now c.root.resul
 pub returns-then-not-has_room : goal.returns-then-not-has_room
 returns-then-not-has_room c =
     bad_label c.args.text.now c.loop-byte.rest.now c.loop-byte.label.items c.in-Some.behind.now c.loop-byte.name c.args.origin.now c.in-Some.byte.now (sym c.is_dot.ensures ∙ c.if-is_dot.false)
-    c.loop-byte.invariant c.in-Some.ensures.cases.0 c.if-byte-eq46.true (proper c.name-then-byte-eq46.inside.wire.items c.loop-byte.name c.name-then-byte-eq46.invariant c.name-then-byte-eq46.view_is)
+    c.loop-byte.invariant c.in-Some.ensures.cases.0 c.if-byte-eq46.true (proper c.name-then-byte-eq46.inside.wire c.loop-byte.name c.name-then-byte-eq46.invariant c.name-then-byte-eq46.view_is)
     (λ fits. false≢true (c.if-not-has_room.ensures.1 (subst (λ (l : List ℕ). Fits c.loop-byte.name l) (sym c.deref.ensures.value) fits)))
 
 pub loop-byte-preserved-then-byte-eq46 : goal.loop-byte-preserved-then-byte-eq46

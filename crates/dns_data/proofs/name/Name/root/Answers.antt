@@ -6,7 +6,7 @@ empty : (wire : List ℕ) → wire ≡ [] → SpellsName wire []
 empty wire e = spells_name wire [] e (record { each = tt; short = omega arith })
 
 pub invariant_of-result : goal.invariant_of-result
-invariant_of-result c = (empty c.new.result.items c.new.ensures.items).right
+invariant_of-result c = (empty c.new.result c.new.ensures).right
 
 pub returns : goal.returns
-returns c = (empty c.new.result.items c.new.ensures.items).view
+returns c = (empty c.new.result c.new.ensures).view

@@ -64,6 +64,13 @@ impl Bytes {
         Ok(())
     }
 
+    /// Drops all bytes, and keeps the room.
+    pub fn clear(&mut self)
+        ensures { self.new ≡ [] }
+    {
+        self.items.clear();
+    }
+
     pub fn len(&self) -> usize
         ensures { result ≡ length self.now }
     {

@@ -1,12 +1,13 @@
 -- The places of the sections of a message.
-use Rattle.std.proofs.Common.{◌≡◌, ℕ, List, Option, None, sym, subst, arith}
+use Rattle.std.proofs.Common.{◌≡◌, ◌≤◌, ℕ, ◌/◌, ◌%◌, Bool, List, length, slice_index, Option, None, refl, sym, subst, arith}
 use Rattle.dns_data.specs.Record.{RecordData}
 use Rattle.dns_data.specs.Message.{MessageData}
 use Rattle.dns_data.specs.declared.message.Opt.{Opt}
 use Rattle.dns_data.specs.declared.message.Question.{Question}
-use Rattle.dns_wire.specs.Wire.{number_at}
+use Rattle.dns_wire.specs.Wire.{number_at, flag_at}
 use Rattle.dns_wire.specs.Records.{SectionAt, SectionsAt}
 use Rattle.dns_wire.specs.Spells.{QuestionAt, Spells}
+use Rattle.dns_wire.specs.Asked.{AsksThis}
 use Rattle.dns_wire.proofs.Names.{same_end}
 use Rattle.dns_wire.proofs.Unique.{one_section}
 
@@ -43,3 +44,39 @@ sections_here {bytes} question m h =
       additional_at = h.additional;
     } in
     subst (λ (at : ℕ). SectionsAt bytes at m.answer m.authority m.additional m.opt) (question_end h.question question) here
+
+-- what the message of a question and its sections asks
+pub asks_this : {bytes : List ℕ} {x : ℕ} {q : Question} {a b c : List RecordData} {o : Option Opt} → (id : ℕ) (rd cd : Bool) → 12 ≤ length bytes → number_at bytes 4 ≡ 1 → QuestionAt bytes 12 q x → SectionsAt bytes x a b c o
+    → id ≡ number_at bytes 0 → rd ≡ flag_at bytes 2 0 → cd ≡ flag_at bytes 3 4 → AsksThis bytes (record { id = id; rd = rd; cd = cd; question = q; opt = o })
+asks_this {bytes} {x} {q} {a} {b} {c} {o} id rd cd long one question s id_is rd_is cd_is = record {
+  message = record {
+    id = number_at bytes 0;
+    qr = flag_at bytes 2 7;
+    opcode = slice_index bytes 2 / 8 % 16;
+    aa = flag_at bytes 2 2;
+    tc = flag_at bytes 2 1;
+    rd = flag_at bytes 2 0;
+    ra = flag_at bytes 3 7;
+    ad = flag_at bytes 3 5;
+    cd = flag_at bytes 3 4;
+    rcode = slice_index bytes 3 % 16;
+    question = q;
+    answer = a;
+    authority = b;
+    additional = c;
+    opt = o;
+  };
+  spells = record {
+    header = record { long = long; id = refl; qr = refl; opcode = refl; aa = refl; tc = refl; rd = refl; ra = refl; ad = refl; cd = refl; rcode = refl };
+    one = one;
+    answer_start = x;
+    question = question;
+    authority_start = s.authority_start;
+    answer = s.answer_at;
+    additional_start = s.additional_start;
+    authority = s.authority_at;
+    behind = s.behind;
+    additional = s.additional_at;
+  };
+  is = λ i. record { id = id_is i; rd = rd_is i; cd = cd_is i; question = q; opt = o };
+}

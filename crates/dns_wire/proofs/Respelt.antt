@@ -60,7 +60,7 @@ unfolding earliest
 found_earliest P places suffix at is all = found P places suffix at is all
 
 -- after a place was kept
-all_keep : (P : PlaceData → Type 0) (d : Draft) (suffix : List (List ℕ)) → AllByRecursion P d.places → P (record { suffix = suffix; at = size d }) → AllByRecursion P (keep d suffix).places
+pub all_keep : (P : PlaceData → Type 0) (d : Draft) (suffix : List (List ℕ)) → AllByRecursion P d.places → P (record { suffix = suffix; at = size d }) → AllByRecursion P (keep d suffix).places
 all_keep P d suffix all here =
     elim (nat_lt (12 + length d.bytes) 16384) as (λ t. AllByRecursion P (if t then d.places ++ record { suffix = suffix; at = 12 + length d.bytes } ∷ [] else d.places)) [
       | true ↦ all_push P d.places (record { suffix = suffix; at = 12 + length d.bytes }) all here

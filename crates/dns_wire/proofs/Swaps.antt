@@ -1,6 +1,6 @@
 -- What is put behind a draft depends on how long the draft is, and not on its bytes. So the length of a record's data can be filled in later.
 use Rattle.std.proofs.Common.{◌≡◌, ◌≤◌, ℕ, ◌+◌, ◌/◌, ◌%◌, List, [], ◌∷◌, ◌++◌, length, drop, Some, None, refl, sym, ap, ◌∙◌, append_assoc, arith, length-append, length-drop}
-use Rattle.std.proofs.lemmas.List.{append-nil, drop-append-le, drop_all}
+use Rattle.std.proofs.lemmas.List.{append-nil, drop-append-le, drop_all, drop_at}
 use Rattle.std.specs.Prelude.{nat_lt, if◌then◌else◌}
 use Rattle.std.specs.Int.{w16, w32, w128, to_be_bytes}
 use Rattle.dns_data.specs.Name.{spelled}
@@ -129,3 +129,27 @@ head_of d r = put_long (put_number (put_number (put_name d r.owner) (kind_of r.r
 -- a record, part after part
 pub record_in_order : (d : Draft) (r : RecordData) → put_record d r ≡ put_data (put_number (head_of d r) (data_size_of (head_of d r) r.rdata)) r.rdata
 record_in_order d r = sym (record_by_parts d r) ∙ in_order (head_of d r) r.rdata
+
+-- a record whose data is known, part after part
+abbrev pub head_by : Draft → RecordData → Rdata → Draft
+head_by d r x = put_long (put_number (put_number (put_name d r.owner) (kind_of x)) r.class) r.ttl
+
+by_data : (d : Draft) (r : RecordData) (x : Rdata) → r.rdata ≡ x → put_record d r ≡ put_data (put_number (head_by d r x) (data_size_of (head_by d r x) x)) x
+by_data d r x e = record_in_order d r ∙ (λ i. put_data (put_number (head_by d r (e i)) (data_size_of (head_by d r (e i)) (e i))) (e i))
+
+bytes_behind : (head : Draft) (bytes : List ℕ) → length (drop (length head.bytes + 2) (put (put_number head 0) bytes).bytes) ≡ length bytes
+bytes_behind head bytes = ap length (drop_at (head.bytes ++ to_be_bytes w16 0) bytes (length head.bytes + 2) (length-append head.bytes (to_be_bytes w16 0)))
+
+-- the data of an A record has 4 bytes
+pub a_record : (d : Draft) (r : RecordData) (addr : ℕ) → r.rdata ≡ rdata.A addr → put_long (put_number (head_by d r (rdata.A addr)) 4) addr ≡ put_record d r
+unfolding put_data
+a_record d r addr e =
+    let head = head_by d r (rdata.A addr) in
+    ap (λ (k : ℕ). put_long (put_number head k) addr) (sym (bytes_behind head (to_be_bytes w32 addr))) ∙ sym (by_data d r (rdata.A addr) e)
+
+-- that of an AAAA record has 16
+pub aaaa_record : (d : Draft) (r : RecordData) (addr : ℕ) → r.rdata ≡ rdata.Aaaa addr → put (put_number (head_by d r (rdata.Aaaa addr)) 16) (to_be_bytes w128 addr) ≡ put_record d r
+unfolding put_data
+aaaa_record d r addr e =
+    let head = head_by d r (rdata.Aaaa addr) in
+    ap (λ (k : ℕ). put (put_number head k) (to_be_bytes w128 addr)) (sym (bytes_behind head (to_be_bytes w128 addr))) ∙ sym (by_data d r (rdata.Aaaa addr) e)

@@ -1,5 +1,5 @@
 -- Writing a name up to the first suffix that was written out before.
-use Rattle.std.proofs.Common.{◌≡◌, ◌≤◌, ℕ, ◌+◌, ◌-◌, Bool, nat_eq, List, [], ◌∷◌, ◌++◌, length, take, drop, Option, Some, None, refl, sym, ap, ◌∙◌, append_assoc, arith, length-append, length-drop}
+use Rattle.std.proofs.Common.{◌≡◌, ◌≤◌, ◌<◌, ℕ, ◌+◌, ◌-◌, Bool, nat_eq, List, [], ◌∷◌, ◌++◌, length, take, drop, Option, Some, None, refl, sym, ap, ◌∙◌, append_assoc, arith, length-append, length-drop}
 use Rattle.std.proofs.lemmas.List.{take_all, take_at, drop_at, drop-drop}
 use Rattle.std.proofs.Math.Seq.{take-add}
 use Rattle.std.proofs.lemmas.Bool.Decides.{same_from_decides, Decides-eqb}
@@ -78,3 +78,8 @@ pub ends : {start draft : Draft} {name : List (List ℕ)} {at : ℕ} → Written
 ends {start} {draft} {name} {at} w =
     let all : take at (spelled name) ≡ spelled name = take_all at (spelled name) (omega (arith, ap length w.left, length-drop at (spelled name))) in
     ap (λ (t : List ℕ). put (put draft t) (0 ∷ [])) (sym all) ∙ sym (at_root (put draft (take at (spelled name)))) ∙ w.rest
+
+-- a pointer in place of the whole name
+pub points_at_once : (d : Draft) (name : List (List ℕ)) (at : ℕ) → 0 < length (spelled name) → earliest d.places name ≡ Some at → put_pointer d at ≡ put_name d name
+points_at_once d [] at more found = absurd (omega arith)
+points_at_once d (l ∷ ls) at more found = sym (at_place d l ls at found)

@@ -3,6 +3,9 @@ pub mod Runs
 pub mod Data
 pub mod Records
 pub mod Spells
+pub mod Asked
 pub mod Reads
 pub mod Written
+pub mod Places
+pub mod Assembled
 pub mod Putting

@@ -1,12 +1,14 @@
 //! Messages of the DNS as bytes (RFC 1035, section 4): queries and replies are read, and messages are written.
 #![tactic(auto)]
 
+mod asked;
 mod fault;
 mod message;
 mod name;
 mod number;
 #[cfg(test)]
 mod outside_messages;
+mod places;
 mod query;
 mod rdata;
 mod record;
@@ -22,7 +24,8 @@ mod write_record;
 mod write_tests;
 mod writer;
 
+pub use asked::{Asked, read_asked};
 pub use fault::{Head, QueryFault, ReplyFault};
 pub use query::read_query;
 pub use reply::read_reply;
-pub use write::write_message;
+pub use write::{Header, MessageParts, write_message, write_parts};

@@ -53,9 +53,13 @@ pub fn read_message(alloc: Global, bytes: &[u8]) -> Result<Message, ReplyFault>
     })
 }
 
-// The question at a place, and the place behind it.
+/// The question at a place, and the place behind it.
 #[inline]
-fn read_question(alloc: Global, bytes: &[u8], at: usize) -> Result<(Question, usize), ReplyFault>
+pub fn read_question(
+    alloc: Global,
+    bytes: &[u8],
+    at: usize,
+) -> Result<(Question, usize), ReplyFault>
     requires { at ≤ length bytes.now }
     ensures spelt { Reads (λ found. QuestionAt bytes.now at found.0 found.1) result }
     ensures inside { IfOk result (λ found. found.1 ≤ length bytes.now) }
@@ -72,9 +76,9 @@ fn read_question(alloc: Global, bytes: &[u8], at: usize) -> Result<(Question, us
     Ok((question, middle + 4))
 }
 
-// The OPT record of a message without other records, if it has one. Most queries are such messages.
+/// The OPT record of a message without other records, if it has one. Most queries are such messages.
 #[inline]
-fn opt_alone(bytes: &[u8], at: usize) -> Option<Option<Opt>>
+pub fn opt_alone(bytes: &[u8], at: usize) -> Option<Option<Opt>>
     requires long { 12 ≤ length bytes.now }
     requires inside { at ≤ length bytes.now }
     ensures { IfSome result (SectionsAt bytes.now at [] [] []) }

@@ -19,7 +19,7 @@ const NAME_MOST: usize = 255;
 const POINTER: u8 = 192;
 
 /// Reads the name at a place, and gives the place behind it. Most names are one run of labels, which is copied at once.
-#[inline]
+#[inline(always)]
 pub fn read_name(alloc: Global, bytes: &[u8], first: usize) -> Result<(Name, usize), ReplyFault>
     requires { first ≤ length bytes.now }
     ensures spelt { Reads (λ found. WholeNameAt bytes.now first found.0 found.1) result }

@@ -28,8 +28,8 @@ pub fn read_query(alloc: Global, bytes: &[u8]) -> Result<Message, QueryFault>
     }
 }
 
-// What the header says for an answer to a query that isn't read.
-fn head_at(bytes: &[u8]) -> Head
+/// What the header says for an answer to a query that isn't read.
+pub fn head_at(bytes: &[u8]) -> Head
     requires { 12 ≤ length bytes.now }
     ensures { HeadIs bytes.now result }
 {

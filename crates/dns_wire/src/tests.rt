@@ -81,7 +81,30 @@ fn tells_why_a_query_is_not_read(rt: HostRuntime) -> Result<(), Fail> {
     ];
     for (bytes, want) in rows {
         assert_eq!(rt; read_query(rt.alloc(), bytes).err(), Some(want));
+        assert_eq!(rt; read_asked(rt.alloc(), bytes).err(), Some(want));
     }
+    Ok(())
+}
+
+#[test]
+fn keeps_of_a_query_what_an_answer_needs(rt: HostRuntime) -> Result<(), Fail> {
+    // CD and a class of 3 (RFC 4035, section 3.1.6; RFC 1035, section 3.2.4).
+    let query = with(rt.alloc(), &QUERY, 3, 0x10)?;
+    let asked = read_asked(rt.alloc(), &with(rt.alloc(), &query, 28, 3)?)?;
+    assert_eq!(rt; (asked.id, asked.rd, asked.cd), (0x1234, true, true));
+    assert_eq!(rt; asked.question.name.as_wire(), &QUERY[12..24]);
+    assert_eq!(rt; (asked.question.kind, asked.question.class), (1, 3));
+    assert_eq!(rt; asked.opt, None);
+    for bytes in [QUERY_OPT.as_slice(), OPT_AT_POINTER.as_slice()] {
+        let asked = read_asked(rt.alloc(), bytes)?;
+        assert_eq!(rt;
+            asked.opt.map(|opt| (opt.size, opt.ext, opt.version)),
+            Some((512, 0x80, 1))
+        );
+        assert!(rt; asked.rd && !asked.cd);
+    }
+    assert!(rt; read_asked(rt.alloc(), &TWO_OPTS).is_err());
+    assert!(rt; read_asked(rt.alloc(), &OPT_IN_ANSWER).is_err());
     Ok(())
 }
 

@@ -1,13 +1,15 @@
-ghost use Rattle.std.specs.Prelude.{◌≡◌, ◌≤◌, ◌<◌, ◌+◌, ◌-◌, ◌^◌, length, take, OnOk, IfOk, IfSome};
+ghost use Rattle.std.specs.Prelude.{◌≡◌, ◌≤◌, ◌<◌, ◌+◌, ◌-◌, ◌^◌, [], ◌∷◌, length, take, vec_len, OnOk, IfOk, IfSome};
 ghost use Rattle.std.specs.Int.{w16, to_be_bytes};
 ghost use Rattle.dns_data.specs.Record.{IsProper};
 ghost use Rattle.dns_wire.specs.Spells.{Spells};
 ghost use Rattle.dns_wire.specs.Written.{size, put, put_question, opt_bytes, header, uncut, cut, kept, written, IsLongest};
+ghost use Rattle.dns_data.specs.Message.{AreCodes};
+ghost use Rattle.dns_wire.specs.Assembled.{message_of, high_byte, low_byte};
 ghost use Rattle.dns_wire.specs.Putting.{total, QuestionFits, OptFits, PutWithin, PutLongest, AreKept};
 
 use crate::write_record::put_record;
-use crate::writer::Writer;
-use dns_data::{Bytes, Message, NoMemory, Opt, Question, Record};
+use crate::writer::{Writer, begun};
+use dns_data::{Bytes, Message, Name, NoMemory, Opt, Record};
 use std::alloc::Global;
 
 // The length of an OPT record without data (RFC 6891, section 6.1.2), whose type is 41.
@@ -21,6 +23,36 @@ pub struct Counts {
     pub additional: usize,
 }
 
+/// What the header of a message says beside its counts (RFC 1035, section 4.1.1; AD and CD by RFC 4035, section 3).
+#[derive(Clone, Copy, Debug, PartialEq, Eq)]
+pub struct Header {
+    pub id: u16,
+    pub qr: bool,
+    /// Below 16.
+    pub opcode: u8,
+    pub aa: bool,
+    pub tc: bool,
+    pub rd: bool,
+    pub ra: bool,
+    pub ad: bool,
+    pub cd: bool,
+    /// Below 16.
+    pub rcode: u8,
+}
+
+/// A message whose parts stand where they are: a question of this name, type and class, and the records.
+#[derive(Drop)]
+pub struct MessageParts<'a> {
+    pub header: Header,
+    pub name: &'a Name,
+    pub kind: u16,
+    pub class: u16,
+    pub answer: &'a [Record],
+    pub authority: &'a [Record],
+    pub additional: &'a [Record],
+    pub opt: Option<Opt>,
+}
+
 /// Writes a message in the one form, with the longest prefix of its records with which it stays within a limit in bytes.
 /// TC is set where a record of answer or authority is left out (RFC 2181, section 9). The question's name, owner names and
 /// names in NS, CNAME, SOA, PTR and MX data are compressed, and targets of SRV records aren't (RFC 2782).
@@ -31,23 +63,78 @@ pub fn write_message(alloc: Global, message: &Message, limit: u32) -> Result<Byt
     ensures spelt { IfOk result (λ bytes. Spells bytes (cut message.now (kept message.now limit))) }
     ensures whole { length (uncut message.now) ≤ limit → IfOk result (λ bytes. Spells bytes message.now) }
 {
-    let room = room_for_records(limit as usize, &message.opt);
-    let mut writer = Writer::new(alloc, likely_length(message, limit as usize))?;
-    put_question(&mut writer, &message.question)?;
-    let kept = put_sections(&mut writer, message, room)?;
-    put_opt(&mut writer, &message.opt)?;
-    Ok(writer.into_bytes(&header(message, kept)))
+    let parts = parts_of(message);
+    write_parts(alloc, Bytes::new(alloc), &parts, limit)
 }
 
-// How many bytes a message is likely to take: 512 at most for a short one, else 32 a record.
-fn likely_length(message: &Message, limit: usize) -> usize
-    ensures { result ≤ limit }
+fn parts_of(message: &Message) -> MessageParts<'_>
+    ensures message { message_of result ≡ message.now }
+    ensures codes { AreCodes result.header.opcode result.header.rcode }
 {
-    let answer = message.answer.len().min(2048);
-    let authority = message.authority.len().min(2048);
-    let additional = message.additional.len().min(2048);
-    let records = answer + authority + additional;
-    limit.min(512.max(32 * records))
+    MessageParts {
+        header: Header {
+            id: message.id,
+            qr: message.qr,
+            opcode: message.opcode,
+            aa: message.aa,
+            tc: message.tc,
+            rd: message.rd,
+            ra: message.ra,
+            ad: message.ad,
+            cd: message.cd,
+            rcode: message.rcode,
+        },
+        name: &message.question.name,
+        kind: message.question.kind,
+        class: message.question.class,
+        answer: message.answer.as_slice(),
+        authority: message.authority.as_slice(),
+        additional: message.additional.as_slice(),
+        opt: message.opt,
+    }
+}
+
+/// Writes a message by its parts as `write_message` does, in the memory of `room`, whose bytes go.
+#[inline]
+pub fn write_parts(
+    alloc: Global,
+    room: Bytes,
+    parts: &MessageParts<'_>,
+    limit: u32,
+) -> Result<Bytes, NoMemory>
+    requires limit { (512 ≤ limit) × (limit ≤ 65535) }
+    requires codes { AreCodes parts.now.header.opcode parts.now.header.rcode }
+    ensures text { IfOk result (λ bytes. bytes ≡ written (message_of parts.now) limit) }
+    ensures longest { IfOk result (λ bytes. IsLongest (message_of parts.now) limit bytes) }
+    ensures spelt { IfOk result (λ bytes. Spells bytes (cut (message_of parts.now) (kept (message_of parts.now) limit))) }
+    ensures whole { length (uncut (message_of parts.now)) ≤ limit → IfOk result (λ bytes. Spells bytes (message_of parts.now)) }
+{
+    let out = begun(room)?;
+    write_behind(alloc, out, parts, limit)
+}
+
+// Writes a message behind and into a header of zero bytes. It is a function of its own so that the writer is made in one go.
+#[inline(always)]
+fn write_behind(
+    alloc: Global,
+    out: Vec<u8>,
+    parts: &MessageParts<'_>,
+    limit: u32,
+) -> Result<Bytes, NoMemory>
+    requires begun { vec_len out ≡ 12 }
+    requires limit { (512 ≤ limit) × (limit ≤ 65535) }
+    requires codes { AreCodes parts.now.header.opcode parts.now.header.rcode }
+    ensures text { IfOk result (λ bytes. bytes ≡ written (message_of parts.now) limit) }
+    ensures longest { IfOk result (λ bytes. IsLongest (message_of parts.now) limit bytes) }
+    ensures spelt { IfOk result (λ bytes. Spells bytes (cut (message_of parts.now) (kept (message_of parts.now) limit))) }
+    ensures whole { length (uncut (message_of parts.now)) ≤ limit → IfOk result (λ bytes. Spells bytes (message_of parts.now)) }
+{
+    let mut writer = Writer::over(alloc, out);
+    let room_for_records = room_for_records(limit as usize, &parts.opt);
+    put_question(&mut writer, parts)?;
+    let kept = put_sections(&mut writer, parts, room_for_records)?;
+    put_opt(&mut writer, &parts.opt)?;
+    Ok(writer.into_bytes(&header_bytes(parts, kept)))
 }
 
 // The limit without the OPT record that comes last.
@@ -64,43 +151,45 @@ fn room_for_records(limit: usize, opt: &Option<Opt>) -> usize
 }
 
 #[tactic(auto, unfolding(crate::specs::Written::put_question))]
-fn put_question<'a>(writer: &mut Writer<'a>, question: &'a Question) -> Result<(), NoMemory>
-    ensures text { OnOk result (writer.new ≡ put_question writer.old question.now) }
-    ensures fits { OnOk result (QuestionFits question.now) }
+fn put_question<'a>(writer: &mut Writer<'a>, parts: &MessageParts<'a>) -> Result<(), NoMemory>
+    requires { writer.old.places ≡ [] }
+    ensures text { OnOk result (writer.new ≡ put_question writer.old (message_of parts.now).question) }
+    ensures fits { OnOk result (QuestionFits (message_of parts.now).question) }
 {
-    let kind = question.kind.to_be_bytes();
-    let class = question.class.to_be_bytes();
-    writer.put_name(&question.name)?;
+    let kind = parts.kind.to_be_bytes();
+    let class = parts.class.to_be_bytes();
+    writer.put_first_name(parts.name)?;
     writer.put(&[kind[0], kind[1], class[0], class[1]])
 }
 
 // Puts records of one section after another, until one doesn't fit.
+#[inline]
 fn put_sections<'a>(
     writer: &mut Writer<'a>,
-    message: &'a Message,
+    parts: &MessageParts<'a>,
     room: usize,
 ) -> Result<Counts, NoMemory>
     requires room { room ≤ 65535 }
     requires fits { size writer.old ≤ room }
-    ensures { IfOk result (λ kept. AreKept writer.old writer.new message.now room kept) }
+    ensures { IfOk result (λ kept. AreKept writer.old writer.new (message_of parts.now) room kept) }
 {
-    let answer = put_records(writer, message.answer.as_slice(), room)?;
-    if answer < message.answer.len() {
+    let answer = put_records(writer, parts.answer, room)?;
+    if answer < parts.answer.len() {
         return Ok(Counts {
             answer,
             authority: 0,
             additional: 0,
         });
     }
-    let authority = put_records(writer, message.authority.as_slice(), room)?;
-    if authority < message.authority.len() {
+    let authority = put_records(writer, parts.authority, room)?;
+    if authority < parts.authority.len() {
         return Ok(Counts {
             answer,
             authority,
             additional: 0,
         });
     }
-    let additional = put_records(writer, message.additional.as_slice(), room)?;
+    let additional = put_records(writer, parts.additional, room)?;
     Ok(Counts {
         answer,
         authority,
@@ -108,8 +197,25 @@ fn put_sections<'a>(
     })
 }
 
-// Puts records until one doesn't fit, and gives how many were put.
+// Puts records until one doesn't fit, and gives how many were put. Mostly there are none.
+#[inline]
 fn put_records<'a>(
+    writer: &mut Writer<'a>,
+    entries: &'a [Record],
+    room: usize,
+) -> Result<usize, NoMemory>
+    requires room { room ≤ 65535 }
+    requires fits { size writer.old ≤ room }
+    ensures { IfOk result (λ count. PutLongest writer.old writer.new entries.now room count) }
+{
+    if entries.len() == 0 {
+        return Ok(0);
+    }
+    put_each(writer, entries, room)
+}
+
+// Puts records until one doesn't fit, and gives how many were put.
+fn put_each<'a>(
     writer: &mut Writer<'a>,
     entries: &'a [Record],
     room: usize,
@@ -179,35 +285,44 @@ fn id_bytes(id: u16) -> [u8; 2]
     id.to_be_bytes()
 }
 
-// The header of a message of which so many records are written.
-#[tactic(auto, unfolding(crate::specs::Written::header, crate::specs::Written::cut))]
-fn header(message: &Message, kept: Counts) -> [u8; 12]
-    requires few { total kept < 2 ^ 16 - 1 }
-    requires answer { kept.answer ≡ length (take (total kept) message.now.answer) }
-    requires authority { kept.authority ≡ length (take (total kept - length message.now.answer) message.now.authority) }
-    requires additional { kept.additional ≡ length (take (total kept - length message.now.answer - length message.now.authority) message.now.additional) }
-    ensures text { result ≡ header (cut message.now (total kept)) }
-    ensures fits { message.now.id < 2 ^ 16 }
+// The two bytes of flags and codes in a header.
+#[inline]
+fn flag_bytes(header: Header, is_cut: bool) -> [u8; 2]
+    requires { AreCodes header.opcode header.rcode }
+    ensures { result ≡ high_byte header is_cut ∷ low_byte header ∷ [] }
 {
-    let is_cut = kept.answer < message.answer.len() || kept.authority < message.authority.len();
-    let high = 128 * message.qr as u8
-        + 8 * message.opcode
-        + 4 * message.aa as u8
-        + 2 * (message.tc || is_cut) as u8
-        + message.rd as u8;
-    let low = 128 * message.ra as u8
-        + 32 * message.ad as u8
-        + 16 * message.cd as u8
-        + message.rcode;
-    let id = id_bytes(message.id);
+    let high = 128 * header.qr as u8
+        + 8 * header.opcode
+        + 4 * header.aa as u8
+        + 2 * (header.tc || is_cut) as u8
+        + header.rd as u8;
+    let low = 128 * header.ra as u8 + 32 * header.ad as u8 + 16 * header.cd as u8 + header.rcode;
+    [high, low]
+}
+
+// The header of a message of which so many records are written.
+#[inline]
+#[tactic(auto, unfolding(crate::specs::Written::header, crate::specs::Written::cut))]
+fn header_bytes(parts: &MessageParts<'_>, kept: Counts) -> [u8; 12]
+    requires codes { AreCodes parts.now.header.opcode parts.now.header.rcode }
+    requires few { total kept < 2 ^ 16 - 1 }
+    requires answer { kept.answer ≡ length (take (total kept) parts.now.answer.now) }
+    requires authority { kept.authority ≡ length (take (total kept - length parts.now.answer.now) parts.now.authority.now) }
+    requires additional { kept.additional ≡ length (take (total kept - length parts.now.answer.now - length parts.now.authority.now) parts.now.additional.now) }
+    ensures text { result ≡ header (cut (message_of parts.now) (total kept)) }
+    ensures fits { parts.now.header.id < 2 ^ 16 }
+{
+    let is_cut = kept.answer < parts.answer.len() || kept.authority < parts.authority.len();
+    let id = id_bytes(parts.header.id);
+    let flags = flag_bytes(parts.header, is_cut);
     let answer = (kept.answer as u16).to_be_bytes();
     let authority = (kept.authority as u16).to_be_bytes();
-    let additional = (kept.additional as u16 + message.opt.is_some() as u16).to_be_bytes();
+    let additional = (kept.additional as u16 + parts.opt.is_some() as u16).to_be_bytes();
     [
         id[0],
         id[1],
-        high,
-        low,
+        flags[0],
+        flags[1],
         0,
         1,
         answer[0],

@@ -12,22 +12,43 @@ pub fn put_record<'a>(writer: &mut Writer<'a>, entry: &'a Record) -> Result<(), 
     ensures proper { IsProper entry.now }
 {
     writer.put_name(&entry.owner)?;
-    put_head(writer, entry.rdata.kind(), entry.class, entry.ttl)?;
-    let at = writer.len();
-    put_data(writer, &entry.rdata)?;
-    writer.fill_length(at);
-    Ok(())
+    let (kind, class, ttl) = (entry.rdata.kind(), entry.class, entry.ttl);
+    match &entry.rdata {
+        Rdata::A(addr) => {
+            put_head(writer, kind, class, ttl, 4)?;
+            put_long(writer, *addr)
+        }
+        Rdata::Aaaa(addr) => {
+            put_head(writer, kind, class, ttl, 16)?;
+            writer.put(&addr.to_be_bytes())
+        }
+        rdata => {
+            put_head(writer, kind, class, ttl, 0)?;
+            let at = writer.len();
+            put_data(writer, rdata)?;
+            writer.fill_length(at);
+            Ok(())
+        }
+    }
 }
 
-// Type, class and TTL, and two bytes for the length of the data, which is known behind it.
-fn put_head(writer: &mut Writer<'_>, kind: u16, class: u16, ttl: u32) -> Result<(), NoMemory>
-    ensures { OnOk result (writer.new ≡ put_number (put_long (put_number (put_number writer.old kind) class) ttl) 0) }
+// Type, class and TTL, and the length of the data. Where that isn't known before the data it is 0 as yet.
+#[inline]
+fn put_head(
+    writer: &mut Writer<'_>,
+    kind: u16,
+    class: u16,
+    ttl: u32,
+    length: u16,
+) -> Result<(), NoMemory>
+    ensures { OnOk result (writer.new ≡ put_number (put_long (put_number (put_number writer.old kind) class) ttl) length) }
 {
     let kind = kind.to_be_bytes();
     let class = class.to_be_bytes();
     let ttl = ttl.to_be_bytes();
+    let length = length.to_be_bytes();
     writer.put(&[
-        kind[0], kind[1], class[0], class[1], ttl[0], ttl[1], ttl[2], ttl[3], 0, 0,
+        kind[0], kind[1], class[0], class[1], ttl[0], ttl[1], ttl[2], ttl[3], length[0], length[1],
     ])
 }
 

@@ -76,12 +76,9 @@ fn compresses_letter_for_letter_and_never_to_a_target(rt: HostRuntime) -> Result
 #[test]
 fn writes_each_type(rt: HostRuntime) -> Result<(), Fail> {
     let mut message = message(rt.alloc(), 255)?;
-    put_with_names(rt.alloc(), &mut message.answer)?;
-    put_text(rt.alloc(), &mut message.answer)?;
-    put_address(rt.alloc(), &mut message.answer)?;
-    put_property(rt.alloc(), &mut message.answer)?;
-    put_opaque(rt.alloc(), &mut message.answer)?;
-    put_links(rt.alloc(), &mut message)?;
+    put_answers(rt.alloc(), &mut message.answer)?;
+    put_links(rt.alloc(), &mut message.authority)?;
+    put_service(rt.alloc(), &mut message.additional)?;
     message.opt = Some(opt(0, true));
     let bytes = write_message(rt.alloc(), &message, 65_535)?;
     assert_eq!(rt; bytes.as_slice(), EACH_TYPE.as_slice());
@@ -94,6 +91,56 @@ fn writes_an_opt_record_with_extended_code_1(rt: HostRuntime) -> Result<(), Fail
     message.opt = Some(opt(1, false));
     let bytes = write_message(rt.alloc(), &message, 512)?;
     assert_eq!(rt; bytes.as_slice(), BADVERS.as_slice());
+    Ok(())
+}
+
+#[test]
+fn writes_in_the_memory_of_other_bytes(rt: HostRuntime) -> Result<(), Fail> {
+    let message = reply(rt.alloc())?;
+    let parts = MessageParts {
+        header: Header {
+            id: 0x1234,
+            qr: true,
+            opcode: 0,
+            aa: true,
+            tc: false,
+            rd: true,
+            ra: false,
+            ad: false,
+            cd: false,
+            rcode: 0,
+        },
+        name: &message.question.name,
+        kind: 1,
+        class: 1,
+        answer: &[],
+        authority: &[],
+        additional: message.additional.as_slice(),
+        opt: None,
+    };
+    for length in [0, 11, 600] {
+        let room = Bytes::of(Vec::from_elem(rt.alloc(), 0xffu8, length)?);
+        let bytes = write_parts(rt.alloc(), room, &parts, 512)?;
+        assert_eq!(rt; bytes.as_slice(), REPLY.as_slice(), "in {length}");
+    }
+    Ok(())
+}
+
+// The question a.b.c.d.e.f.g.h, whose last labels stand at 24 and 26, and A records of g.h, h, H and i.h.
+#[test]
+fn points_at_the_eighth_suffix(rt: HostRuntime) -> Result<(), Fail> {
+    let mut message = asking(rt.alloc(), read_name(rt.alloc(), "a.b.c.d.e.f.g.h.")?, 1);
+    for text in ["g.h.", "h.", "H.", "i.h."] {
+        let owner = read_name(rt.alloc(), text)?;
+        message.answer.push(Record::new(owner, 1, 0, Rdata::A(0)))?;
+    }
+    let bytes = write_message(rt.alloc(), &message, 512)?;
+    let bytes = bytes.as_slice();
+    assert_eq!(rt; bytes.len(), 33 + 16 + 16 + 17 + 18);
+    assert_eq!(rt; &bytes[33..35], [0xc0, 24].as_slice());
+    assert_eq!(rt; &bytes[49..51], [0xc0, 26].as_slice());
+    assert_eq!(rt; &bytes[65..68], [1, b'H', 0].as_slice());
+    assert_eq!(rt; &bytes[82..86], [1, b'i', 0xc0, 26].as_slice());
     Ok(())
 }
 
@@ -120,7 +167,24 @@ fn leaves_out_what_overruns_the_limit(rt: HostRuntime) -> Result<(), Fail> {
     Ok(())
 }
 
-fn put_with_names(alloc: Global, records: &mut Records) -> Result<(), NoMemory> {
+fn put_answers(alloc: Global, records: &mut Records) -> Result<(), NoMemory> {
+    put(alloc, records, Rdata::A(0xc000_0201))?;
+    put_server(alloc, records)?;
+    put_start(alloc, records)?;
+    put_host(alloc, records)?;
+    put_exchange(alloc, records)?;
+    put_text(alloc, records)?;
+    put_address(alloc, records)?;
+    put_property(alloc, records)?;
+    put_opaque(alloc, records)
+}
+
+fn put_server(alloc: Global, records: &mut Records) -> Result<(), NoMemory> {
+    let server = name(alloc, b"ns", b"org")?;
+    put(alloc, records, Rdata::Ns(server))
+}
+
+fn put_start(alloc: Global, records: &mut Records) -> Result<(), NoMemory> {
     let soa = Soa {
         mname: name(alloc, b"ns", b"org")?,
         rname: name(alloc, b"host", b"org")?,
@@ -130,48 +194,69 @@ fn put_with_names(alloc: Global, records: &mut Records) -> Result<(), NoMemory> 
         expire: 1_209_600,
         minimum: 300,
     };
-    let hinfo = Rdata::Hinfo(
-        Bytes::from_slice(alloc, b"a")?,
-        Bytes::from_slice(alloc, b"bc")?,
-    );
-    records.push(record(alloc, Rdata::A(0xc000_0201))?)?;
-    records.push(record(alloc, Rdata::Ns(name(alloc, b"ns", b"org")?))?)?;
-    records.push(record(alloc, Rdata::Soa(soa))?)?;
-    records.push(record(alloc, hinfo)?)?;
-    records.push(record(alloc, Rdata::Mx(10, name(alloc, b"mail", b"org")?))?)
+    put(alloc, records, Rdata::Soa(soa))
+}
+
+fn put_host(alloc: Global, records: &mut Records) -> Result<(), NoMemory> {
+    let cpu = Bytes::from_slice(alloc, b"a")?;
+    let os = Bytes::from_slice(alloc, b"bc")?;
+    put(alloc, records, Rdata::Hinfo(cpu, os))
+}
+
+fn put_exchange(alloc: Global, records: &mut Records) -> Result<(), NoMemory> {
+    let exchange = name(alloc, b"mail", b"org")?;
+    put(alloc, records, Rdata::Mx(10, exchange))
 }
 
 fn put_text(alloc: Global, records: &mut Records) -> Result<(), NoMemory> {
     let mut strings = Seq::new(alloc);
     strings.push(Bytes::from_slice(alloc, b"one")?)?;
     strings.push(Bytes::new(alloc))?;
-    records.push(record(alloc, Rdata::Txt(strings))?)
+    put(alloc, records, Rdata::Txt(strings))
 }
 
 fn put_address(alloc: Global, records: &mut Records) -> Result<(), NoMemory> {
     let address = 0x2001_0db8_0000_0000_0000_0000_0000_0001;
-    records.push(record(alloc, Rdata::Aaaa(address))?)
+    put(alloc, records, Rdata::Aaaa(address))
 }
 
 fn put_property(alloc: Global, records: &mut Records) -> Result<(), NoMemory> {
     let tag = Bytes::from_slice(alloc, b"issue")?;
     let value = Bytes::from_slice(alloc, b"ca")?;
-    records.push(record(alloc, Rdata::Caa(128, tag, value))?)
+    put(alloc, records, Rdata::Caa(128, tag, value))
 }
 
 #[tactic(auto, unfolding(dns_data::specs::Record::has_form))]
 fn put_opaque(alloc: Global, records: &mut Records) -> Result<(), NoMemory> {
     let bytes = Bytes::from_slice(alloc, &[1, 2, 3])?;
-    records.push(record(alloc, Rdata::Opaque(65_280, bytes))?)
+    put(alloc, records, Rdata::Opaque(65_280, bytes))
 }
 
-fn put_links(alloc: Global, message: &mut Message) -> Result<(), NoMemory> {
-    let service = Rdata::Srv(1, 2, 5060, name(alloc, b"mail", b"org")?);
-    message.authority.push(record(alloc, Rdata::Cname(name(alloc, b"mail", b"org")?))?)?;
-    message
-        .authority
-        .push(record(alloc, Rdata::Ptr(name(alloc, b"www", b"org")?))?)?;
-    message.additional.push(record(alloc, service)?)
+fn put_links(alloc: Global, records: &mut Records) -> Result<(), NoMemory> {
+    put_alias(alloc, records)?;
+    put_pointer(alloc, records)
+}
+
+fn put_alias(alloc: Global, records: &mut Records) -> Result<(), NoMemory> {
+    let alias = name(alloc, b"mail", b"org")?;
+    put(alloc, records, Rdata::Cname(alias))
+}
+
+fn put_pointer(alloc: Global, records: &mut Records) -> Result<(), NoMemory> {
+    let host = name(alloc, b"www", b"org")?;
+    put(alloc, records, Rdata::Ptr(host))
+}
+
+fn put_service(alloc: Global, records: &mut Records) -> Result<(), NoMemory> {
+    let target = name(alloc, b"mail", b"org")?;
+    put(alloc, records, Rdata::Srv(1, 2, 5060, target))
+}
+
+fn put(alloc: Global, records: &mut Records, rdata: Rdata) -> Result<(), NoMemory>
+    requires { IsFormed rdata }
+{
+    let entry = record(alloc, rdata)?;
+    records.push(entry)
 }
 
 fn record(alloc: Global, rdata: Rdata) -> Result<Record, NoMemory>
@@ -190,7 +275,11 @@ fn opt(ext: u8, dnssec: bool) -> Opt {
 }
 
 fn message(alloc: Global, kind: u16) -> Result<Message, NoMemory> {
-    Ok(Message {
+    Ok(asking(alloc, name(alloc, b"example", b"org")?, kind))
+}
+
+fn asking(alloc: Global, name: Name, kind: u16) -> Message {
+    Message {
         id: 0x1234,
         qr: true,
         opcode: 0,
@@ -201,12 +290,12 @@ fn message(alloc: Global, kind: u16) -> Result<Message, NoMemory> {
         ad: false,
         cd: false,
         rcode: 0,
-        question: question(name(alloc, b"example", b"org")?, kind),
+        question: question(name, kind),
         answer: Seq::new(alloc),
         authority: Seq::new(alloc),
         additional: Seq::new(alloc),
         opt: None,
-    })
+    }
 }
 
 fn name(alloc: Global, first: &[u8], second: &[u8]) -> Result<Name, NoMemory>
@@ -217,6 +306,13 @@ fn name(alloc: Global, first: &[u8], second: &[u8]) -> Result<Name, NoMemory>
     name.push(first)?;
     name.push(second)?;
     Ok(name)
+}
+
+fn read_name(alloc: Global, text: &str) -> Result<Name, NoMemory> {
+    match Name::read(alloc, text.as_bytes(), &Name::root(alloc)) {
+        Ok(name) => Ok(name),
+        Err(_) => Err(NoMemory),
+    }
 }
 
 fn question(name: Name, kind: u16) -> Question {

@@ -1,51 +1,16 @@
-ghost use Rattle.std.specs.Prelude.{◌≡◌, ◌<◌, ◌≤◌, ◌+◌, ◌-◌, ◌^◌, ◌++◌, [], Option, length, take, drop, vec_len, OnOk, IfOk, IfSome};
+ghost use Rattle.std.specs.Prelude.{◌≡◌, ◌<◌, ◌≤◌, ◌+◌, ◌-◌, ◌^◌, ◌++◌, [], length, take, drop, vec_len, OnOk, IfOk};
 ghost use Rattle.std.specs.Int.{w16, to_be_bytes};
-ghost use Rattle.dns_data.specs.Name.{IsName, IsWire, labels_of, same_labels};
-ghost use Rattle.dns_wire.specs.Written.{size, put, put_number, put_name, put_pointer, put_whole, keep, earliest};
+ghost use Rattle.dns_data.specs.Name.{IsName, IsWire, labels_of};
+ghost use Rattle.dns_wire.specs.Written.{size, put, put_number, put_name, put_pointer, put_whole, keep};
 
 use crate::message::HEADER;
+use crate::places::{MOST, Places};
 use dns_data::{Bytes, Name, NoMemory};
 use std::alloc::Global;
 use std::marker::Model;
 
-// A pointer names its place in 14 bits (RFC 1035, section 4.1.4).
-const PLACES: usize = 16384;
-
-/// Where a suffix of a name was written out: its wire form without the zero byte, and a place below 16,384.
-#[derive(Drop)]
-pub struct Place<'a> {
-    suffix: &'a [u8],
-    at: u16,
-}
-
-impl<'a> Model for Place<'a> {
-    ghost use Rattle.std.specs.Prelude.{◌<◌};
-    ghost use Rattle.dns_data.specs.Name.{IsWire, labels_of};
-    ghost use Rattle.dns_wire.specs.Written.{PlaceData};
-
-    ghost Value = { PlaceData };
-
-    ghost view = { λ p. record { suffix = labels_of p.suffix.now; at = p.at } };
-
-    ghost invariant = { λ p. IsWire p.suffix.now × (p.at < 16384) };
-}
-
-impl<'a> Place<'a> {
-    // Whether this suffix stands there, letter for letter.
-    fn has(&self, suffix: &[u8]) -> bool
-        requires { IsWire suffix.now }
-        ensures { result ≡ same_labels self.now.suffix (labels_of suffix.now) }
-    {
-        self.suffix == suffix
-    }
-
-    fn at(&self) -> u16
-        ensures value { result ≡ self.now.at }
-        ensures small { result < 16384 }
-    {
-        self.at
-    }
-}
+// As many bytes as a message has room for from the start: most replies are shorter.
+const ROOM: usize = 512;
 
 /// How far a writer had come.
 #[derive(Clone, Copy)]
@@ -59,7 +24,7 @@ pub struct Mark {
 #[derive(Drop)]
 pub struct Writer<'a> {
     out: Vec<u8>,
-    places: Vec<Place<'a>>,
+    places: Places<'a>,
 }
 
 impl<'a> Model for Writer<'a> {
@@ -68,25 +33,26 @@ impl<'a> Model for Writer<'a> {
 
     ghost Value = { Draft };
 
-    ghost view = { λ w. record { bytes = drop 12 w.out.items; places = w.places.items } };
+    ghost view = { λ w. record { bytes = drop 12 w.out.items; places = w.places } };
 
     ghost invariant = { λ w. 12 ≤ vec_len w.out };
 }
 
 impl<'a> Writer<'a> {
-    /// Room for so many bytes, the header among them. The room isn't made clear.
-    pub fn new(alloc: Global, room: usize) -> Result<Writer<'a>, NoMemory>
-        ensures { IfOk result (λ w. w ≡ record { bytes = []; places = [] }) }
+    /// Behind a header.
+    #[inline]
+    pub fn over(alloc: Global, out: Vec<u8>) -> Writer<'a>
+        requires { vec_len out ≡ 12 }
+        ensures { result ≡ record { bytes = []; places = [] } }
     {
-        let mut out = Vec::with_capacity(alloc, room)?;
-        out.extend_from_slice(&[0; HEADER])?;
-        Ok(Writer {
+        Writer {
             out,
-            places: Vec::with_capacity(alloc, 16)?,
-        })
+            places: Places::new(alloc),
+        }
     }
 
     /// The message, with its header in front.
+    #[inline]
     pub fn into_bytes(self, header: &[u8; 12]) -> Bytes
         ensures { result ≡ header.now ++ self.entry.bytes }
     {
@@ -148,18 +114,8 @@ impl<'a> Writer<'a> {
         overwrite(&mut self.out, at - 2, &length.to_be_bytes());
     }
 
-    // The earliest place of a suffix.
-    #[tactic(auto, unfolding(crate::specs::Written::earliest))]
-    fn find(&self, suffix: &[u8]) -> Option<u16>
-        requires { IsWire suffix.now }
-        ensures value { result ≡ earliest self.now.places (labels_of suffix.now) }
-        ensures small { IfSome result (λ at. at < 16384) }
-    {
-        let place = self.places.iter().find(|place| place.has(suffix))?;
-        Some(place.at())
-    }
-
     // Remembers that a suffix will stand behind the bytes so far and those ahead of it.
+    #[inline]
     fn keep(&mut self, ahead: &[u8], suffix: &'a [u8]) -> Result<(), NoMemory>
         requires { IsWire suffix.now }
         ensures { OnOk result (self.new ≡ record {
@@ -168,11 +124,8 @@ impl<'a> Writer<'a> {
         }) }
     {
         let at = self.out.len() + ahead.len();
-        if at < PLACES {
-            self.places.push(Place {
-                suffix,
-                at: at as u16,
-            })?;
+        if at < MOST {
+            self.places.push(suffix, at)?;
         }
         Ok(())
     }
@@ -188,32 +141,67 @@ impl<'a> Writer<'a> {
         self.put(wire)
     }
 
-    // Labels, and a pointer in place of those behind them.
-    fn put_pointer(&mut self, ahead: &[u8], at: u16) -> Result<(), NoMemory>
+    #[inline]
+    fn put_pointer(&mut self, at: usize) -> Result<(), NoMemory>
         requires { at < 16384 }
-        ensures { OnOk result (self.new ≡ put_pointer (put self.old ahead.now) at) }
+        ensures { OnOk result (self.new ≡ put_pointer self.old at) }
     {
-        self.put_labels(ahead)?;
         self.put(&[192 + (at / 256) as u8, (at % 256) as u8])
     }
 
     /// Writes a name, with a pointer in place of the longest suffix that was written out before.
+    #[inline(always)]
     pub fn put_name(&mut self, name: &'a Name) -> Result<(), NoMemory>
         ensures text { OnOk result (self.new ≡ put_name self.old name.now) }
         ensures proper { IsName name.now }
     {
         let wire = name.as_wire();
+        if 0 < wire.len() {
+            if let Some(place) = self.places.first(wire) {
+                return self.put_pointer(place);
+            }
+        }
+        self.put_suffixes(name)
+    }
+
+    /// Writes a name as `put_name` does, where none was written before: no suffix of it can stand there.
+    pub fn put_first_name(&mut self, name: &'a Name) -> Result<(), NoMemory>
+        requires { self.old.places ≡ [] }
+        ensures text { OnOk result (self.new ≡ put_name self.old name.now) }
+        ensures proper { IsName name.now }
+    {
+        let wire = name.as_wire();
         let mut labels = name.labels();
-        let mut at = 0;
-        while let Some(label) = labels.next() {
-            let (ahead, suffix) = (&wire[..at], &wire[at..]);
-            if let Some(place) = self.find(suffix) {
-                return self.put_pointer(ahead, place);
+        let mut suffix = wire;
+        while let Some(_label) = labels.next() {
+            self.keep(&wire[..wire.len() - suffix.len()], suffix)?;
+            suffix = labels.as_wire();
+        }
+        self.put_labels(wire)?;
+        self.put(&[0])
+    }
+
+    // Writes a name label by label, up to a pointer or the zero byte. Stays a call, so that a name which stood before is
+    // written by few steps.
+    #[inline(never)]
+    fn put_suffixes(&mut self, name: &'a Name) -> Result<(), NoMemory>
+        ensures text { OnOk result (self.new ≡ put_name self.old name.now) }
+        ensures proper { IsName name.now }
+    {
+        let wire = name.as_wire();
+        let mut labels = name.labels();
+        let mut suffix = wire;
+        while let Some(_label) = labels.next() {
+            let ahead = &wire[..wire.len() - suffix.len()];
+            if let Some(place) = self.places.find(suffix) {
+                self.put_labels(ahead)?;
+                return self.put_pointer(place);
             }
             self.keep(ahead, suffix)?;
-            at += label.len() + 1;
+            suffix = labels.as_wire();
         }
-        self.put_whole(name)
+        self.put_labels(wire)?;
+        self.put(&[0])
     }
 
     /// Writes a name whole.
@@ -223,6 +211,20 @@ impl<'a> Writer<'a> {
         self.put_labels(name.as_wire())?;
         self.put(&[0])
     }
+}
+
+/// A header of zero bytes in the memory of `room`, whose bytes go, and room for 512 bytes in all.
+#[inline]
+pub fn begun(room: Bytes) -> Result<Vec<u8>, NoMemory>
+    ensures { IfOk result (λ out. vec_len out ≡ 12) }
+{
+    let mut out = room.into_vec();
+    out.clear();
+    if out.capacity() < ROOM {
+        out.reserve(ROOM)?;
+    }
+    out.extend_from_slice(&[0; HEADER])?;
+    Ok(out)
 }
 
 // Puts bytes in place of those that stand from a place on.

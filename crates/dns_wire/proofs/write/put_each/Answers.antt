@@ -1,7 +1,7 @@
 use Rattle.std.proofs.Common.{◌<◌, length, ap, sym, ◌∙◌, arith}
 use Rattle.dns_wire.specs.Written.{Draft, put_record}
 use Rattle.dns_wire.proofs.Cutting.{stops, put_records-next, proper-next}
-use Rattle.dns_wire.proofs.write.put_records.Goals as goal
+use Rattle.dns_wire.proofs.write.put_each.Goals as goal
 
 pub returns-then-not-branch : goal.returns-then-not-branch
 returns-then-not-branch c =

@@ -1,0 +1,22 @@
+use Rattle.std.proofs.Common.{sym, ◌∙◌}
+use Rattle.dns_wire.proofs.Reading.{fails}
+use Rattle.dns_wire.proofs.Messages.{asks_this, sections_here}
+use Rattle.dns_wire.proofs.asked.asked_in.Goals as goal
+use Rattle.dns_wire.proofs.asked.asked_in.Goals.{in-Some, in-None+in_ok-opt-in-None}
+
+pub returns-in_err-question : goal.returns-in_err-question
+returns-in_err-question c =
+    fails c.in_err-question.field-0.0 c.in_err-question.ensures.spelt c.from_residual.result c.from_residual.ensures.1 (λ a h. ((h.message.question, h.spells.answer_start), h.spells.question))
+
+pub returns-in_err-opt-in-None : goal.returns-in_err-opt-in-None
+returns-in_err-opt-in-None c =
+    fails c.in_err-opt-in-None.field-0.0 c.in_err-opt-in-None.ensures c.from_residual-in_err-opt-in-None.result c.from_residual-in_err-opt-in-None.ensures.1
+    (λ a h. (record { answer = h.message.answer; authority = h.message.authority; additional = h.message.additional; opt = h.message.opt }, sections_here c.in_ok-question.ensures.spelt h.message h.spells))
+
+pub returns : goal.returns
+returns c =
+    let one = sym c.number_at.ensures ∙ c.if-number_at-ne1.false in
+    elim c.match-opt_alone.branch [
+      | in-Some w ↦ rw w.opt-is (asks_this _ _ _ c.requires one c.in_ok-question.ensures.spelt w.in-Some.ensures c.number_at-2.ensures c.flag_at.ensures c.flag_at-2.ensures)
+      | in-None+in_ok-opt-in-None w ↦ rw w.opt-is (asks_this _ _ _ c.requires one c.in_ok-question.ensures.spelt w.in_ok-opt-in-None.ensures c.number_at-2.ensures c.flag_at.ensures c.flag_at-2.ensures)
+    ]

@@ -8,7 +8,9 @@ use Rattle.dns_data.specs.declared.message.Transport.TheVariants.{Udp, Tcp}
 use Rattle.dns_data.specs.declared.query.Query.{Query}
 use Rattle.dns_wire.specs.declared.fault.Head.{Head}
 use Rattle.dns_wire.specs.Wire.{flag_at}
-use Rattle.dns_wire.specs.Spells.{SpellsQuery, AsksElse, AsksNothing}
+use Rattle.dns_wire.specs.Spells.{AsksElse, AsksNothing}
+use Rattle.dns_wire.specs.Asked.{QueriesThis}
+use Rattle.dns_wire.specs.declared.asked.Asked.{Asked}
 use Rattle.dns_wire.specs.Written.{bit, written}
 use Rattle.outside.specs.declared.datagram.Datagram.{Datagram}
 use Rattle.outside.specs.declared.mark.Mark.{Mark}
@@ -28,14 +30,14 @@ dnssec_of None = false
 dnssec_of (Some opt) = opt.dnssec
 
 -- the query that a chain of plugins is asked
-abbrev pub query_of : Datagram → MessageData → Query
-query_of d m = record {
-  name = m.question.name;
-  kind = m.question.kind;
-  dnssec = dnssec_of m.opt;
-  cd = m.cd;
-  rd = m.rd;
-  edns = is_some m.opt;
+abbrev pub query_of : Datagram → Asked → Query
+query_of d asked = record {
+  name = asked.question.name;
+  kind = asked.question.kind;
+  dnssec = dnssec_of asked.opt;
+  cd = asked.cd;
+  rd = asked.rd;
+  edns = is_some asked.opt;
   client = d.client;
   port = d.port;
   by = d.by;
@@ -89,13 +91,13 @@ abbrev pub is_known_version : Option Opt → Bool
 is_known_version None = true
 is_known_version (Some opt) = nat_eq opt.version 0
 
--- the reply to a datagram that is this message: BADVERS for another version of EDNS (extended code 1), else what the
--- Corefile's block answers
-abbrev pub reply_to : Option Block → Datagram → MessageData → MessageData
-reply_to block d m =
-    let q = query_of d m in
-    if is_known_version m.opt then replying m.id m.question.class (opt_reply 0 m.opt) q (class_answer m.question.class block q)
-    else replying m.id m.question.class (opt_reply 1 m.opt) q (nothing 0)
+-- the reply to a datagram that asks this: BADVERS for another version of EDNS (extended code 1), else what the Corefile's
+-- block answers
+abbrev pub reply_to : Option Block → Datagram → Asked → MessageData
+reply_to block d asked =
+    let q = query_of d asked in
+    if is_known_version asked.opt then replying asked.id asked.question.class (opt_reply 0 asked.opt) q (class_answer asked.question.class block q)
+    else replying asked.id asked.question.class (opt_reply 1 asked.opt) q (nothing 0)
 
 -- as many bytes as a client takes over UDP: 512, or the size that it gives where that is larger (RFC 6891, section 6.2.3)
 abbrev pub payload : Option Opt → ℕ
@@ -111,13 +113,13 @@ limit_of Tcp opt = 65535
 abbrev pub IsAccepted : Bundle → ℕ → Corefile → Type 0
 IsAccepted bundle default_port corefile = IsCorefile default_port bundle.conf corefile
 
--- the reply's bytes are the meaning of the bundle's text for the message that the datagram spells
+-- the reply's bytes are the meaning of the bundle's text for what the query asks that the datagram spells
 pub record Replies (bundle : Bundle) (default_port : ℕ) (d : Datagram) (reply : List ℕ) : Type 0 where
   pub corefile : Corefile
   pub accepted : IsAccepted bundle default_port corefile
-  pub message : MessageData
-  pub spells : SpellsQuery d.bytes message
-  pub bytes : reply ≡ written (reply_to corefile.block d message) (limit_of d.by message.opt)
+  pub asked : Asked
+  pub queries : QueriesThis d.bytes asked
+  pub bytes : reply ≡ written (reply_to corefile.block d asked) (limit_of d.by asked.opt)
 
 -- a header alone: the id, QR, an opcode, RD and an RCODE
 unfoldable pub header_reply : ℕ → ℕ → Bool → ℕ → List ℕ

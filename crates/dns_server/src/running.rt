@@ -149,7 +149,7 @@ fn finish<R: Wait, S: Side, W: Watch>(
     ensures finishes { Finishes command.entry.conf.now generations.old.chain.default_port command.entry.most generations.old.chain.bundle (W.state watch) (W.state result.1.watch) generations.new.published result.1.starved (side_run S.journal S.counts result.0) }
     ensures counts { WatchNoneFell (W.state watch).counts (W.state result.1.watch).counts }
 {
-    let mut worker = Worker::new(side);
+    let mut worker = Worker::new(alloc, side);
     let mut watcher = Watcher { watch, starved: 0 };
     let end = serve_rounds(
         rt,

@@ -1,12 +1,15 @@
 ghost use Rattle.std.specs.Prelude.{◌≡◌, ◌≤◌, ◌<◌, [], IfOk, option_map};
 ghost use Rattle.dns_server.specs.Serve.{Serves, IsChain, block_answer, class_answer, header_reply, is_known_version, limit_of, nothing, opt_reply, query_of, reply_to, replying};
+ghost use Rattle.dns_data.specs.Message.{AreCodes};
 ghost use Rattle.dns_wire.specs.Written.{written};
+ghost use Rattle.dns_wire.specs.Assembled.{message_of};
 
 use crate::chain::Chain;
 use crate::corefile::Block;
+use crate::room::Room;
 use crate::whoami::whoami_answer;
-use dns_data::{Answer, Bytes, Message, NoMemory, Opt, Query, Question, Seq, Transport};
-use dns_wire::{Head, QueryFault, read_query, write_message};
+use dns_data::{Answer, Bytes, NoMemory, Opt, Query, Question, Records, Seq, Transport};
+use dns_wire::{Asked, Head, Header, MessageParts, QueryFault, read_asked, write_parts};
 use outside::Datagram;
 use std::alloc::Global;
 
@@ -38,13 +41,13 @@ pub enum Served {
     NoMemory,
 }
 
-/// Serves one datagram by a chain.
-pub fn serve(alloc: Global, chain: &Chain, datagram: &Datagram) -> Served
+/// Serves one datagram by a chain. The reply is made in the worker's room.
+pub fn serve(alloc: Global, chain: &Chain, datagram: &Datagram, room: &mut Room) -> Served
     requires { IsChain chain.now }
     ensures { Serves chain.now.bundle chain.now.default_port datagram.now [] result }
 {
-    match read_query(alloc, datagram.bytes.as_slice()) {
-        Ok(message) => match reply(alloc, chain.corefile.block, datagram, message) {
+    match read_asked(alloc, datagram.bytes.as_slice()) {
+        Ok(asked) => match reply(alloc, chain.corefile.block, datagram, asked, room) {
             Ok(bytes) => Served::Reply(bytes),
             Err(NoMemory) => Served::NoMemory,
         },
@@ -73,36 +76,29 @@ fn header_reply(alloc: Global, head: Head, rcode: u8) -> Result<Bytes, NoMemory>
     Bytes::from_slice(alloc, &[high, low, flags, rcode, 0, 0, 0, 0, 0, 0, 0, 0])
 }
 
-// The reply to a message.
+// The reply to what a query asks.
 fn reply(
     alloc: Global,
     block: Option<Block>,
     datagram: &Datagram,
-    message: Message,
+    asked: Asked,
+    room: &mut Room,
 ) -> Result<Bytes, NoMemory>
-    ensures { IfOk result (λ bytes. bytes ≡ written (reply_to block datagram.now message) (limit_of datagram.now.by message.opt)) }
+    ensures { IfOk result (λ bytes. bytes ≡ written (reply_to block datagram.now asked) (limit_of datagram.now.by asked.opt)) }
 {
-    let limit = limit_of(datagram.by, message.opt);
-    let reply = reply_to(alloc, block, datagram, message)?;
-    write_message(alloc, &reply, limit)
-}
-
-// The message that answers a message.
-fn reply_to(
-    alloc: Global,
-    block: Option<Block>,
-    datagram: &Datagram,
-    message: Message,
-) -> Result<Message, NoMemory>
-    ensures { IfOk result (λ reply. reply ≡ reply_to block datagram.now message) }
-{
-    let (id, class, opt) = (message.id, message.question.class, message.opt);
-    let query = query_of(datagram, message);
-    if !is_known_version(opt) {
-        return Ok(replying(id, class, opt_reply(BADVERS, opt), query, nothing(alloc, 0)));
-    }
-    let answer = class_answer(alloc, class, block, &query)?;
-    Ok(replying(id, class, opt_reply(0, opt), query, answer))
+    let (id, class, opt) = (asked.id, asked.question.class, asked.opt);
+    let limit = limit_of(datagram.by, opt);
+    let query = query_of(datagram, asked);
+    let records = room.take_records(alloc);
+    let (ext, answer) = if is_known_version(opt) {
+        (0, class_answer(alloc, class, block, &query, records)?)
+    } else {
+        (BADVERS, nothing(alloc, 0, records))
+    };
+    let parts = replying(id, class, opt_reply(ext, opt), &query, &answer);
+    let bytes = write_parts(alloc, room.take_reply(alloc), &parts, limit)?;
+    room.keep_records(answer.additional);
+    Ok(bytes)
 }
 
 // As many bytes as a reply may have.
@@ -143,12 +139,12 @@ fn opt_reply(ext: u8, opt: Option<Opt>) -> Option<Opt>
     }
 }
 
-// The query of a message, whose name is moved and not copied.
-fn query_of(datagram: &Datagram, message: Message) -> Query
-    ensures { result ≡ query_of datagram.now message }
+// The query that a chain is asked. The name is moved and not copied.
+fn query_of(datagram: &Datagram, asked: Asked) -> Query
+    ensures { result ≡ query_of datagram.now asked }
 {
-    let (cd, rd) = (message.cd, message.rd);
-    let (edns, dnssec) = match message.opt {
+    let (cd, rd) = (asked.cd, asked.rd);
+    let (edns, dnssec) = match asked.opt {
         Some(opt) => (true, opt.dnssec),
         None => (false, false),
     };
@@ -156,7 +152,7 @@ fn query_of(datagram: &Datagram, message: Message) -> Query
         name,
         kind,
         class: _,
-    } = message.question;
+    } = asked.question;
     Query {
         name,
         kind,
@@ -176,27 +172,38 @@ fn class_answer(
     class: u16,
     block: Option<Block>,
     query: &Query,
+    records: Records,
 ) -> Result<Answer, NoMemory>
+    requires { records ≡ [] }
     ensures { IfOk result (λ answer. answer ≡ class_answer class block query.now) }
 {
     if class == 1 {
-        return block_answer(alloc, block, query);
+        return block_answer(alloc, block, query, records);
     }
-    Ok(nothing(alloc, REFUSED))
+    Ok(nothing(alloc, REFUSED, records))
 }
 
-fn block_answer(alloc: Global, block: Option<Block>, query: &Query) -> Result<Answer, NoMemory>
+fn block_answer(
+    alloc: Global,
+    block: Option<Block>,
+    query: &Query,
+    records: Records,
+) -> Result<Answer, NoMemory>
+    requires { records ≡ [] }
     ensures { IfOk result (λ answer. answer ≡ block_answer block query.now) }
 {
     match block {
-        Some(block) if block.whoami && block.port == query.local => whoami_answer(alloc, query),
-        _ => Ok(nothing(alloc, REFUSED)),
+        Some(block) if block.whoami && block.port == query.local => {
+            whoami_answer(alloc, query, records)
+        }
+        _ => Ok(nothing(alloc, REFUSED, records)),
     }
 }
 
 // An RCODE without records.
-fn nothing(alloc: Global, rcode: u8) -> Answer
-    requires { rcode < 16 }
+fn nothing(alloc: Global, rcode: u8, records: Records) -> Answer
+    requires small { rcode < 16 }
+    requires none { records ≡ [] }
     ensures { result ≡ nothing rcode }
 {
     Answer {
@@ -206,33 +213,41 @@ fn nothing(alloc: Global, rcode: u8) -> Answer
         tc: false,
         answer: Seq::new(alloc),
         authority: Seq::new(alloc),
-        additional: Seq::new(alloc),
+        additional: records,
     }
 }
 
 // The message that answers a query of this id, class and OPT record.
-fn replying(id: u16, class: u16, opt: Option<Opt>, query: Query, answer: Answer) -> Message
-    ensures { result ≡ replying id class opt query answer }
+#[inline]
+fn replying<'a>(
+    id: u16,
+    class: u16,
+    opt: Option<Opt>,
+    query: &'a Query,
+    answer: &'a Answer,
+) -> MessageParts<'a>
+    ensures message { message_of result ≡ replying id class opt query.now answer.now }
+    ensures codes { AreCodes result.header.opcode result.header.rcode }
 {
-    Message {
-        id,
-        qr: true,
-        opcode: 0,
-        aa: answer.aa,
-        tc: answer.tc,
-        rd: query.rd,
-        ra: answer.ra,
-        ad: false,
-        cd: query.cd,
-        rcode: answer.rcode,
-        question: Question {
-            name: query.name,
-            kind: query.kind,
-            class,
+    MessageParts {
+        header: Header {
+            id,
+            qr: true,
+            opcode: 0,
+            aa: answer.aa,
+            tc: answer.tc,
+            rd: query.rd,
+            ra: answer.ra,
+            ad: false,
+            cd: query.cd,
+            rcode: answer.rcode,
         },
-        answer: answer.answer,
-        authority: answer.authority,
-        additional: answer.additional,
+        name: &query.name,
+        kind: query.kind,
+        class,
+        answer: answer.answer.as_slice(),
+        authority: answer.authority.as_slice(),
+        additional: answer.additional.as_slice(),
         opt,
     }
 }

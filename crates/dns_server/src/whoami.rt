@@ -1,4 +1,4 @@
-ghost use Rattle.std.specs.Prelude.{◌≡◌, ◌++◌, IfOk, OnOk};
+ghost use Rattle.std.specs.Prelude.{◌≡◌, ◌++◌, [], IfOk, OnOk};
 ghost use Rattle.dns_server.specs.Whoami.{whoami_of, service_name, service_records, address_data};
 
 use dns_data::{
@@ -7,12 +7,13 @@ use dns_data::{
 use std::alloc::Global;
 
 /// Tells the client its own address, in an A or AAAA record at the query name, and its port, in an SRV record below it.
-/// Both have TTL 0.
+/// Both have TTL 0. They are put into the list, which is empty.
 #[tactic(auto, unfolding(crate::specs::Whoami::whoami_of))]
-pub fn whoami_answer(alloc: Global, query: &Query) -> Result<Answer, NoMemory>
+pub fn whoami_answer(alloc: Global, query: &Query, records: Records) -> Result<Answer, NoMemory>
+    requires none { records ≡ [] }
     ensures value { IfOk result (λ answer. answer ≡ whoami_of query.now) }
 {
-    let mut additional = Seq::with_capacity(alloc, 2)?;
+    let mut additional = records;
     additional.push(Record::new(query.name.copy(alloc)?, 1, 0, address(query.client)))?;
     push_service(alloc, query, &mut additional)?;
     Ok(Answer {

@@ -7,6 +7,7 @@ ghost use Rattle.dns_server.specs.Tally.{DatagramEnds, IsIdle, RowEnds, missed, 
 ghost use Rattle.dns_server.specs.Worker.{AddsTurn, IsOfDatagram, Pins, PinsBy, SendsServed, TakesTurn};
 
 use crate::generation::Generations;
+use crate::room::Room;
 use crate::serving::{Served, serve};
 use outside::{Datagram, Received, Seen, Side};
 use std::alloc::Global;
@@ -72,16 +73,17 @@ impl Tally {
     }
 }
 
-/// A worker: its side, and what it has counted so far.
+/// A worker: its side, what it has counted so far, and the room for its replies.
 #[derive(Drop)]
 pub struct Worker<S: Side> {
     pub side: S,
     pub tally: Tally,
+    pub room: Room,
 }
 
 impl<S: Side> Worker<S> {
     /// A worker that has done nothing yet.
-    pub fn new(side: S) -> Worker<S>
+    pub fn new(alloc: Global, side: S) -> Worker<S>
         ensures side { result.side ≡ side }
         ensures idle { IsIdle result.tally }
     {
@@ -94,6 +96,7 @@ impl<S: Side> Worker<S> {
                 failures: 0,
                 has_want: false,
             },
+            room: Room::new(alloc),
         }
     }
 }
@@ -129,7 +132,7 @@ pub fn work_once<S: Side>(
     ensures later { NoneFell (S.counts worker.old.side) (S.counts worker.new.side) }
 {
     let serial = generations.published() - 1;
-    match take_turn(alloc, &mut worker.side, generations) {
+    match take_turn(alloc, &mut worker.side, generations, &mut worker.room) {
         Turned::Answered => worker.tally.took(serial, most),
         Turned::Starved => {
             worker.tally.starved += 1;
@@ -146,7 +149,12 @@ pub fn work_once<S: Side>(
 }
 
 /// One turn: takes a datagram, pins the last generation, serves, sends, and unpins.
-pub fn take_turn<S: Side>(alloc: Global, side: &mut S, generations: &mut Generations) -> Turned
+pub fn take_turn<S: Side>(
+    alloc: Global,
+    side: &mut S,
+    generations: &mut Generations,
+    room: &mut Room,
+) -> Turned
     requires chain { IsChain generations.old.chain }
     requires idle { generations.old.pinned ≡ false }
     requires few { generations.old.pins < 2 ^ 46 }
@@ -156,7 +164,11 @@ pub fn take_turn<S: Side>(alloc: Global, side: &mut S, generations: &mut Generat
     ensures generations { PinsBy generations.old result generations.new }
 {
     match side.recv() {
-        Received::Got(datagram) => answer(alloc, side, generations, &datagram),
+        Received::Got(datagram) => {
+            let turned = answer(alloc, side, generations, &datagram, room);
+            side.take_back(datagram.bytes);
+            turned
+        }
         Received::End => Turned::RecvEnd,
         Received::Failed => Turned::RecvFailed,
         Received::NoMemory => Turned::RecvStarved,
@@ -169,6 +181,7 @@ fn answer<S: Side>(
     side: &mut S,
     generations: &mut Generations,
     datagram: &Datagram,
+    room: &mut Room,
 ) -> Turned
     requires chain { IsChain generations.old.chain }
     requires idle { generations.old.pinned ≡ false }
@@ -180,21 +193,23 @@ fn answer<S: Side>(
 {
     let serial = generations.pin();
     side.saw(Seen::Pinned(serial));
-    let served = serve(alloc, generations.chain(), datagram);
-    let turned = send(side, served);
+    let served = serve(alloc, generations.chain(), datagram, room);
+    let turned = send(side, served, room);
     side.saw(Seen::Unpinned(serial));
     generations.unpin();
     turned
 }
 
-// Sends the reply, where there is one. A reply that didn't go out ends nothing: the client asks again.
-fn send<S: Side>(side: &mut S, served: Served) -> Turned
+// Sends the reply, where there is one, and keeps its bytes for the next one. A reply that didn't go out ends nothing: the
+// client asks again.
+fn send<S: Side>(side: &mut S, served: Served, room: &mut Room) -> Turned
     ensures sends { SendsServed (S.journal side.old) (S.journal side.new) served result }
     ensures later { NoneFell (S.counts side.old) (S.counts side.new) }
 {
     match served {
         Served::Reply(bytes) => {
             let _ = side.send(bytes.as_slice());
+            room.reply = bytes;
             Turned::Answered
         }
         Served::Silent(_) => Turned::Answered,

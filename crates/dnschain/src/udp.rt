@@ -6,6 +6,7 @@ use crate::sender::Sender;
 use dns_data::{Bytes, Transport};
 use outside::{Datagram, Outcome, Received, Seen, Side, Upstream, Wrote};
 use std::alloc::{AllocError, Global};
+use std::mem;
 use std::net::UdpSocket;
 use std::random::RandomSource;
 use std::sync::Arc;
@@ -25,6 +26,8 @@ pub struct UdpSide<R: Clock + RandomSource + Eprint + Drop> {
     // The port at which it receives.
     local: u16,
     packet: Vec<u8>,
+    // The bytes of an earlier datagram, for the memory of the next.
+    spare: Bytes,
     // The sender of the last datagram.
     from: Sender,
     // How many sides have not left yet.
@@ -53,6 +56,7 @@ impl<R: Clock + RandomSource + Eprint + Drop> UdpSide<R> {
             socket,
             local,
             packet,
+            spare: Bytes::new(alloc),
             from: Sender::nobody(),
             live,
             recv_faults: 0,
@@ -80,8 +84,10 @@ impl<R: Clock + RandomSource + Eprint + Drop> Side for UdpSide<R> {
             self.recv_faults = self.recv_faults.saturating_add(1);
             return Received::Failed;
         };
-        match Bytes::from_slice(self.alloc, &self.packet[..count]) {
-            Ok(bytes) => Received::Got(Datagram {
+        let mut bytes = mem::replace(&mut self.spare, Bytes::new(self.alloc));
+        bytes.clear();
+        match bytes.append(&self.packet[..count]) {
+            Ok(()) => Received::Got(Datagram {
                 bytes,
                 client: client.address,
                 port: client.port,
@@ -136,6 +142,10 @@ impl<R: Clock + RandomSource + Eprint + Drop> Side for UdpSide<R> {
     }
 
     fn saw(&mut self, _what: Seen<'_>) {}
+
+    fn take_back(&mut self, bytes: Bytes) {
+        self.spare = bytes;
+    }
 
     /// The watch answers End once the last side has left.
     fn leave(&mut self) {

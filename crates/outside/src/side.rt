@@ -5,7 +5,7 @@ ghost use Rattle.outside.specs.Marks.{Adds, recv_marks, sent, noted, now_mark, w
 ghost use Rattle.outside.specs.Causes.{SideCounts, NoneFell, RecvCause, SendCause, NoteCause, AskCause};
 
 use crate::{Outcome, Received, Seen, Upstream, Wrote};
-use dns_data::Transport;
+use dns_data::{Bytes, Transport};
 
 /// One worker's world: its socket, its clock, its random words, its upstreams, and where its notes go.
 pub trait Side {
@@ -65,6 +65,13 @@ pub trait Side {
         ensures told { Adds (journal self.old) (journal self.new) (seen_mark what.entry) }
         ensures cause { NoneFell (counts self.old) (counts self.new) }
         ensures script { script self.new ≡ script self.old };
+
+    /// Takes back the bytes of a datagram that was served, whose memory it may use for a later one.
+    fn take_back(&mut self, _bytes: Bytes)
+        ensures told { journal self.new ≡ journal self.old }
+        ensures cause { NoneFell (counts self.old) (counts self.new) }
+        ensures script { script self.new ≡ script self.old }
+    {}
 
     /// Is told that its worker has ended.
     fn leave(&mut self)

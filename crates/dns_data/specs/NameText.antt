@@ -2,6 +2,7 @@
 use Rattle.std.specs.Prelude.{◌≡◌, ℕ, zero, suc, ◌+◌, ◌-◌, ◌≤◌, ◌*◌, ◌/◌, ◌%◌, ◌==◌, nat_lt, Bool, true, false, ◌&&◌, ◌||◌, List, [], ◌∷◌, ◌++◌, length, Option, Some, None, option_map, option_and_then, Result, Ok, Err, if◌then◌else◌}
 use Rattle.std.specs.List.{flat_map}
 use Rattle.std.specs.Char.{is_ascii_digit, is_ascii_graphic}
+use Rattle.dns_data.specs.declared.limit.TheConstants as limits
 use Rattle.dns_data.specs.Name.{IsLabel, wire_length}
 use Rattle.dns_data.specs.declared.name_read.NameFault.{NameFault}
 use Rattle.dns_data.specs.declared.name_read.NameFault.TheVariants.{Bad, NoMemory}
@@ -129,7 +130,7 @@ ReadsName text origin (Err NoMemory) = Unit {0}
 
 -- a name has room for one more label
 abbrev pub Fits : List (List ℕ) → List ℕ → Type 0
-Fits name label = IsLabel label × (wire_length name + length label + 1 ≤ 255)
+Fits name label = IsLabel label × (wire_length name + length label + 1 ≤ limits.NAME_BYTES)
 
 -- the answer is the name whose last label was read, or that there is none; want of memory can come at any time
 abbrev pub Completes : List (List ℕ) → List ℕ → List (List ℕ) → Result (List (List ℕ)) NameFault → Type 0

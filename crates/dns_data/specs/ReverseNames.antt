@@ -2,10 +2,10 @@
 use Rattle.std.specs.Prelude.{◌≡◌, ℕ, zero, suc, ◌+◌, ◌*◌, ◌/◌, ◌%◌, ◌^◌, nat_eq, Bool, false, List, [], ◌∷◌, codes, Option, Some, None, option_map, option_and_then, if◌then◌else◌}
 use Rattle.std.specs.Cmp.Lexicographic.{pointwise}
 use Rattle.std.specs.Fmt.{decimal, digit_glyph}
-use Rattle.dns_data.specs.declared.addr.Addr.{Addr}
-use Rattle.dns_data.specs.declared.addr.Addr.TheVariants.{V4, V6}
+use Rattle.dns_addr.specs.declared.addr.Addr.{Addr}
+use Rattle.dns_addr.specs.declared.addr.Addr.TheVariants.{V4, V6}
 use Rattle.dns_data.specs.Name.{spelled, lowered}
-use Rattle.dns_data.specs.AddrText.{IsAddr, hex_digit, octet_of}
+use Rattle.dns_addr.specs.AddrText.{IsAddr, hex_digit, octet_of}
 
 abbrev pub in_addr_arpa : List (List ℕ)
 in_addr_arpa = codes "in-addr" ∷ codes "arpa" ∷ []

@@ -1,4 +1,5 @@
-use crate::{Lines, Text, Texts};
+use crate::{Copies, Lines, NoMemory, Text, Texts};
+use std::alloc::Global;
 
 /// A line of the body of a directive: its words, one or more.
 #[derive(Debug, Drop)]
@@ -16,4 +17,24 @@ pub struct Directive {
     pub body: Lines,
     /// The number of its line in the Corefile, from 1.
     pub line: u32,
+}
+
+impl Copies for Line {
+    fn copy(&self, alloc: Global) -> Result<Line, NoMemory> {
+        Ok(Line {
+            words: self.words.copy(alloc)?,
+            number: self.number,
+        })
+    }
+}
+
+impl Copies for Directive {
+    fn copy(&self, alloc: Global) -> Result<Directive, NoMemory> {
+        Ok(Directive {
+            name: self.name.copy(alloc)?,
+            args: self.args.copy(alloc)?,
+            body: self.body.copy(alloc)?,
+            line: self.line,
+        })
+    }
 }

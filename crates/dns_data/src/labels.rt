@@ -32,7 +32,7 @@ impl<'a> Labels<'a> {
         }
     }
 
-    /// The wire form of the labels that are left, without the zero byte.
+    /// The wire format of the labels that are left, without the zero byte.
     pub fn as_wire(&self) -> &'a [u8]
         ensures value { result.now ≡ spelled self.now }
         ensures proper { IsName self.now }

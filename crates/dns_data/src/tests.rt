@@ -107,21 +107,73 @@ fn a_zone_holds_names_on_whole_labels(rt: HostRuntime) -> Result<(), Fail> {
 }
 
 #[test]
-fn bytes_and_texts_keep_what_they_are_given(rt: HostRuntime) -> Result<(), Fail> {
-    let mut bytes = Bytes::from_slice(rt.alloc(), &[1, 2])?;
-    bytes.push(3)?;
-    bytes.append(&[4, 5])?;
-    assert!(rt; bytes.is(&[1, 2, 3, 4, 5]) && !bytes.is(&[1, 2, 3, 4]));
-    assert_eq!(rt; bytes.len(), 5);
-    assert_eq!(rt; bytes.at(2), 3);
-    let copy = bytes.copy(rt.alloc())?;
-    assert!(rt; copy == bytes);
-    let moved = Bytes::of(bytes.into_vec());
-    assert!(rt; moved == copy && moved != Bytes::new(rt.alloc()));
-    let text = Text::from_str(rt.alloc(), "Größe")?;
-    assert_eq!(rt; text.copy(rt.alloc())?.as_str(), "Größe");
-    let empty = Text::of(String::new(rt.alloc()));
-    assert_eq!(rt; empty.as_str(), "");
+fn a_name_is_read_printed_and_reversed(rt: HostRuntime) -> Result<(), Fail> {
+    let root = Name::root(rt.alloc());
+    // RFC 1035, section 5.3.
+    let name = Name::read(
+        rt.alloc(),
+        br"Action\.domains",
+        &name_of(rt.alloc(), "example")?,
+    )?;
+    assert_eq!(rt; name.as_wire(), b"\x0eAction.domains\x07example".as_slice());
+    assert_eq!(rt;
+        name.text(rt.alloc())?.as_str(),
+        r"Action\.domains.example."
+    );
+    assert_eq!(rt;
+        Name::read(rt.alloc(), b"a..b", &root).err(),
+        Some(NameFault::Bad)
+    );
+    // RFC 1035, section 3.5.
+    let addr = Addr::read(b"10.2.0.52").ok_or("an address")?;
+    let name = Name::reverse(rt.alloc(), &addr)?;
+    assert_eq!(rt; name.text(rt.alloc())?.as_str(), "52.0.2.10.in-addr.arpa.");
+    assert_eq!(rt; name.reversed_addr(), Some(addr));
+    Ok(())
+}
+
+#[test]
+fn a_name_may_cross_threads() {
+    may_cross::<Name>();
+}
+
+fn may_cross<T: Send + Sync>() {}
+
+#[test]
+fn blocks_and_files_are_copied_whole(rt: HostRuntime) -> Result<(), Fail> {
+    let alloc = rt.alloc();
+    let mut words: Texts = Seq::new(alloc);
+    words.push(Text::from_str(alloc, "match")?)?;
+    let mut body: Lines = Seq::new(alloc);
+    body.push(Line { words, number: 3 })?;
+    let mut directives: Directives = Seq::new(alloc);
+    directives.push(Directive {
+        name: Text::from_str(alloc, "template")?,
+        args: Seq::new(alloc),
+        body,
+        line: 2,
+    })?;
+    let mut keys: BlockKeys = Seq::new(alloc);
+    keys.push(BlockKey {
+        zone: name_of(alloc, "org")?,
+        port: 53,
+        line: 1,
+    })?;
+    let copy = Block { keys, directives }.copy(alloc)?;
+    let key = copy.keys.as_slice().first().ok_or("a key")?;
+    assert_eq!(rt;
+        (key.zone.as_wire(), key.port, key.line),
+        (b"\x03org".as_slice(), 53, 1)
+    );
+    let directive = copy.directives.as_slice().first().ok_or("a directive")?;
+    assert_eq!(rt; (directive.name.as_str(), directive.line), ("template", 2));
+    let line = directive.body.as_slice().first().ok_or("a line")?;
+    assert_eq!(rt; (line.words.len(), line.number), (1, 3));
+    let missing = FileText {
+        name: Text::from_str(alloc, "/db")?,
+        bytes: None,
+    };
+    assert!(rt; missing.copy(alloc)?.bytes.is_none());
     Ok(())
 }
 
@@ -167,7 +219,7 @@ fn record_of(alloc: Global, rdata: Rdata) -> Result<Record, NoMemory>
 }
 
 // The name of labels with dots between. What is no label is left out.
-pub(crate) fn name_of(alloc: Global, text: &str) -> Result<Name, NoMemory> {
+fn name_of(alloc: Global, text: &str) -> Result<Name, NoMemory> {
     let mut name = Name::root(alloc);
     for label in text.split('.') {
         let label = label.as_bytes();
@@ -180,7 +232,7 @@ pub(crate) fn name_of(alloc: Global, text: &str) -> Result<Name, NoMemory> {
 }
 
 // Adds the labels of another name, where there is room.
-pub(crate) fn append_all(name: &mut Name, other: &Name) -> Result<(), NoMemory> {
+fn append_all(name: &mut Name, other: &Name) -> Result<(), NoMemory> {
     let wire = other.as_wire();
     if name.wire_len() + wire.len() <= 255 {
         name.append(wire)?;

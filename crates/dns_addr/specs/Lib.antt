@@ -1,0 +1,4 @@
+pub mod AddrText
+pub mod OctetLaws
+-- what public clauses cite
+pub use Rattle.dns_addr.specs.AddrText.{IsAddr, addr_of, addr_text, agree, hex_digit, net_of, octet_of}

@@ -9,7 +9,8 @@ use std::alloc::Global;
 use std::fmt::Write;
 
 impl Addr {
-    /// The address as text: IPv4 as four decimal numbers, IPv6 by RFC 5952, section 4, and never with an IPv4 address in it.
+    /// The address as text: IPv4 as four decimal numbers, IPv6 by RFC 5952, section 4, and never
+    /// with an IPv4 address in it.
     pub fn text(&self, alloc: Global) -> Result<Text, NoMemory>
         ensures text { IfOk result (λ text. text ≡ addr_text self.now) }
         ensures read { IfOk result (λ text. addr_of text ≡ Some self.now) }
@@ -77,7 +78,8 @@ fn groups(addr: u128) -> [u16; 8]
 }
 
 fn put_v6(text: &mut String, groups: &[u16]) -> Result<(), NoMemory>
-    ensures { OnOk result (string_bytes text.new ≡ string_bytes text.old ++ v6_groups_text groups.now) }
+    ensures { OnOk result (
+        string_bytes text.new ≡ string_bytes text.old ++ v6_groups_text groups.now) }
 {
     let size = longest(groups);
     if size < 2 {
@@ -91,7 +93,8 @@ fn put_v6(text: &mut String, groups: &[u16]) -> Result<(), NoMemory>
 
 // Groups with colons between them.
 fn put_groups(text: &mut String, groups: &[u16]) -> Result<(), NoMemory>
-    ensures { OnOk result (string_bytes text.new ≡ string_bytes text.old ++ groups_text groups.now) }
+    ensures { OnOk result (
+        string_bytes text.new ≡ string_bytes text.old ++ groups_text groups.now) }
 {
     let Some((first, others)) = groups.split_first() else {
         return Ok(());

@@ -18,7 +18,8 @@ impl Model for Groups {
 
     ghost view = { λ g. take g.count g.list };
 
-    ghost invariant = { λ g. (g.count ≤ 8) × (g.list ≡ take g.count g.list ++ replicate (8 - g.count) 0) };
+    ghost invariant = { λ g. (g.count ≤ 8)
+        × (g.list ≡ take g.count g.list ++ replicate (8 - g.count) 0) };
 }
 
 impl Groups {
@@ -54,7 +55,8 @@ impl Groups {
     /// Becomes eight groups: these, zeros, and the others.
     pub fn fill_up(&mut self, back: &Groups)
         requires { length self.old + length back.now < 8 }
-        ensures { self.new ≡ self.old ++ (replicate (8 - length self.old - length back.now) 0 ++ back.now) }
+        ensures { self.new
+            ≡ self.old ++ (replicate (8 - length self.old - length back.now) 0 ++ back.now) }
     {
         self.list[8 - back.count..].copy_from_slice(&back.list[..back.count]);
         self.count = 8;

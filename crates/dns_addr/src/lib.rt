@@ -1,4 +1,5 @@
-//! Addresses of the internet and nets of them, and their texts (RFC 4291, section 2.2; RFC 5952, section 4).
+//! Addresses of the internet and nets of them, and their texts (RFC 4291, section 2.2; RFC 5952,
+//! section 4).
 #![tactic(auto)]
 
 mod addr;

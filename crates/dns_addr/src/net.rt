@@ -4,7 +4,8 @@ ghost use Rattle.dns_addr.specs.AddrText.{agree, bits_of, net_of, width};
 use crate::Addr;
 use crate::cut::cut_once;
 
-/// A net: the addresses that agree with one of them in the first bits. Its other bits count for nothing.
+/// A net: the addresses that agree with one of them in the first bits. Its other bits count for
+/// nothing.
 #[derive(Clone, Copy, Debug, PartialEq, Eq)]
 pub struct Net {
     pub addr: Addr,
@@ -13,7 +14,8 @@ pub struct Net {
 }
 
 impl Net {
-    /// The net that a text spells: an address alone, which means all its bits, or an address, `/` and a number of bits.
+    /// The net that a text spells: an address alone, which means all its bits, or an address, `/`
+    /// and a number of bits.
     #[tactic(auto, unfolding(crate::specs::AddrText::net_of))]
     pub fn read(text: &[u8]) -> Option<Net>
         ensures { result ≡ net_of text.now }

@@ -3,7 +3,8 @@ ghost use Rattle.dns_addr.specs.AddrText.{octet_of, v4_of};
 
 use crate::cut::cut_once;
 
-/// The IPv4 address that the text spells: four numbers below 256 without needless zeros, parted by dots.
+/// The IPv4 address that the text spells: four numbers below 256 without needless zeros, parted by
+/// dots.
 #[tactic(auto, unfolding(crate::specs::AddrText::v4_of))]
 pub(crate) fn read_v4(text: &[u8]) -> Option<u32>
     ensures { result ≡ v4_of text.now }

@@ -36,7 +36,8 @@ fn read_side(text: &[u8], tail: bool) -> Option<Groups>
     read_groups(text, tail)
 }
 
-// The groups that colons part, at most eight. At the end of an address the last two may be an IPv4 address.
+// The groups that colons part, at most eight. At the end of an address the last two may be an IPv4
+// address.
 fn read_groups(text: &[u8], tail: bool) -> Option<Groups>
     ensures { result ≡ groups_of tail 8 text.now }
 {

@@ -1,4 +1,5 @@
--- Domain names (RFC 1035, sections 2.3.1 and 2.3.4): a list of labels, and its spelling in one buffer.
+-- Domain names (RFC 1035, sections 2.3.1 and 2.3.4): a list of labels, and its spelling in one
+-- buffer.
 use Rattle.std.specs.Prelude.{◌≡◌, ℕ, zero, suc, ◌+◌, ◌≤◌, Bool, nat_eq, List, [], ◌∷◌, ◌++◌, length, take, drop, map}
 use Rattle.std.specs.List.{AllByRecursion}
 use Rattle.std.specs.Cmp.Lexicographic.{pointwise}

@@ -1,4 +1,5 @@
--- Laws of names and of their spelling in one buffer. They are cited by crates that read and write names.
+-- Laws of names and of their spelling in one buffer. They are cited by crates that read and write
+-- names.
 use Rattle.std.proofs.Common.{◌≡◌, ℕ, zero, suc, ◌+◌, ◌≤◌, ◌↔◌, List, [], ◌∷◌, ◌++◌, length, drop, map, refl, sym, ap, subst, ◌∙◌, append_assoc, arith, length-append}
 use Rattle.std.proofs.lemmas.List.{take_at, drop_at, map-append, length-map, append-nil}
 use Rattle.std.proofs.lemmas.Grind.{common_steps}

@@ -9,7 +9,8 @@ pub struct Line {
     pub number: u32,
 }
 
-/// A directive of a block of a Corefile: its name, the words behind it, and the lines of its body, if it has one.
+/// A directive of a block of a Corefile: its name, the words behind it, and the lines of its body,
+/// if it has one.
 #[derive(Debug, Drop)]
 pub struct Directive {
     pub name: Text,

@@ -30,7 +30,8 @@ pub const AAAA: u16 = 28;
 /// The place of a service (RFC 2782).
 pub const SRV: u16 = 33;
 
-/// What an EDNS message says of itself (RFC 6891, section 6.1.1). No record of a zone has this type.
+/// What an EDNS message says of itself (RFC 6891, section 6.1.1). No record of a zone has this
+/// type.
 pub const OPT: u16 = 41;
 
 /// All types, in a question alone (RFC 1035, section 3.2.3).

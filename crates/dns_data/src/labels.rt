@@ -42,7 +42,8 @@ impl<'a> Labels<'a> {
 
     /// Takes the next label, where one is left.
     pub fn next(&mut self) -> Option<&'a [u8]>
-        ensures value { MatchOption result (self.old ≡ []) (λ label. self.old ≡ label.now ∷ self.new) }
+        ensures value { MatchOption result
+            (self.old ≡ []) (λ label. self.old ≡ label.now ∷ self.new) }
         ensures end { IfNone result (self.new ≡ []) }
         ensures label { IfSome result (λ label. IsLabel label.now) }
     {

@@ -1,4 +1,5 @@
-//! DNS names, records and messages as plain data (RFC 1035, sections 3 and 4), and the lists and texts that hold them.
+//! DNS names, records and messages as plain data (RFC 1035, sections 3 and 4), and the lists and
+//! texts that hold them.
 #![tactic(auto)]
 
 mod answer;

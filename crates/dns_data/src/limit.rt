@@ -1,4 +1,5 @@
-//! How long and how many: limits of the wire format, and of this server. A name in `.._END` is the first number that is too large.
+//! How long and how many: limits of the wire format, and of this server. A name in `.._END` is the
+//! first number that is too large.
 
 /// Bytes of a label (RFC 1035, section 2.3.4).
 pub const LABEL_BYTES: usize = 63;
@@ -27,7 +28,8 @@ pub const POINTER_END: usize = 16_384;
 /// Bytes of a message, whose length stands in 16 bits over TCP (RFC 1035, section 4.2.2).
 pub const MESSAGE_BYTES: u32 = 65_535;
 
-/// Bytes of a message over UDP, for a client that says nothing of its own size (RFC 1035, section 4.2.1).
+/// Bytes of a message over UDP, for a client that says nothing of its own size (RFC 1035, section
+/// 4.2.1).
 pub const UDP_BYTES: u32 = 512;
 
 /// The payload size that this server's OPT records tell (RFC 6891, section 6.2.5).

@@ -8,9 +8,10 @@ use dns_lists::Wire;
 use std::alloc::Global;
 use std::marker::Model;
 
-/// A domain name (RFC 1035, section 3.1): labels of 1 to 63 bytes, at most 255 bytes in wire format, with the letters that
-/// it came with. Contracts see the list of its labels. At most 38 bytes, the zero byte left out, are kept
-/// in the value itself, and more in an allocation, which stays when the name gets shorter.
+/// A domain name (RFC 1035, section 3.1): labels of 1 to 63 bytes, at most 255 bytes in wire
+/// format, with the letters that it came with. Contracts see the list of its labels. At most 38
+/// bytes, the zero byte left out, are kept in the value itself, and more in an allocation, which
+/// stays when the name gets shorter.
 #[derive(Debug, Drop)]
 pub struct Name {
     // Each label behind its length byte, without the final zero byte.
@@ -193,7 +194,8 @@ impl Name {
         count
     }
 
-    /// The label at an index. This is a walk from the first label on: go over all of them by `labels`.
+    /// The label at an index. This is a walk from the first label on: go over all of them by
+    /// `labels`.
     pub fn label(&self, index: usize) -> &[u8]
         requires { index < length self.now }
         ensures value { slice_get self.now index ≡ Some result.now }

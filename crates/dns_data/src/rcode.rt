@@ -18,9 +18,10 @@ pub const NOTIMP: u8 = 4;
 /// The server refuses to answer.
 pub const REFUSED: u8 = 5;
 
-/// The version of EDNS isn't known (RFC 6891, section 9). It takes more than the 4 bits of a header: see
-/// `BADVERS_UPPER`.
+/// The version of EDNS isn't known (RFC 6891, section 9). It takes more than the 4 bits of a
+/// header: see `BADVERS_UPPER`.
 pub const BADVERS: u8 = 16;
 
-/// The upper 8 bits of BADVERS, as they stand in an OPT record (RFC 6891, section 6.1.3). The lower 4 are 0.
+/// The upper 8 bits of BADVERS, as they stand in an OPT record (RFC 6891, section 6.1.3). The lower
+/// 4 are 0.
 pub const BADVERS_UPPER: u8 = 1;

@@ -1,4 +1,5 @@
-//! Lists, texts and bytes, and the bytes of a name, which stand in the value itself where they are few (RFC 1035, section 3.1).
+//! Lists, texts and bytes, and the bytes of a name, which stand in the value itself where they are
+//! few (RFC 1035, section 3.1).
 #![tactic(auto)]
 
 mod bytes;

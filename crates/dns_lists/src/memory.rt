@@ -1,6 +1,7 @@
 use std::alloc::{AllocError, AllocFailed};
 
-/// Memory ran out. No clause of this server says when: it is the one answer that any call which allocates may give.
+/// Memory ran out. No clause of this server says when: it is the one answer that any call which
+/// allocates may give.
 #[derive(Clone, Copy, Debug, PartialEq, Eq)]
 pub struct NoMemory;
 

@@ -10,7 +10,8 @@ pub trait Copies: Drop + Sized {
         ensures { IfOk result (λ made. made ≡ self.now) };
 }
 
-/// A list of values, which contracts see as a list. Names, records, texts and marks all stand in one.
+/// A list of values, which contracts see as a list. Names, records, texts and marks all stand in
+/// one.
 #[derive(Debug, Drop)]
 pub struct Seq<T> {
     items: Vec<T>,
@@ -60,7 +61,8 @@ impl<T> Seq<T> {
     /// Takes the last item out.
     #[inline]
     pub fn pop(&mut self) -> Option<T>
-        ensures { MatchOption result ((self.old ≡ []) × (self.new ≡ [])) (λ item. self.old ≡ self.new ++ item ∷ []) }
+        ensures { MatchOption result
+            ((self.old ≡ []) × (self.new ≡ [])) (λ item. self.old ≡ self.new ++ item ∷ []) }
     {
         self.items.pop()
     }

@@ -1,5 +1,5 @@
--- Names as text (RFC 1035, section 5.1). Bytes by number: 34 `"`, 36 `$`, 40 `(`, 41 `)`, 46 `.`,
--- 48 `0`, 59 `;`, 64 `@`, 92 `\`.
+-- Names in presentation format (RFC 1035, section 5.1). Bytes by number: 34 `"`, 36 `$`, 40 `(`,
+-- 41 `)`, 46 `.`, 48 `0`, 59 `;`, 64 `@`, 92 `\`.
 use Rattle.std.specs.Prelude.{◌≡◌, ℕ, zero, suc, ◌+◌, ◌-◌, ◌≤◌, ◌*◌, ◌/◌, ◌%◌, ◌==◌, nat_lt, Bool, true, false, ◌&&◌, ◌||◌, List, [], ◌∷◌, ◌++◌, length, Option, Some, None, option_map, option_and_then, Result, Ok, Err, if◌then◌else◌}
 use Rattle.std.specs.List.{flat_map}
 use Rattle.std.specs.Char.{is_ascii_digit, is_ascii_graphic}
@@ -34,7 +34,7 @@ abbrev pub name_text : List (List ℕ) → List ℕ
 name_text [] = 46 ∷ []
 name_text (label ∷ labels) = flat_map label_text (label ∷ labels)
 
--- a character of a name's text: a dot that parts two labels, or a byte of a label
+-- a character of presentation format: a dot that parts two labels, or a byte of a label
 pub data Character : Type 0 where
   dot : Character
   byte : ℕ → Character

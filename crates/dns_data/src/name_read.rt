@@ -26,9 +26,9 @@ impl From<NoMemory> for NameFault {
 }
 
 impl Name {
-    /// The name that a text spells (RFC 1035, section 5.1). A text that ends in a dot is absolute,
-    /// and another one stands below the origin. A backslash and three digits are the byte of that
-    /// number, and a backslash and another byte are that byte.
+    /// The name that a text spells in presentation format (RFC 1035, section 5.1). A text that ends
+    /// in a dot is absolute, and another one stands below the origin. A backslash and three digits
+    /// are the byte of that number, and a backslash and another byte are that byte.
     pub fn read(alloc: Global, text: &[u8], origin: &Name) -> Result<Name, NameFault>
         ensures { ReadsName text.now origin.now result }
     {

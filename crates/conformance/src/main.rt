@@ -16,7 +16,7 @@ use std::alloc::Global;
 use std::io::{BufRead, BufReader, BufWriter, Write};
 use std::{io, str};
 
-/// Calls that other software answers and this one can't be asked for yet.
+/// Calls of cases that this server does not have yet.
 const NOT_BUILT: [&str; 6] = ["check", "cli", "lookup", "record", "wants", "zone"];
 
 fn main(rt: HostRuntime) -> io::Result<()> {

@@ -114,27 +114,6 @@ fn records_are_copied_whole(rt: HostRuntime) -> Result<(), Fail> {
     Ok(())
 }
 
-#[test]
-fn data_has_the_number_of_its_type_and_the_length_of_its_form(rt: HostRuntime) -> Result<(), Fail> {
-    let alloc = rt.alloc();
-    let mut strings: Strings = Seq::with_capacity(alloc, 2)?;
-    strings.push(Bytes::new(alloc))?;
-    strings.push(Bytes::from_slice(alloc, b"ab")?)?;
-    assert_eq!(rt; shape_of(Rdata::Txt(strings)), (16, 4));
-    assert_eq!(rt; shape_of(Rdata::A(1)), (1, 4));
-    assert_eq!(rt; shape_of(Rdata::Aaaa(1)), (28, 16));
-    assert_eq!(rt; shape_of(Rdata::Mx(1, name_of(alloc, "h.org")?)), (15, 9));
-    assert!(rt; has_form(41) && has_form(257) && !has_form(255) && !has_form(65280));
-    Ok(())
-}
-
-// The type's number and the length of the data.
-fn shape_of(rdata: Rdata) -> (u16, usize)
-    requires { IsFormed rdata }
-{
-    (rdata.kind(), rdata.data_len())
-}
-
 // A record at Example.org.
 fn record_of(alloc: Global, rdata: Rdata) -> Result<Record, NoMemory>
     requires { IsFormed rdata }

@@ -1,35 +1,15 @@
 -- Names that stand for addresses, label by label.
 use Rattle.std.proofs.Common.{◌≡◌, ◌↔◌, ℕ, suc, ◌+◌, ◌*◌, ◌/◌, ◌%◌, ◌^◌, ◌-◌, ◌<◌, ◌≤◌, Bool, true, false, IsTrue, nat_eq, List, [], ◌∷◌, ◌++◌, length, map, codes, inl, inr, refl, sym, ap, ◌∙◌, append_assoc, arith}
 use Rattle.std.proofs.Math.Nat.{pow-succ', pow-le-pow_right}
-use Rattle.std.proofs.lemmas.Fmt.{decimal_digit, decimal_step}
 use Rattle.std.proofs.lemmas.Bool.{cases_Bool}
 use Rattle.std.proofs.lemmas.Bool.Decides.{Decides-eqb}
 use Rattle.std.proofs.lemmas.Slice.Eq.{slice_eq-Decides}
 use Rattle.std.specs.Cmp.Lexicographic.{pointwise}
-use Rattle.std.specs.Fmt.{decimal, digit_glyph}
+use Rattle.std.specs.Fmt.{digit_glyph}
 use Rattle.std.specs.Char.{to_ascii_lowercase}
 use Rattle.dns_data.specs.Name.{IsName, spelled, lowered, wire_length}
 use Rattle.dns_data.specs.NameLaws.{spelled-lowered, wire_length-push}
 use Rattle.dns_data.specs.ReverseNames.{nibbles, ip6_arpa, v6_reverse}
-
--- a number below 10, one below 100, and one below 1000, in decimal
-pub one_digit : (n : ℕ) → n < 10 → decimal n ≡ (48 + n % 10) ∷ []
-one_digit n h = let same : n ≡ n % 10 = omega arith in decimal_digit n h ∙ ap (λ (d : ℕ). (48 + d) ∷ []) same
-
-pub two_digits : (n : ℕ) → 10 ≤ n → n < 100 → decimal n ≡ (48 + n / 10 % 10) ∷ (48 + n % 10) ∷ []
-two_digits n low high = ten ∙ ap (λ (d : ℕ). (48 + d) ∷ (48 + n % 10) ∷ []) same
-  where
-    same : n / 10 ≡ n / 10 % 10
-    same = omega arith
-
-    ten : decimal n ≡ (48 + n / 10) ∷ (48 + n % 10) ∷ []
-    ten = decimal_step n low (omega arith) ∙ ap (λ (t : List ℕ). t ++ (48 + n % 10) ∷ []) (decimal_digit (n / 10) (omega arith))
-
-pub three_digits : (n : ℕ) → 100 ≤ n → n < 1000 → decimal n ≡ (48 + n / 100) ∷ (48 + n / 10 % 10) ∷ (48 + n % 10) ∷ []
-three_digits n low high =
-    let tens : n / 10 / 10 % 10 ≡ n / 100 = omega arith in
-    decimal_step n (omega arith) (omega arith)
-    ∙ ap (λ (t : List ℕ). t ++ (48 + n % 10) ∷ []) (two_digits (n / 10) (omega arith) (omega arith) ∙ ap (λ (d : ℕ). (48 + d) ∷ (48 + n / 10 % 10) ∷ []) tens)
 
 -- a test of two texts that is right is the test of the texts
 same_test : (a b : Bool) → IsTrue a ↔ IsTrue b → a ≡ b

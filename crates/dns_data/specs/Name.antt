@@ -1,22 +1,24 @@
--- Domain names (RFC 1035, sections 2.3.1 and 2.3.4): a list of labels, and its spelling in one buffer.
+-- Domain names (RFC 1035, sections 2.3.1 and 2.3.4): a list of labels, and its spelling in one
+-- buffer.
 use Rattle.std.specs.Prelude.{◌≡◌, ℕ, zero, suc, ◌+◌, ◌≤◌, Bool, nat_eq, List, [], ◌∷◌, ◌++◌, length, take, drop, map}
 use Rattle.std.specs.List.{AllByRecursion}
 use Rattle.std.specs.Cmp.Lexicographic.{pointwise}
 use Rattle.std.specs.Char.{to_ascii_lowercase}
+use Rattle.dns_data.specs.declared.limit.TheConstants as limits
 
 -- a label has 1 to 63 bytes
 abbrev pub IsLabel : List ℕ → Type 0
-IsLabel label = (1 ≤ length label) × (length label ≤ 63)
+IsLabel label = (1 ≤ length label) × (length label ≤ limits.LABEL_BYTES)
 
 -- a length byte for each label, the labels' bytes, and a zero byte
 abbrev pub wire_length : List (List ℕ) → ℕ
 wire_length [] = 1
 wire_length (label ∷ labels) = length label + 1 + wire_length labels
 
--- labels of which each is one, and at most 255 bytes in wire form
+-- labels of which each is one, and at most 255 bytes in wire format
 pub record IsName (labels : List (List ℕ)) : Type 0 where
   pub each : AllByRecursion IsLabel labels
-  pub short : wire_length labels ≤ 255
+  pub short : wire_length labels ≤ limits.NAME_BYTES
 
 -- each label behind its length, with no zero byte at the end
 abbrev pub spelled : List (List ℕ) → List ℕ

@@ -1,9 +1,11 @@
--- Laws of names and of their spelling in one buffer. They are cited by crates that read and write names.
+-- Laws of names and of their spelling in one buffer. They are cited by crates that read and write
+-- names.
 use Rattle.std.proofs.Common.{◌≡◌, ℕ, zero, suc, ◌+◌, ◌≤◌, ◌↔◌, List, [], ◌∷◌, ◌++◌, length, drop, map, refl, sym, ap, subst, ◌∙◌, append_assoc, arith, length-append}
 use Rattle.std.proofs.lemmas.List.{take_at, drop_at, map-append, length-map, append-nil}
 use Rattle.std.proofs.lemmas.Grind.{common_steps}
 use Rattle.std.specs.List.{AllByRecursion}
 use Rattle.std.specs.Char.{to_ascii_lowercase}
+use Rattle.dns_data.specs.declared.limit.TheConstants as limits
 use Rattle.dns_data.specs.Name.{IsLabel, IsName, IsWire, wire_length, spelled, first_labels, labels_of, lowered}
 
 -- the labels of a spelling, where there is fuel enough
@@ -25,7 +27,7 @@ pub spelled-append : (a b : List (List ℕ)) → spelled (a ++ b) ≡ spelled a 
 spelled-append [] b = refl
 spelled-append (l ∷ a) b = ap (λ (t : List ℕ). length l ∷ t) (ap (λ (t : List ℕ). l ++ t) (spelled-append a b) ∙ sym (append_assoc l (spelled a) (spelled b)))
 
--- the wire form has one more byte, the zero
+-- the wire format has one more byte, the zero
 pub length-spelled : (ls : List (List ℕ)) → length (spelled ls) + 1 ≡ wire_length ls
 length-spelled [] = omega arith
 length-spelled (l ∷ ls) = omega (arith, length-append l (spelled ls), length-spelled ls)
@@ -40,7 +42,7 @@ pub view_of : (wire : List ℕ) (ls : List (List ℕ)) → wire ≡ spelled ls �
 view_of wire ls e = ap labels_of e ∙ labels_of-spelled ls
 
 -- a size stays, in lowered_wire case
-low : (n : ℕ) → n ≤ 63 → to_ascii_lowercase n ≡ n
+low : (n : ℕ) → n ≤ limits.LABEL_BYTES → to_ascii_lowercase n ≡ n
 low n h = grind (arith, common_steps)
 
 pub spelled-lowered : (ls : List (List ℕ)) → AllByRecursion IsLabel ls → map to_ascii_lowercase (spelled ls) ≡ spelled (lowered ls)
@@ -70,7 +72,7 @@ labels-push : (ls : List (List ℕ)) (l : List ℕ) → AllByRecursion IsLabel l
 labels-push [] l each here = (here, tt)
 labels-push (x ∷ ls) l each here = (each.0, labels-push ls l each.1 here)
 
-IsName-push : (ls : List (List ℕ)) (l : List ℕ) → IsName ls → IsLabel l → wire_length ls + length l + 1 ≤ 255 → IsName (ls ++ l ∷ [])
+IsName-push : (ls : List (List ℕ)) (l : List ℕ) → IsName ls → IsLabel l → wire_length ls + length l + 1 ≤ limits.NAME_BYTES → IsName (ls ++ l ∷ [])
 IsName-push ls l name here room = record {
   each = labels-push ls l name.each here;
   short = omega (arith, wire_length-push ls l);
@@ -85,7 +87,7 @@ pub spells_name : (wire : List ℕ) (name : List (List ℕ)) → wire ≡ spelle
 spells_name wire name e n = record { right = is_wire wire name e n; view = view_of wire name e }
 
 -- after a push
-pub pushed : (wire new label : List ℕ) (name : List (List ℕ)) → IsWire wire → labels_of wire ≡ name → IsLabel label → wire_length name + length label + 1 ≤ 255
+pub pushed : (wire new label : List ℕ) (name : List (List ℕ)) → IsWire wire → labels_of wire ≡ name → IsLabel label → wire_length name + length label + 1 ≤ limits.NAME_BYTES
     → new ≡ (wire ++ length label ∷ []) ++ label → SpellsName new (name ++ label ∷ [])
 pushed wire new label name w e here room is =
     let s = spelling wire name w e in
@@ -94,7 +96,7 @@ pushed wire new label name w e here room is =
     spells_name new (name ++ label ∷ []) (is ∙ ap (λ (t : List ℕ). (t ++ length label ∷ []) ++ label) s ∙ sym joined) (IsName-push name label (proper wire name w e) here room)
 
 -- with a label in front
-pub put_below : (wire new label : List ℕ) (name : List (List ℕ)) → IsWire wire → labels_of wire ≡ name → IsLabel label → wire_length name + length label + 1 ≤ 255
+pub put_below : (wire new label : List ℕ) (name : List (List ℕ)) → IsWire wire → labels_of wire ≡ name → IsLabel label → wire_length name + length label + 1 ≤ limits.NAME_BYTES
     → new ≡ (length label ∷ label) ++ wire → SpellsName new (label ∷ name)
 put_below wire new label name w e here room is =
     let s = spelling wire name w e in
@@ -154,7 +156,7 @@ labels-append [] b p q = q
 labels-append (l ∷ a) b p q = (p.0, labels-append a b p.1 q)
 
 -- after labels are added at the end
-pub appended : (wire new more : List ℕ) (name : List (List ℕ)) → IsWire wire → labels_of wire ≡ name → IsWire more → wire_length name + length more ≤ 255
+pub appended : (wire new more : List ℕ) (name : List (List ℕ)) → IsWire wire → labels_of wire ≡ name → IsWire more → wire_length name + length more ≤ limits.NAME_BYTES
     → new ≡ wire ++ more → SpellsName new (name ++ labels_of more)
 appended wire new more name w e m room is =
     let s = spelling wire name w e in

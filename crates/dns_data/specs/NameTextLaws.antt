@@ -1,4 +1,4 @@
--- Laws of names as text: a printed name is ASCII, and reads as the name whatever the origin.
+-- Laws of presentation format: a printed name is ASCII, and reads as the name whatever the origin.
 use Rattle.std.proofs.Common.{◌≡◌, ℕ, zero, suc, ◌+◌, ◌/◌, ◌%◌, ◌<◌, ◌≤◌, true, false, not, ◌&&◌, ◌||◌, cond, eqb, ltb, List, [], ◌∷◌, ◌++◌, length, get_or, Some, refl, ap, subst, ◌∙◌, append_assoc, arith, length-append}
 use Rattle.std.proofs.lemmas.Bool.{agree_below_at, cond_both, lt-ltb, ltb-true, and_from}
 use Rattle.std.proofs.lemmas.Grind.{common_steps}

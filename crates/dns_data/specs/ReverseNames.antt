@@ -1,11 +1,12 @@
--- The names that stand for addresses, under in-addr.arpa (RFC 1035, section 3.5) and ip6.arpa (RFC 3596, section 2.5).
+-- The names that stand for addresses, under in-addr.arpa (RFC 1035, section 3.5) and ip6.arpa (RFC
+-- 3596, section 2.5).
 use Rattle.std.specs.Prelude.{◌≡◌, ℕ, zero, suc, ◌+◌, ◌*◌, ◌/◌, ◌%◌, ◌^◌, nat_eq, Bool, false, List, [], ◌∷◌, codes, Option, Some, None, option_map, option_and_then, if◌then◌else◌}
 use Rattle.std.specs.Cmp.Lexicographic.{pointwise}
 use Rattle.std.specs.Fmt.{decimal, digit_glyph}
-use Rattle.dns_data.specs.declared.addr.Addr.{Addr}
-use Rattle.dns_data.specs.declared.addr.Addr.TheVariants.{V4, V6}
+use Rattle.dns_addr.specs.declared.addr.Addr.{Addr}
+use Rattle.dns_addr.specs.declared.addr.Addr.TheVariants.{V4, V6}
 use Rattle.dns_data.specs.Name.{spelled, lowered}
-use Rattle.dns_data.specs.AddrText.{IsAddr, hex_digit, octet_of}
+use Rattle.dns_addr.specs.AddrText.{IsAddr, hex_digit, octet_of}
 
 abbrev pub in_addr_arpa : List (List ℕ)
 in_addr_arpa = codes "in-addr" ∷ codes "arpa" ∷ []
@@ -15,12 +16,15 @@ ip6_arpa = codes "ip6" ∷ codes "arpa" ∷ []
 
 -- the four bytes in decimal, from the last to the first
 abbrev pub v4_reverse : ℕ → List (List ℕ)
-v4_reverse addr = decimal (addr % 256) ∷ decimal (addr / 2 ^ 8 % 256) ∷ decimal (addr / 2 ^ 16 % 256) ∷ decimal (addr / 2 ^ 24) ∷ in_addr_arpa
+v4_reverse addr =
+    decimal (addr % 256) ∷ decimal (addr / 2 ^ 8 % 256) ∷ decimal (addr / 2 ^ 16 % 256)
+    ∷ decimal (addr / 2 ^ 24) ∷ in_addr_arpa
 
 -- so many hexadecimal digits of a number, from the last to the first, as labels in front of others
 abbrev pub nibbles : ℕ → ℕ → List (List ℕ) → List (List ℕ)
 nibbles zero number others = others
-nibbles (suc count) number others = (digit_glyph false (number % 16) ∷ []) ∷ nibbles count (number / 16) others
+nibbles (suc count) number others =
+    (digit_glyph false (number % 16) ∷ []) ∷ nibbles count (number / 16) others
 
 -- the 32 hexadecimal digits, from the last to the first
 unfoldable pub v6_reverse : ℕ → List (List ℕ)
@@ -38,7 +42,11 @@ is_zone zone labels = pointwise nat_eq (spelled (lowered labels)) (spelled zone)
 -- the number of four bytes of which the last is known
 abbrev pub four_back : Option ℕ → Option ℕ → Option ℕ → Option ℕ → Option ℕ
 four_back d c b a =
-    option_and_then (λ d. option_and_then (λ c. option_and_then (λ b. option_map (λ a. a * 2 ^ 24 + b * 2 ^ 16 + c * 2 ^ 8 + d) a) b) c) d
+    option_and_then
+    (λ d. option_and_then
+    (λ c. option_and_then (λ b. option_map (λ a. a * 2 ^ 24 + b * 2 ^ 16 + c * 2 ^ 8 + d) a) b)
+    c)
+    d
 
 -- the IPv4 address of four labels and a zone
 abbrev pub v4_reversed : List (List ℕ) → Option ℕ
@@ -46,7 +54,9 @@ v4_reversed [] = None
 v4_reversed (d ∷ []) = None
 v4_reversed (d ∷ c ∷ []) = None
 v4_reversed (d ∷ c ∷ b ∷ []) = None
-v4_reversed (d ∷ c ∷ b ∷ a ∷ zone) = if is_zone in_addr_arpa zone then four_back (octet_of d) (octet_of c) (octet_of b) (octet_of a) else None
+v4_reversed (d ∷ c ∷ b ∷ a ∷ zone) =
+    if is_zone in_addr_arpa zone
+    then four_back (octet_of d) (octet_of c) (octet_of b) (octet_of a) else None
 
 -- the digit of a label of one byte
 abbrev pub nibble_of : List ℕ → Option ℕ
@@ -59,7 +69,9 @@ abbrev pub nibbles_back : ℕ → List (List ℕ) → Option ℕ
 nibbles_back zero labels = if is_zone ip6_arpa labels then Some 0 else None
 nibbles_back (suc count) [] = None
 nibbles_back (suc count) (label ∷ labels) =
-    option_and_then (λ digit. option_map (λ others. digit + 16 * others) (nibbles_back count labels)) (nibble_of label)
+    option_and_then
+    (λ digit. option_map (λ others. digit + 16 * others) (nibbles_back count labels))
+    (nibble_of label)
 
 -- the address of either family
 abbrev pub v4_or_v6 : Option ℕ → Option ℕ → Option Addr

@@ -1,4 +1,5 @@
-use crate::{BlockKeys, Directives, Name};
+use crate::{BlockKeys, Copies, Directives, Name, NoMemory};
+use std::alloc::Global;
 
 /// A key of a block of a Corefile: the zone, in small letters, and the port that the block serves.
 #[derive(Debug, Drop)]
@@ -14,4 +15,23 @@ pub struct BlockKey {
 pub struct Block {
     pub keys: BlockKeys,
     pub directives: Directives,
+}
+
+impl Copies for BlockKey {
+    fn copy(&self, alloc: Global) -> Result<BlockKey, NoMemory> {
+        Ok(BlockKey {
+            zone: self.zone.copy(alloc)?,
+            port: self.port,
+            line: self.line,
+        })
+    }
+}
+
+impl Copies for Block {
+    fn copy(&self, alloc: Global) -> Result<Block, NoMemory> {
+        Ok(Block {
+            keys: self.keys.copy(alloc)?,
+            directives: self.directives.copy(alloc)?,
+        })
+    }
 }

@@ -32,7 +32,7 @@ impl<'a> Labels<'a> {
         }
     }
 
-    /// The wire form of the labels that are left, without the zero byte.
+    /// The wire format of the labels that are left, without the zero byte.
     pub fn as_wire(&self) -> &'a [u8]
         ensures value { result.now ≡ spelled self.now }
         ensures proper { IsName self.now }
@@ -42,7 +42,8 @@ impl<'a> Labels<'a> {
 
     /// Takes the next label, where one is left.
     pub fn next(&mut self) -> Option<&'a [u8]>
-        ensures value { MatchOption result (self.old ≡ []) (λ label. self.old ≡ label.now ∷ self.new) }
+        ensures value { MatchOption result
+            (self.old ≡ []) (λ label. self.old ≡ label.now ∷ self.new) }
         ensures end { IfNone result (self.new ≡ []) }
         ensures label { IfSome result (λ label. IsLabel label.now) }
     {

@@ -1,15 +1,17 @@
 ghost use Rattle.std.specs.Prelude.{◌≡◌, ℕ, ◌+◌, ◌<◌, ◌≤◌, List, [], ◌∷◌, ◌++◌, length, slice_get, slice_index, take, OnOk, OnErr, IfOk, IsTrue, ◌↔◌, drop};
 ghost use Rattle.dns_data.specs.Name.{IsLabel, IsName, IsWire, IsWithin, wire_length, spelled, labels_of, lowered, same_labels};
+ghost use Rattle.dns_data.specs.declared.limit.TheConstants as limits;
 
 use crate::ascii::same_letters;
-use crate::wire::Wire;
 use crate::{Copies, Labels, NoMemory};
+use dns_lists::Wire;
 use std::alloc::Global;
 use std::marker::Model;
 
-/// A domain name (RFC 1035, section 3.1): labels of 1 to 63 bytes, at most 255 bytes in wire form, with the letters that
-/// it came with. Contracts see the list of its labels. At most 38 bytes, the zero byte left out, are kept
-/// in the value itself, and more in an allocation, which stays when the name gets shorter.
+/// A domain name (RFC 1035, section 3.1): labels of 1 to 63 bytes, at most 255 bytes in wire
+/// format, with the letters that it came with. Contracts see the list of its labels. At most 38
+/// bytes, the zero byte left out, are kept in the value itself, and more in an allocation, which
+/// stays when the name gets shorter.
 #[derive(Debug, Drop)]
 pub struct Name {
     // Each label behind its length byte, without the final zero byte.
@@ -37,7 +39,7 @@ impl Name {
         }
     }
 
-    /// The name without labels, with room for so many bytes in wire form.
+    /// The name without labels, with room for so many bytes in wire format.
     pub fn with_capacity(alloc: Global, bytes: usize) -> Result<Name, NoMemory>
         ensures { IfOk result (λ n. n ≡ []) }
     {
@@ -46,7 +48,7 @@ impl Name {
         })
     }
 
-    /// The name that bytes spell in wire form, without the final zero byte.
+    /// The name that bytes spell in wire format, without the final zero byte.
     pub fn of_wire(alloc: Global, wire: &[u8]) -> Result<Name, NoMemory>
         requires { IsWire wire.now }
         ensures { IfOk result (λ n. n ≡ labels_of wire.now) }
@@ -56,7 +58,7 @@ impl Name {
         })
     }
 
-    /// How many bytes it takes in wire form, the final zero byte included.
+    /// How many bytes it takes in wire format, the final zero byte included.
     pub fn wire_len(&self) -> usize
         ensures value { result ≡ wire_length self.now }
         ensures proper { IsName self.now }
@@ -64,7 +66,7 @@ impl Name {
         self.wire.len() + 1
     }
 
-    /// The wire form without the final zero byte.
+    /// The wire format without the final zero byte.
     pub fn as_wire(&self) -> &[u8]
         ensures value { result.now ≡ spelled self.now }
         ensures proper { IsName self.now }
@@ -82,7 +84,7 @@ impl Name {
     /// Adds a label at the end, next to the root.
     pub fn push(&mut self, label: &[u8]) -> Result<(), NoMemory>
         requires label { IsLabel label.now }
-        requires room { wire_length self.old + length label.now + 1 ≤ 255 }
+        requires room { wire_length self.old + length label.now + 1 ≤ limits.NAME_BYTES }
         ensures ok { OnOk result (self.new ≡ self.old ++ label.now ∷ []) }
         ensures err { OnErr result (self.new ≡ self.old) }
     {
@@ -93,7 +95,7 @@ impl Name {
     /// The name with a label before it.
     pub fn below(&self, alloc: Global, label: &[u8]) -> Result<Name, NoMemory>
         requires label { IsLabel label.now }
-        requires room { wire_length self.now + length label.now + 1 ≤ 255 }
+        requires room { wire_length self.now + length label.now + 1 ≤ limits.NAME_BYTES }
         ensures { IfOk result (λ n. n ≡ label.now ∷ self.now) }
     {
         Ok(Name {
@@ -134,10 +136,10 @@ impl Name {
         self.wire.clear();
     }
 
-    /// Adds labels in wire form at the end, next to the root, by one copy.
+    /// Adds labels in wire format at the end, next to the root, by one copy.
     pub fn append(&mut self, wire: &[u8]) -> Result<(), NoMemory>
         requires labels { IsWire wire.now }
-        requires room { wire_length self.old + length wire.now ≤ 255 }
+        requires room { wire_length self.old + length wire.now ≤ limits.NAME_BYTES }
         ensures ok { OnOk result (self.new ≡ self.old ++ labels_of wire.now) }
         ensures err { OnErr result (self.new ≡ self.old) }
     {
@@ -192,7 +194,8 @@ impl Name {
         count
     }
 
-    /// The label at an index. This is a walk from the first label on: go over all of them by `labels`.
+    /// The label at an index. This is a walk from the first label on: go over all of them by
+    /// `labels`.
     pub fn label(&self, index: usize) -> &[u8]
         requires { index < length self.now }
         ensures value { slice_get self.now index ≡ Some result.now }

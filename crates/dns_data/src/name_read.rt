@@ -2,6 +2,7 @@ ghost use Rattle.std.specs.Prelude.{◌≡◌, ◌≤◌, ◌+◌, ◌↔◌, []
 ghost use Rattle.std.specs.Char.{is_ascii_digit};
 ghost use Rattle.dns_data.specs.NameText.{ReadsName, Completes, Fits, byte_at, escaped, is_dot, numbered};
 
+use crate::limit::{LABEL_BYTES, NAME_BYTES};
 use crate::{Name, NoMemory};
 use std::alloc::Global;
 
@@ -25,9 +26,9 @@ impl From<NoMemory> for NameFault {
 }
 
 impl Name {
-    /// The name that a text spells (RFC 1035, section 5.1). A text that ends in a dot is absolute, and another one stands
-    /// below the origin. A backslash and three digits are the byte of that number, and a backslash and another byte are
-    /// that byte.
+    /// The name that a text spells in presentation format (RFC 1035, section 5.1). A text that ends
+    /// in a dot is absolute, and another one stands below the origin. A backslash and three digits
+    /// are the byte of that number, and a backslash and another byte are that byte.
     pub fn read(alloc: Global, text: &[u8], origin: &Name) -> Result<Name, NameFault>
         ensures { ReadsName text.now origin.now result }
     {
@@ -71,26 +72,26 @@ fn completed(mut name: Name, label: &[u8], origin: &Name) -> Result<Name, NameFa
         return Err(NameFault::Bad);
     }
     name.push(label)?;
-    if 256 < name.wire_len() + origin.wire_len() {
+    if NAME_BYTES + 1 < name.wire_len() + origin.wire_len() {
         return Err(NameFault::Bad);
     }
     name.append(origin.as_wire())?;
     Ok(name)
 }
 
-// Bytes in wire form, where no byte is escaped.
+// Bytes in wire format, where no byte is escaped.
 fn room_for(text: &[u8], origin: &Name) -> usize {
-    if text.len() < 255 {
+    if text.len() < NAME_BYTES {
         text.len() + origin.wire_len()
     } else {
-        255
+        NAME_BYTES
     }
 }
 
 fn room_for_a_label(alloc: Global) -> Result<Vec<u8>, NoMemory>
     ensures { IfOk result (λ label. label.items ≡ []) }
 {
-    Ok(Vec::with_capacity(alloc, 63)?)
+    Ok(Vec::with_capacity(alloc, LABEL_BYTES)?)
 }
 
 fn push_byte(label: &mut Vec<u8>, byte: u8) -> Result<(), NoMemory>
@@ -103,7 +104,7 @@ fn push_byte(label: &mut Vec<u8>, byte: u8) -> Result<(), NoMemory>
 fn has_room(name: &Name, label: &[u8]) -> bool
     ensures { IsTrue result ↔ Fits name.now label.now }
 {
-    0 < label.len() && label.len() <= 63 && name.wire_len() + label.len() < 255
+    0 < label.len() && label.len() <= LABEL_BYTES && name.wire_len() + label.len() < NAME_BYTES
 }
 
 // The byte of a label at the head of a text, and how many bytes behind the first spell it.

@@ -5,11 +5,13 @@ use crate::{Name, NoMemory, Text};
 use std::alloc::Global;
 
 impl Name {
-    /// The name as text (RFC 1035, section 5.1): a dot behind each label, and the root a dot. What isn't printed as it is
-    /// has a backslash in front, or stands as a backslash and three digits. Whatever the origin, the text reads as the name.
+    /// The name in presentation format (RFC 1035, section 5.1): a dot behind each label, and the
+    /// root a dot. What isn't printed as it is has a backslash in front, or stands as a backslash
+    /// and three digits. Whatever the origin, the text reads as the name.
     pub fn text(&self, alloc: Global) -> Result<Text, NoMemory>
         ensures text { IfOk result (λ text. text ≡ name_text self.now) }
-        ensures read { IfOk result (λ text. (origin : List (List ℕ)) → name_of text origin ≡ Some self.now) }
+        ensures read { IfOk result (λ text.
+            (origin : List (List ℕ)) → name_of text origin ≡ Some self.now) }
     {
         let wire = self.as_wire();
         if wire.len() == 0 {

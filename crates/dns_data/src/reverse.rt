@@ -6,9 +6,8 @@ ghost use Rattle.dns_data.specs.Name.{lowered, spelled, wire_length};
 ghost use Rattle.dns_data.specs.ReverseNames.{StandsFor, nibble_of, nibbles_back, reverse_of, reversed_of, v4_reverse, v4_reversed, v6_reverse};
 
 use crate::ascii::same_letters;
-use crate::v4::read_octet;
-use crate::v6::hex_digit;
 use crate::{Addr, Labels, Name, NoMemory};
+use dns_addr::{hex_digit, read_octet};
 use std::alloc::Global;
 
 const IN_ADDR_ARPA: &[u8] = b"\x07in-addr\x04arpa";

@@ -1,7 +1,7 @@
 -- What a socket address of the system spells: C's `sockaddr_in` and `sockaddr_in6` as Linux lays them out.
 use Rattle.std.specs.Prelude.{ℕ, ◌+◌, ◌*◌, ◌==◌, nat_lt, Bool, not, ◌&&◌, List, slice_index, Option, Some, None, if◌then◌else◌}
-use Rattle.dns_data.specs.declared.addr.Addr.{Addr}
-use Rattle.dns_data.specs.declared.addr.Addr.TheVariants.{V4, V6}
+use Rattle.dns_data.specs.Addresses.{Addr}
+use Rattle.dns_data.specs.Addresses.{V4, V6}
 use Rattle.dnschain.specs.declared.sender.Client.{Client}
 
 -- the number of 16 bits at a place, its first byte highest

@@ -17,20 +17,20 @@ pub returns-then-not-has_room : goal.returns-then-not-has_room
 returns-then-not-has_room c =
     last_misfit c.args.name c.args.origin.now c.args.label.now (proper c.name-2.inside.wire c.args.name c.name-2.invariant c.name-2.view_is) c.if-label-eq0.false (λ fits. false≢true (c.if-not-has_room.ensures.1 fits))
 
-pub returns-then-wire_len-gt256 : goal.returns-then-wire_len-gt256
-returns-then-wire_len-gt256 c =
+pub returns-then-wire_len : goal.returns-then-wire_len
+returns-then-wire_len c =
     last_too_long c.args.name c.push.new.self c.args.origin.now c.args.label.now (proper c.name-2.inside.wire c.args.name c.name-2.invariant c.name-2.view_is) c.if-label-eq0.false
-    c.in_ok-push.ensures.ok (omega (arith, c.if-wire_len-gt256.true, c.wire_len-2.ensures.value, c.wire_len-3.ensures.value))
+    c.in_ok-push.ensures.ok (omega (arith, c.if-wire_len.true, c.wire_len-2.ensures.value, c.wire_len-3.ensures.value))
 
 pub append-requires-clause-labels : goal.append-requires-clause-labels
 append-requires-clause-labels c = is_wire c.as_wire.result.now c.args.origin.now c.as_wire.ensures.value c.as_wire.ensures.proper
 
 pub append-requires-clause-room : goal.append-requires-clause-room
 append-requires-clause-room c =
-    omega (arith, c.if-wire_len-gt256.false, c.wire_len-2.ensures.value, c.wire_len-3.ensures.value, ap length c.as_wire.ensures.value, length-spelled c.args.origin.now)
+    omega (arith, c.if-wire_len.false, c.wire_len-2.ensures.value, c.wire_len-3.ensures.value, ap length c.as_wire.ensures.value, length-spelled c.args.origin.now)
 
 pub returns : goal.returns
 returns c =
     last_fits c.args.name c.push.new.self c.args.origin.now c.append.new.self c.args.label.now (proper c.name-2.inside.wire c.args.name c.name-2.invariant c.name-2.view_is) c.as_wire.ensures.proper
-    c.if-label-eq0.false (c.if-not-has_room.ensures.0 refl) c.in_ok-push.ensures.ok (omega (arith, c.if-wire_len-gt256.false, c.wire_len-2.ensures.value, c.wire_len-3.ensures.value))
+    c.if-label-eq0.false (c.if-not-has_room.ensures.0 refl) c.in_ok-push.ensures.ok (omega (arith, c.if-wire_len.false, c.wire_len-2.ensures.value, c.wire_len-3.ensures.value))
     (c.in_ok-append.ensures.ok ∙ ap (λ (t : List (List ℕ)). c.push.new.self ++ t) (view_of c.as_wire.result.now c.args.origin.now c.as_wire.ensures.value))

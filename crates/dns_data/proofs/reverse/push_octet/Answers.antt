@@ -1,6 +1,7 @@
 use Rattle.std.proofs.Common.{◌≡◌, ◌++◌, ◌∷◌, [], ◌+◌, ◌/◌, ◌%◌, List, ℕ, sym, ap, ◌∙◌, arith}
 use Rattle.std.proofs.lemmas.Result.{on_ok_weaker}
-use Rattle.dns_data.proofs.ReverseWalks.{one_digit, two_digits, three_digits, longer}
+use Rattle.dns_addr.specs.OctetLaws.{one_digit, two_digits, three_digits}
+use Rattle.dns_data.proofs.ReverseWalks.{longer}
 use Rattle.dns_data.proofs.reverse.push_octet.Goals as goal
 
 pub returns-then-octet-lt10-clause-value : goal.returns-then-octet-lt10-clause-value

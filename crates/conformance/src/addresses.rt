@@ -1,0 +1,35 @@
+//! Addresses: `addr TEXT`, `addrtext 4|6 ADDRESS`, `net TEXT`.
+
+use crate::case::Case;
+use crate::fault::CaseFault;
+use crate::fields::{addr_fields, bytes_field, read_addr, read_bytes};
+use dns_data::{Addr, Net};
+use std::alloc::Global;
+
+/// The address that a text spells, or `bad`.
+pub fn read(alloc: Global, case: &Case<'_>) -> Result<String, CaseFault> {
+    let text = read_bytes(alloc, case.argument()?)?;
+    match Addr::read(&text) {
+        Some(addr) => addr_fields(alloc, addr),
+        None => Ok(String::from_str(alloc, "bad")?),
+    }
+}
+
+/// The text of an address.
+pub fn print(alloc: Global, case: &Case<'_>) -> Result<String, CaseFault> {
+    let (family, digits) = case.arguments()?;
+    let addr = read_addr(alloc, family, digits)?;
+    bytes_field(alloc, addr.text(alloc)?.as_str().as_bytes())
+}
+
+/// The net that a text spells, as an address and how many of its bits, or `bad`.
+pub fn net(alloc: Global, case: &Case<'_>) -> Result<String, CaseFault> {
+    let text = read_bytes(alloc, case.argument()?)?;
+    match Net::read(&text) {
+        Some(net) => {
+            let addr = addr_fields(alloc, net.addr)?;
+            Ok(format!(in alloc; "{} {}", addr.as_str(), net.bits)?)
+        }
+        None => Ok(String::from_str(alloc, "bad")?),
+    }
+}

@@ -1,0 +1,87 @@
+//! The fields of a case: bytes in hexadecimal, names in wire format, and addresses.
+
+use crate::fault::CaseFault;
+use dns_data::limit::{LABEL_BYTES, NAME_BYTES};
+use dns_data::{Addr, Name, Text};
+use std::alloc::Global;
+
+/// The bytes of a field, of which `-` has none.
+pub fn read_bytes(alloc: Global, field: &str) -> Result<Vec<u8>, CaseFault> {
+    if field == "-" {
+        return Ok(Vec::new(alloc));
+    }
+    if field.is_empty() {
+        return Err(CaseFault::Bad);
+    }
+    Ok(hex::decode(alloc, field)?)
+}
+
+/// The field of bytes.
+pub fn bytes_field(alloc: Global, bytes: &[u8]) -> Result<String, CaseFault> {
+    if bytes.is_empty() {
+        return Ok(String::from_str(alloc, "-")?);
+    }
+    Ok(hex::encode(alloc, bytes)?)
+}
+
+/// The text of a field.
+pub fn read_text(alloc: Global, field: &str) -> Result<Text, CaseFault> {
+    match String::from_utf8(read_bytes(alloc, field)?) {
+        Ok(text) => Ok(Text::of(text)),
+        Err(_) => Err(CaseFault::Bad),
+    }
+}
+
+/// The name of a field in wire format, its zero byte included.
+pub fn read_name(alloc: Global, field: &str) -> Result<Name, CaseFault> {
+    let bytes = read_bytes(alloc, field)?;
+    let mut name = Name::root(alloc);
+    let mut rest = bytes.as_slice();
+    while let Some((size, behind)) = rest.split_first() {
+        let size = usize::from(*size);
+        if size == 0 {
+            return if behind.is_empty() {
+                Ok(name)
+            } else {
+                Err(CaseFault::Bad)
+            };
+        }
+        if behind.len() < size || LABEL_BYTES < size || NAME_BYTES < name.wire_len() + size + 1 {
+            return Err(CaseFault::Bad);
+        }
+        name.push(&behind[..size])?;
+        rest = &behind[size..];
+    }
+    Err(CaseFault::Bad)
+}
+
+/// The field of a name.
+pub fn name_field(alloc: Global, name: &Name) -> Result<String, CaseFault> {
+    let mut wire = Vec::from_slice(alloc, name.as_wire())?;
+    wire.push(0)?;
+    bytes_field(alloc, &wire)
+}
+
+/// The address of two fields: 4 or 6, and its bytes.
+pub fn read_addr(alloc: Global, family: &str, digits: &str) -> Result<Addr, CaseFault> {
+    let bytes = read_bytes(alloc, digits)?;
+    match family {
+        "4" => match <[u8; 4]>::try_from(bytes.as_slice()) {
+            Ok(bytes) => Ok(Addr::V4(u32::from_be_bytes(bytes))),
+            Err(_) => Err(CaseFault::Bad),
+        },
+        "6" => match <[u8; 16]>::try_from(bytes.as_slice()) {
+            Ok(bytes) => Ok(Addr::V6(u128::from_be_bytes(bytes))),
+            Err(_) => Err(CaseFault::Bad),
+        },
+        _ => Err(CaseFault::Bad),
+    }
+}
+
+/// The fields of an address.
+pub fn addr_fields(alloc: Global, addr: Addr) -> Result<String, CaseFault> {
+    match addr {
+        Addr::V4(number) => Ok(format!(in alloc; "4 {number:08x}")?),
+        Addr::V6(number) => Ok(format!(in alloc; "6 {number:032x}")?),
+    }
+}

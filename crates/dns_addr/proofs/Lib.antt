@@ -1,0 +1,3 @@
+pub mod ReadAddrs
+pub mod ZeroRuns
+pub mod PrintedAddrs

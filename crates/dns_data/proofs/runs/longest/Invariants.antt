@@ -1,6 +1,0 @@
-use Rattle.std.proofs.Common.{◌≡◌, max, drop}
-use Rattle.dns_data.specs.AddrText.{longest}
-use Rattle.dns_data.proofs.runs.longest.Given as goal
-
-abbrev pub invariant-loop-at : goal.invariant-loop-at
-invariant-loop-at l = longest l.groups ≡ max l.most (longest (drop l.at l.groups))

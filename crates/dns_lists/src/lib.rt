@@ -1,0 +1,18 @@
+//! Lists, texts and bytes, and the bytes of a name, which stand in the value itself where they are
+//! few (RFC 1035, section 3.1).
+#![tactic(auto)]
+
+mod bytes;
+mod memory;
+mod seq;
+mod short;
+#[cfg(test)]
+mod tests;
+mod text;
+mod wire;
+
+pub use bytes::Bytes;
+pub use memory::NoMemory;
+pub use seq::{Copies, Seq};
+pub use text::Text;
+pub use wire::Wire;

@@ -1,5 +1,6 @@
 -- What an operator could note of each generation, and that each is retired once, after its last pin. This server's own rule.
 use Rattle.std.specs.Prelude.{◌≡◌, ℕ, ◌+◌, ◌<◌, ◌≤◌, Bool, true, false, not, ◌&&◌, ◌==◌, List, [], ◌∷◌, ◌++◌, Option, None, Some, count_by, nat_lt, if◌then◌else◌}
+use Rattle.pin_core.specs.declared.slots.TheConstants.{SLOTS}
 use Rattle.pin_core.specs.declared.slots.Phase.{Phase}
 use Rattle.pin_core.specs.declared.slots.Phase.TheVariants.{Free, Filling, Current, Replaced}
 use Rattle.pin_core.specs.declared.steps.PinStep.{PinStep}
@@ -163,5 +164,5 @@ pub record RetiresOnce (log : Log) : Type 0 where
   -- and a later generation is published
   pub replaced : (serial worker : ℕ) → 0 < drains serial worker log.events → serial + 1 < log.machine.published
   -- for each worker a slot was drained as often as it was published, but for the generation in it that isn't drained yet
-  pub each : (slot worker : ℕ) → slot < 4 → worker < count log.machine
+  pub each : (slot worker : ℕ) → slot < SLOTS → worker < count log.machine
       → drains_in slot worker log.events + (if is_undrained worker (slot_at log.machine slot).phase then 1 else 0) ≡ publications_in slot log.events

@@ -1,13 +1,14 @@
 -- One slot, from its first filled worker to its last drained one, and what a step makes of it. This server's own rule.
 use Rattle.std.specs.Prelude.{ℕ, ◌+◌, Bool, true, false, not, ◌&&◌, List, take, replicate, slice_index_or, slice_set, if◌then◌else◌}
 use Rattle.std.specs.List.{list_all}
+use Rattle.pin_core.specs.declared.slots.TheConstants.{WORKERS}
 use Rattle.pin_core.specs.declared.slots.Slot.{Slot}
 use Rattle.pin_core.specs.declared.slots.Phase.{Phase}
 use Rattle.pin_core.specs.declared.slots.Phase.TheVariants.{Free, Filling, Current, Replaced}
 
 -- no worker is marked
 abbrev pub no_marks : List Bool
-no_marks = replicate 32 false
+no_marks = replicate WORKERS false
 
 -- whether this worker is marked
 abbrev pub is_marked : ℕ → List Bool → Bool

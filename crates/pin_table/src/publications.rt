@@ -1,11 +1,10 @@
 //! The publication of generations.
 ghost use Rattle.std.specs.Prelude.{◌≡◌, ◌+◌, ◌<◌, [], ◌∷◌, None, Some, true, length};
-ghost use Rattle.pin_core.specs.Slots.{is_free};
 ghost use Rattle.pin_table.specs.Known.{place};
-ghost use Rattle.pin_table.specs.Steps.{plan_in, plan_slot, named_plan, filled_seat};
+ghost use Rattle.pin_table.specs.Steps.{plan_in, count_of, named_plan, filled_seat};
 ghost use Rattle.pin_table.specs.Tags.{AreNew, AreFilled};
 ghost use Rattle.pin_table.specs.Handles.{id_of, plan_of, IsPublisherOf, SamePublisher, seen_of, IsToldOf};
-ghost use Rattle.pin_table.specs.Publishing.{CanFill, IsReady, fill_to, IsPublished};
+ghost use Rattle.pin_table.specs.Publishing.{IsFreeSlot, CanFill, IsReady, fill_to, IsPublished};
 ghost use Rattle.pin_table.specs.declared.views.View.TheVariants.{OfPublisher};
 
 use crate::lots::{Stage, replace_all};
@@ -22,8 +21,8 @@ impl<C: Drop> PinTable<C> {
     fn name(&self, seat: &mut Seat<Option<C>, View<C>>, slot: usize, serial: u64)
         requires own { seat.old.table_id ≡ id_of self.now }
         requires at { seat.old.me ≡ (OfPublisher (plan_in seat.old.me.0), []) }
-        requires free { (slot < SLOTS) × (is_free (plan_slot (plan_in seat.old.me.0) slot).phase ≡ true)
-            × ((plan_in seat.old.me.0).hand ≡ None) }
+        requires free { IsFreeSlot (plan_in seat.old.me.0) slot }
+        requires hand { (plan_in seat.old.me.0).hand ≡ None }
         ensures own { (seat.new.table_id ≡ seat.old.table_id) × (seat.new.id ≡ seat.old.id) }
         ensures named { let plan = plan_in seat.old.me.0 in
             seat.new.me ≡ (OfPublisher (named_plan plan slot serial), (place slot 0, None) ∷ []) }
@@ -35,7 +34,8 @@ impl<C: Drop> PinTable<C> {
 
     fn fill(&self, seat: &mut Seat<Option<C>, View<C>>, slot: usize, worker: usize, chain: C)
         requires own { seat.old.table_id ≡ id_of self.now }
-        requires at { seat.old.me ≡ (OfPublisher (plan_in seat.old.me.0), (place slot worker, None) ∷ []) }
+        requires at { let plan = plan_in seat.old.me.0 in
+            seat.old.me ≡ (OfPublisher plan, (place slot worker, None) ∷ []) }
         requires can { CanFill (plan_in seat.old.me.0) slot }
         requires worker { (worker ≡ length (plan_in seat.old.me.0).next) × (worker < WORKERS) }
         ensures own { (seat.new.table_id ≡ seat.old.table_id) × (seat.new.id ≡ seat.old.id) }
@@ -49,9 +49,11 @@ impl<C: Drop> PinTable<C> {
 
     fn fill_all(&self, seat: &mut Seat<Option<C>, View<C>>, slot: usize, chains: Vec<C>)
         requires own { seat.old.table_id ≡ id_of self.now }
-        requires at { seat.old.me ≡ (OfPublisher (plan_in seat.old.me.0), (place slot 0, None) ∷ []) }
+        requires at { let plan = plan_in seat.old.me.0 in
+            seat.old.me ≡ (OfPublisher plan, (place slot 0, None) ∷ []) }
         requires ready { IsReady (plan_in seat.old.me.0) slot chains.items }
-        requires first { fill_to (plan_in seat.old.me.0) slot chains.items 0 ≡ plan_in seat.old.me.0 }
+        requires first { let plan = plan_in seat.old.me.0 in
+            fill_to plan slot chains.items 0 ≡ plan }
         ensures own { (seat.new.table_id ≡ seat.old.table_id) × (seat.new.id ≡ seat.old.id) }
         ensures filled { let plan = plan_in seat.old.me.0 in
             seat.new.me ≡ (OfPublisher (fill_to plan slot chains.items plan.workers), []) }
@@ -68,13 +70,15 @@ impl<C: Tagged + Drop> PinTable<C> {
     /// Publishes a generation in a free slot, a chain for each worker.
     pub fn publish(&self, publisher: &mut Publisher<C>, slot: u32, chains: Vec<C>) -> Published<C>
         requires own { IsPublisherOf self.now publisher.old }
-        requires free { (slot < SLOTS) × (is_free (plan_slot (plan_of publisher.old) slot).phase ≡ true) }
+        requires free { IsFreeSlot (plan_of publisher.old) slot }
         requires chains { length chains.items ≡ (plan_of publisher.old).workers }
-        requires tagged { AreNew C.identity C.log (length (plan_of publisher.old).past.published) 0 chains.items }
+        requires tagged { let serial = count_of (plan_of publisher.old) in
+            AreNew C.identity C.log serial 0 chains.items }
         requires filled { AreFilled C.identity C.log 0 (plan_of publisher.old).past.filled }
         ensures own { SamePublisher publisher.old publisher.new }
         ensures filled { AreFilled C.identity C.log 0 (plan_of publisher.new).past.filled }
-        ensures published { IsPublished (plan_of publisher.old) slot chains.items result (plan_of publisher.new) }
+        ensures published { let before = plan_of publisher.old in
+            IsPublished before slot chains.items result (plan_of publisher.new) }
     {
         if publisher.published >= MOST_SERIALS {
             return Published::SerialsSpent(chains);
@@ -99,7 +103,7 @@ impl<C> PinTable<C> {
     /// How many generations were published. The serial of the last is one less.
     pub fn published(&self, publisher: &Publisher<C>) -> u64
         requires { IsPublisherOf self.now publisher.now }
-        ensures { result ≡ length (plan_of publisher.now).past.published }
+        ensures { result ≡ count_of (plan_of publisher.now) }
     {
         publisher.published
     }
@@ -110,7 +114,7 @@ impl<C> PinTable<C> {
         ensures own { SamePublisher publisher.old publisher.new }
         ensures same { plan_of publisher.new ≡ plan_of publisher.old }
         ensures told { IsToldOf self.now result
-            × (seen_of result ≡ length (plan_of publisher.old).past.published) }
+            × (seen_of result ≡ count_of (plan_of publisher.old)) }
     {
         let seat = self.table.shared.split_seat::<Tells>(&mut publisher.seat);
         Told {

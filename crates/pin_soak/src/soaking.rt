@@ -31,6 +31,8 @@ pub enum Role {
 pub struct Done {
     pub published: u64,
     pub pins: u64,
+    /// The last serials that the passes have seen, added up.
+    pub seen: u64,
     pub counted: u64,
     pub home: u64,
     pub missing: usize,
@@ -80,7 +82,7 @@ fn roles_of(
 }
 
 /// The passes in order of worker, the publisher, and how many faults the workers met.
-fn parts_of(
+pub fn parts_of(
     alloc: Global,
     table: &PinTable<Chain>,
     mut roles: Vec<Role>,
@@ -106,7 +108,7 @@ fn parts_of(
     None
 }
 
-fn ended(
+pub fn close_all(
     table: PinTable<Chain>,
     keeper: Keeper,
     passes: Vec<Pass<Chain>>,
@@ -130,18 +132,23 @@ fn ended(
     }
     let totals = table.close(publisher, passes, &mut home);
     ledger.enter_all(&mut home);
-    let mut pins = 0_u64;
-    for made in &totals.pins {
-        pins = pins.wrapping_add(*made);
-    }
     Some(Done {
         published: totals.published,
-        pins,
+        pins: added(&totals.pins),
+        seen: added(&totals.seen),
         counted: ledger.pins,
         home: ledger.home,
         missing: ledger.missing(),
         faults: faults.saturating_add(ledger.faults),
     })
+}
+
+fn added(numbers: &[u64]) -> u64 {
+    let mut all = 0_u64;
+    for number in numbers {
+        all = all.wrapping_add(*number);
+    }
+    all
 }
 
 /// A new table for so many workers, with its publisher and passes.
@@ -180,5 +187,5 @@ pub fn soak<R: Threads + Sync>(rt: &R, alloc: Global) -> Option<Done> {
     let mut roles = roles_of(alloc, &table, keeper, passes)?;
     act_all(rt, &table, &mut roles, alloc);
     let (passes, keeper, faults) = parts_of(alloc, &table, roles)?;
-    ended(table, keeper, passes, faults)
+    close_all(table, keeper, passes, faults)
 }

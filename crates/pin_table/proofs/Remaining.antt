@@ -125,13 +125,15 @@ module _ {C : Type 0} where
 
   -- what the last state says of slots that have chains
   pub record IsLast (p : Plan C) : Type 0 where
-    pub live : (i w : ℕ) → i < 4 → has_chain w (plan_slot p i).phase ≡ true → slice_get p.past.published (serial_at p.past.serials i) ≡ Some i
+    pub live : (i w : ℕ) → i < 4 → has_chain w (plan_slot p i).phase ≡ true
+        → slice_get p.past.published (serial_at p.past.serials i) ≡ Some i
     pub gone : All (IsGone p) p.drains
     pub once : Once p.drains
 
   -- two cells of slots that have chains are of other serials or workers
   left_apart : (p : Plan C) (k : ℕ) (c : C) → IsLast p → k < 128 → left_in p k ≡ Some c
-      → (x : Drain C) → IsLeft p k x → IsOther x (record { serial = serial_at p.past.serials (k / 32); worker = k % 32; chain = c })
+      → (x : Drain C) → IsLeft p k x
+      → IsOther x (record { serial = serial_at p.past.serials (k / 32); worker = k % 32; chain = c })
   left_apart p k c h lk e x l es ew =
       let j = l.cell in
       let below = l.below in
@@ -150,7 +152,8 @@ module _ {C : Type 0} where
       let d = drain_of (serial_at p.past.serials (k / 32)) (k % 32) (left_in p k) in
       subst (λ (l : List (Drain C)). Once l) (sym (append_assoc (left_to p k) d p.drains)) (once_cell p k h (omega arith) before (left_in p k) refl)
     where
-      once_cell : (p : Plan C) (k : ℕ) → IsLast p → k < 128 → Once (left_to p k ++ p.drains) → (o : Option C) → left_in p k ≡ o
+      once_cell : (p : Plan C) (k : ℕ) → IsLast p → k < 128 → Once (left_to p k ++ p.drains) → (o : Option C)
+          → left_in p k ≡ o
           → Once (left_to p k ++ (drain_of (serial_at p.past.serials (k / 32)) (k % 32) o ++ p.drains))
       once_cell p k h lk before None e = before
       once_cell p k h lk before (Some c) e =
@@ -188,13 +191,16 @@ module _ {C : Type 0} where
 
 module _ {C K N : Type 0} (identity : C → Identity K) (log : C → List (List N)) where
   -- what holds of each pass that came back, and of one that did nothing
-  of_joined : (P : ℕ → List (Turn C) → Type 0) (qs : List (PassView C)) → ((w : ℕ) (q : PassView C) → slice_get qs w ≡ Some q → P w q.turns) → ((w : ℕ) → P w []) → (w : ℕ) → P w (joined_at qs w).turns
+  of_joined : (P : ℕ → List (Turn C) → Type 0) (qs : List (PassView C))
+      → ((w : ℕ) (q : PassView C) → slice_get qs w ≡ Some q → P w q.turns) → ((w : ℕ) → P w []) → (w : ℕ)
+      → P w (joined_at qs w).turns
   of_joined P qs each none w = by_two (ltb w (length qs))
       (λ is. let t = get_some qs w (ltb-true w (length qs) is) in subst (λ (z : PassView C). P w z.turns) (sym (get_at qs w (fresh w) t.0 t.1)) (each w t.0 t.1))
       (λ past. subst (λ (z : PassView C). P w z.turns) (sym (get_or_past qs w (fresh w) (ltb-false w (length qs) past))) (none w))
 
   -- identities and logs at the end
-  pub traced : (p : Plan C) → IsClosed p → AreFilled identity log 0 p.past.filled → All (λ (q : PassView C). Keeps identity log q.turns) p.joined → IsTraced identity log p
+  pub traced : (p : Plan C) → IsClosed p → AreFilled identity log 0 p.past.filled
+      → All (λ (q : PassView C). Keeps identity log q.turns) p.joined → IsTraced identity log p
   traced p h filled keeps =
       let keeps_at : (w : ℕ) (q : PassView C) → slice_get p.joined w ≡ Some q → Keeps identity log q.turns =
       λ w q e. subst (λ (z : PassView C). Keeps identity log z.turns) (get_at p.joined w q q e) (All-get_or (λ (z : PassView C). Keeps identity log z.turns) p.joined w q (get_within p.joined w q e) keeps) in record {

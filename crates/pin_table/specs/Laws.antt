@@ -1,6 +1,6 @@
 -- What callers may cite of chains that are made one after another.
-use Rattle.std.specs.Prelude.{◌≡◌, ℕ, zero, suc, ◌+◌, List, [], ◌∷◌, ◌++◌, length}
-use Rattle.std.proofs.Common.{sym, ◌∙◌, subst, arith}
+use Rattle.std.specs.Prelude.{◌≡◌, ℕ, suc, ◌+◌, List, [], ◌∷◌, ◌++◌, length}
+use Rattle.std.proofs.Common.{◌∙◌, arith}
 use Rattle.pin_table.specs.Tags.{Identity, IsEmpty, AreNew}
 
 module _ {C K N : Type 0} (identity : C → Identity K) (log : C → List (List N)) where

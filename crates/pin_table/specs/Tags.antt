@@ -11,6 +11,10 @@ pub record Identity (K : Type 0) : Type 0 where
   pub worker : ℕ
   pub kind : K
 
+-- an identity by its parts
+abbrev pub tag : {K : Type 0} → ℕ → ℕ → K → Identity K
+tag serial worker kind = record { serial = serial; worker = worker; kind = kind }
+
 module _ {N : Type 0} where
   -- the log has as many parts as before, and each begins as it was
   abbrev pub Grows : List (List N) → List (List N) → Type 0

@@ -43,12 +43,12 @@ pub fn renew(
     }
 }
 
-/// So many publications, and for each at most this many tries.
+/// So many publications, in at most 100,000,000 tries.
 pub fn keep(table: &PinTable<Chain>, keeper: &mut Keeper, alloc: Global, most: u64)
     requires { IsKeeping table.now keeper.old }
     ensures { IsKeeping table.now keeper.new }
 {
-    for _ in 0..2_000_000_000_u64 {
+    for _ in 0..100_000_000_u64 {
         if keeper.made >= most {
             return;
         }

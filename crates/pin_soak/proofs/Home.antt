@@ -7,9 +7,7 @@ use Rattle.std.proofs.lemmas.List.Elements.{All-push, All-nil}
 use Rattle.atomic_table.specs.Seated.{TableId}
 use Rattle.pin_table.specs.declared.passes.Pass.{Pass}
 use Rattle.pin_table.specs.declared.views.PassView.{PassView}
-use Rattle.pin_table.specs.Handles.{pass_of}
-use Rattle.pin_table.specs.Closing.{views_of}
-use Rattle.pin_table.specs.Tags.{Keeps}
+use Rattle.pin_table.specs.{Keeps, pass_of, views_of}
 use Rattle.pin_soak.specs.declared.chains.Chain.{Chain}
 use Rattle.pin_soak.specs.Chains.{identity_of, log_of}
 use Rattle.pin_soak.specs.Roles.{AreHome}

@@ -1,6 +1,6 @@
 -- Which chain a chain of the soak is.
 use Rattle.std.specs.Prelude.{ℕ, List, []}
-use Rattle.pin_table.specs.Tags.{Identity, tag}
+use Rattle.pin_table.specs.{Identity, tag}
 use Rattle.pin_soak.specs.declared.chains.Chain.{Chain}
 
 -- its serial and its worker

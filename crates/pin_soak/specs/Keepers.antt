@@ -1,8 +1,7 @@
 -- What the publisher has between its calls.
 use Rattle.std.specs.Prelude.{◌≡◌, []}
 use Rattle.pin_table.specs.declared.table.PinTable.{PinTable}
-use Rattle.pin_table.specs.Handles.{plan_of, IsPublisherOf}
-use Rattle.pin_table.specs.Tags.{AreFilled}
+use Rattle.pin_table.specs.{AreFilled, IsPublisherOf, plan_of}
 use Rattle.pin_soak.specs.declared.chains.Chain.{Chain}
 use Rattle.pin_soak.specs.declared.keeper.Keeper.{Keeper}
 use Rattle.pin_soak.specs.Chains.{identity_of, log_of}

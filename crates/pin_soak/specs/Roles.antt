@@ -3,8 +3,7 @@ use Rattle.std.specs.Prelude.{List, All}
 use Rattle.atomic_table.specs.Seated.{TableId}
 use Rattle.pin_table.specs.declared.table.PinTable.{PinTable}
 use Rattle.pin_table.specs.declared.passes.Pass.{Pass}
-use Rattle.pin_table.specs.Closing.{AreIdle, views_of}
-use Rattle.pin_table.specs.Tags.{Keeps}
+use Rattle.pin_table.specs.{AreIdle, Keeps, views_of}
 use Rattle.pin_soak.specs.declared.chains.Chain.{Chain}
 use Rattle.pin_soak.specs.declared.soaking.Role.{Role}
 use Rattle.pin_soak.specs.declared.soaking.Role.TheVariants.{Work, Keep}

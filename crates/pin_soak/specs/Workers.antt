@@ -2,8 +2,7 @@
 use Rattle.std.specs.Prelude.{◌≡◌, true, None}
 use Rattle.std.specs.Option.{is_some}
 use Rattle.pin_table.specs.declared.table.PinTable.{PinTable}
-use Rattle.pin_table.specs.Handles.{pass_of, IsPassOf}
-use Rattle.pin_table.specs.Tags.{Follows, Keeps}
+use Rattle.pin_table.specs.{Follows, IsPassOf, Keeps, pass_of}
 use Rattle.pin_soak.specs.declared.chains.Chain.{Chain}
 use Rattle.pin_soak.specs.declared.worker.Worker.{Worker}
 use Rattle.pin_soak.specs.Chains.{identity_of, log_of}

@@ -1,6 +1,6 @@
 //! A chain that counts its pins.
 ghost use Rattle.std.specs.Prelude.{◌≡◌, IfOk, length};
-ghost use Rattle.pin_table.specs.Tags.{AreNew};
+ghost use Rattle.pin_table.specs.{AreNew};
 ghost use Rattle.pin_soak.specs.Chains.{identity_of, log_of};
 
 use pin_table::Tagged;

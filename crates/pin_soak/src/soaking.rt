@@ -1,7 +1,6 @@
 //! The roles of the soak, and its end.
 ghost use Rattle.std.specs.Prelude.{◌<◌, ◌≤◌, All, IfSome};
-ghost use Rattle.pin_table.specs.Handles.{id_of};
-ghost use Rattle.pin_table.specs.Opening.{ArePasses};
+ghost use Rattle.pin_table.specs.{ArePasses, id_of};
 ghost use Rattle.pin_soak.specs.Keepers.{IsKeeping};
 ghost use Rattle.pin_soak.specs.Roles.{IsRole, AreHome};
 

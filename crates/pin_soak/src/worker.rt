@@ -1,8 +1,7 @@
 //! A worker and its pass.
 ghost use Rattle.std.specs.Prelude.{◌<◌, MatchOption, IfSome};
 ghost use Rattle.std.specs.Vec.{vec_len};
-ghost use Rattle.pin_table.specs.Handles.{id_of};
-ghost use Rattle.pin_table.specs.Opening.{ArePasses};
+ghost use Rattle.pin_table.specs.{ArePasses, id_of};
 ghost use Rattle.pin_soak.specs.Workers.{IsIdle, IsHolding};
 
 use crate::chains::Chain;

@@ -1,8 +1,7 @@
 use Rattle.std.proofs.Common.{ℕ, ◌+◌, ◌≡◌, List, [], length, refl, sym, ap, ◌∙◌, subst, arith}
 use Rattle.std.proofs.lemmas.List.{length_push}
 use Rattle.std.proofs.lemmas.List.Elements.{All-nil}
-use Rattle.pin_table.specs.Tags.{AreNew}
-use Rattle.pin_table.specs.Laws.{AreNew-push}
+use Rattle.pin_table.specs.{AreNew, AreNew-push}
 use Rattle.pin_soak.specs.declared.chains.Chain.{Chain}
 use Rattle.pin_soak.specs.Chains.{identity_of, log_of}
 use Rattle.pin_soak.proofs.chains.chains_of.Goals as goal

@@ -1,5 +1,5 @@
 use Rattle.std.proofs.Common.{◌≡◌, length}
-use Rattle.pin_table.specs.Tags.{AreNew}
+use Rattle.pin_table.specs.{AreNew}
 use Rattle.pin_soak.specs.Chains.{identity_of, log_of}
 use Rattle.pin_soak.proofs.chains.chains_of.Given as goal
 

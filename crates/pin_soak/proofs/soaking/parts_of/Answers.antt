@@ -1,6 +1,6 @@
 use Rattle.std.proofs.Common.{◌≡◌, [], ◌∷◌, ◌++◌, Some, sym, ◌∙◌, subst, length, rules}
 use Rattle.std.proofs.lemmas.List.Elements.{All-pop}
-use Rattle.pin_table.specs.Handles.{id_of}
+use Rattle.pin_table.specs.{id_of}
 use Rattle.pin_soak.specs.Roles.{IsRole, AreHome}
 use Rattle.pin_soak.proofs.Home.{home_push}
 use Rattle.pin_soak.proofs.soaking.parts_of.Goals as goal

@@ -1,6 +1,6 @@
 use Rattle.std.specs.Vec.{vec_len}
 use Rattle.std.specs.List.{All}
-use Rattle.pin_table.specs.Handles.{id_of}
+use Rattle.pin_table.specs.{id_of}
 use Rattle.pin_soak.specs.Roles.{IsRole, AreHome}
 use Rattle.pin_soak.proofs.soaking.parts_of.Given as goal
 

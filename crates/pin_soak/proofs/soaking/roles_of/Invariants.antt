@@ -1,7 +1,6 @@
 use Rattle.std.specs.Vec.{vec_len}
 use Rattle.std.specs.List.{All}
-use Rattle.pin_table.specs.Handles.{id_of}
-use Rattle.pin_table.specs.Opening.{ArePasses}
+use Rattle.pin_table.specs.{ArePasses, id_of}
 use Rattle.pin_soak.specs.Roles.{IsRole}
 use Rattle.pin_soak.proofs.soaking.roles_of.Given as goal
 

@@ -3,3 +3,6 @@ pub mod Log
 pub mod Machine
 pub mod Rows
 pub mod Slots
+-- what public clauses cite
+pub use Rattle.pin_core.specs.Log.{RetiresOnce, log_of}
+pub use Rattle.pin_core.specs.Machine.{DrainsIdle, IsSound, current, run, start}

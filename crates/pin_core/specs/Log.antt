@@ -1,5 +1,7 @@
--- What an operator could note of each generation, and that each is retired once, after its last pin. This server's own rule.
+-- What an operator could note of each generation, and that each is retired once, after its last
+-- pin. This server's own rule.
 use Rattle.std.specs.Prelude.{◌≡◌, ℕ, ◌+◌, ◌<◌, ◌≤◌, Bool, true, false, not, ◌&&◌, ◌==◌, List, [], ◌∷◌, ◌++◌, Option, None, Some, count_by, nat_lt, if◌then◌else◌}
+use Rattle.pin_core.specs.declared.slots.TheConstants.{SLOTS}
 use Rattle.pin_core.specs.declared.slots.Phase.{Phase}
 use Rattle.pin_core.specs.declared.slots.Phase.TheVariants.{Free, Filling, Current, Replaced}
 use Rattle.pin_core.specs.declared.steps.PinStep.{PinStep}
@@ -20,10 +22,12 @@ pub data Event : Type 0 where
   -- the slot, the serial in it, and the worker
   was_drained : ℕ → ℕ → ℕ → Event
 
--- the serial that was last published in a slot, 0 before the first: the events begin with the last one
+-- the serial that was last published in a slot, 0 before the first: the events begin with the last
+-- one
 abbrev pub serial_in : ℕ → List Event → ℕ
 serial_in slot [] = 0
-serial_in slot (was_published at serial ∷ events) = if at == slot then serial else serial_in slot events
+serial_in slot (was_published at serial ∷ events) =
+    if at == slot then serial else serial_in slot events
 serial_in slot (was_pinned serial ∷ events) = serial_in slot events
 serial_in slot (was_unpinned serial ∷ events) = serial_in slot events
 serial_in slot (was_drained at serial worker ∷ events) = serial_in slot events
@@ -54,9 +58,11 @@ abbrev pub event_of : Machine → List Event → PinStep → PinReply → List E
 event_of m events (Fill slot worker) reply = []
 event_of m events (Publish slot) reply = if_done reply (was_published slot m.published)
 event_of m events (Pin worker) reply = if_pinned reply
-event_of m events (Unpin worker) reply = if_done reply (was_unpinned (pin_serial events (worker_at m worker).held))
+event_of m events (Unpin worker) reply =
+    if_done reply (was_unpinned (pin_serial events (worker_at m worker).held))
 event_of m events (Sweep slot) reply = []
-event_of m events (Drain slot worker) reply = if_done reply (was_drained slot (serial_in slot events) worker)
+event_of m events (Drain slot worker) reply =
+    if_done reply (was_drained slot (serial_in slot events) worker)
 
 -- the machine, and the events that led to it, the last one first
 pub record Log : Type 0 where
@@ -155,13 +161,18 @@ is_undrained worker (Replaced total ready drained) = not (is_marked worker drain
 -- each generation is retired at most once, after its last pin
 pub record RetiresOnce (log : Log) : Type 0 where
   -- it is published once, as one of the serials from 0 on
-  pub published : (serial : ℕ) → publications serial log.events ≡ (if nat_lt serial log.machine.published then 1 else 0)
+  pub published : (serial : ℕ)
+      → publications serial log.events ≡ (if nat_lt serial log.machine.published then 1 else 0)
   -- it is drained at most once for each worker
   pub once : (serial worker : ℕ) → drains serial worker log.events ≤ 1
   -- once it is drained for some worker, each of its pins has ended, and so none comes again
-  pub ended : (serial worker : ℕ) → 0 < drains serial worker log.events → pins serial log.events ≡ unpins serial log.events
+  pub ended : (serial worker : ℕ) → 0 < drains serial worker log.events
+      → pins serial log.events ≡ unpins serial log.events
   -- and a later generation is published
-  pub replaced : (serial worker : ℕ) → 0 < drains serial worker log.events → serial + 1 < log.machine.published
-  -- for each worker a slot was drained as often as it was published, but for the generation in it that isn't drained yet
-  pub each : (slot worker : ℕ) → slot < 4 → worker < count log.machine
-      → drains_in slot worker log.events + (if is_undrained worker (slot_at log.machine slot).phase then 1 else 0) ≡ publications_in slot log.events
+  pub replaced : (serial worker : ℕ) → 0 < drains serial worker log.events
+      → serial + 1 < log.machine.published
+  -- for each worker a slot was drained as often as it was published, but for the generation in it
+  -- that isn't drained yet
+  pub each : (slot worker : ℕ) → slot < SLOTS → worker < count log.machine
+      → drains_in slot worker log.events + (if is_undrained worker (slot_at log.machine slot).phase
+      then 1 else 0) ≡ publications_in slot log.events

@@ -1,7 +1,9 @@
--- The machine of pins and its six steps, and what holds of it after any of them. This server's own rule.
+-- The machine of pins and its six steps, and what holds of it after any of them. This server's own
+-- rule.
 use Rattle.std.specs.Prelude.{◌≡◌, ℕ, ◌+◌, ◌-◌, ◌^◌, ◌<◌, ◌≤◌, Bool, true, false, ◌&&◌, ◌==◌, not, Option, Some, None, List, [], ◌∷◌, All, length, map, replicate, slice_index_or, slice_set, sum_by, count_by, if◌then◌else◌, nat_lt}
 use Rattle.std.specs.List.{position_or_len}
 use Rattle.std.specs.Option.{is_some}
+use Rattle.pin_core.specs.declared.slots.TheConstants.{MOST_PINS, MOST_SERIALS, SLOTS, WORKERS}
 use Rattle.pin_core.specs.declared.slots.Slot.{Slot}
 use Rattle.pin_core.specs.declared.slots.Phase.{Phase}
 use Rattle.pin_core.specs.declared.slots.Phase.TheVariants.{Free, Filling, Current, Replaced}
@@ -28,7 +30,8 @@ idle = record { held = None; pins = 0 }
 
 -- so many workers, all slots free, and nothing published
 abbrev pub start : ℕ → Machine
-start workers = record { published = 0; slots = replicate 4 unused; workers = replicate workers idle }
+start workers =
+    record { published = 0; slots = replicate SLOTS unused; workers = replicate workers idle }
 
 -- the slot of this number
 abbrev pub slot_at : Machine → ℕ → Slot
@@ -48,23 +51,35 @@ current m = position_or_len (λ x. is_current x.phase) m.slots
 
 -- the machine with another slot of this number
 abbrev pub with_slot : Machine → ℕ → Slot → Machine
-with_slot m s x = record { published = m.published; slots = slice_set m.slots s x; workers = m.workers }
+with_slot m s x =
+    record { published = m.published; slots = slice_set m.slots s x; workers = m.workers }
 
 -- the machine with another worker of this number
 abbrev pub with_worker : Machine → ℕ → PinWorker → Machine
-with_worker m w x = record { published = m.published; slots = m.slots; workers = slice_set m.workers w x }
+with_worker m w x =
+    record { published = m.published; slots = m.slots; workers = slice_set m.workers w x }
 
 -- this slot's generation is current, and the one that was is replaced
 abbrev pub published_at : Machine → ℕ → Machine
-published_at m s = record { published = m.published + 1; slots = slice_set (map replaced_slot m.slots) s (published_slot (slot_at m s)); workers = m.workers }
+published_at m s =
+    record {
+      published = m.published + 1;
+      slots = slice_set (map replaced_slot m.slots) s
+          (published_slot (slot_at m s));
+      workers = m.workers;
+    }
 
 -- a pin more of this slot and worker, the worker's open one
 abbrev pub pinned_at : Machine → ℕ → ℕ → Machine
-pinned_at m s w = with_worker (with_slot m s (pinned_slot (slot_at m s))) w (record { held = Some s; pins = (worker_at m w).pins + 1 })
+pinned_at m s w =
+    with_worker (with_slot m s (pinned_slot (slot_at m s))) w
+    (record { held = Some s; pins = (worker_at m w).pins + 1 })
 
 -- the worker's open pin, on this slot, has ended
 abbrev pub unpinned_at : Machine → ℕ → ℕ → Machine
-unpinned_at m s w = with_worker (with_slot m s (unpinned_slot (slot_at m s))) w (record { held = None; pins = (worker_at m w).pins })
+unpinned_at m s w =
+    with_worker (with_slot m s (unpinned_slot (slot_at m s))) w
+    (record { held = None; pins = (worker_at m w).pins })
 
 -- the machine behind a step, and the reply
 abbrev pub After : Type 0
@@ -77,19 +92,25 @@ unlawful m = (m, Unlawful)
 -- lawful where the slot is free or filling and lacks this worker
 abbrev pub fill : Machine → ℕ → ℕ → After
 fill m s w =
-    if nat_lt s 4 && (nat_lt w (count m) && lacks w (slot_at m s).phase) then (with_slot m s (filled_slot w (slot_at m s)), Done)
+    if nat_lt s SLOTS
+    && (nat_lt w (count m) && lacks w (slot_at m s).phase) then
+    (with_slot m s (filled_slot w (slot_at m s)), Done)
     else unlawful m
 
 -- lawful where the slot is filled for all workers, and fewer than 2^40 generations are published
 abbrev pub publish : Machine → ℕ → After
 publish m s =
-    if nat_lt s 4 && (nat_lt m.published (2 ^ 40) && is_filled (count m) (slot_at m s).phase) then (published_at m s, Done)
+    if nat_lt s SLOTS
+    && (nat_lt m.published MOST_SERIALS && is_filled (count m) (slot_at m s).phase) then
+    (published_at m s, Done)
     else unlawful m
 
 -- lawful where something is published, and the worker has no open pin and made fewer than 2^46
 abbrev pub pin : Machine → ℕ → After
 pin m w =
-    if nat_lt 0 m.published && (nat_lt w (count m) && (not (is_some (worker_at m w).held) && nat_lt (worker_at m w).pins (2 ^ 46))) then
+    if nat_lt 0 m.published
+    && (nat_lt w (count m)
+    && (not (is_some (worker_at m w).held) && nat_lt (worker_at m w).pins MOST_PINS)) then
     (pinned_at m (current m) w, Pinned (current m) (m.published - 1))
     else unlawful m
 
@@ -104,16 +125,20 @@ unpin m w = if nat_lt w (count m) then unpin_from m w (worker_at m w).held else 
 
 -- not yet while a pin is open, else ready
 abbrev pub swept : Machine → ℕ → Slot → After
-swept m s x = if nat_lt x.ended (due x) then (m, NotYet x.ended (due x)) else (with_slot m s (ready_slot x), Ready)
+swept m s x =
+    if nat_lt x.ended (due x) then (m, NotYet x.ended (due x)) else
+    (with_slot m s (ready_slot x), Ready)
 
 -- lawful where the slot's generation was replaced
 abbrev pub sweep : Machine → ℕ → After
-sweep m s = if nat_lt s 4 && is_replaced (slot_at m s).phase then swept m s (slot_at m s) else unlawful m
+sweep m s =
+    if nat_lt s SLOTS
+    && is_replaced (slot_at m s).phase then swept m s (slot_at m s) else unlawful m
 
 -- lawful where the slot's generation was replaced, is ready, and isn't drained for this worker
 abbrev pub drain : Machine → ℕ → ℕ → After
 drain m s w =
-    if nat_lt s 4 && (nat_lt w (count m) && is_drainable w (slot_at m s).phase) then
+    if nat_lt s SLOTS && (nat_lt w (count m) && is_drainable w (slot_at m s).phase) then
     (with_slot m s (drained_slot (count m) w (slot_at m s)), Done)
     else unlawful m
 
@@ -151,7 +176,7 @@ DrainsIdle m = (slot worker : ℕ) → (after m (Drain slot worker)).1 ≡ Done 
 -- a pin is on one of the four slots
 abbrev pub IsPinWithin : Option ℕ → Type 0
 IsPinWithin None = Unit {0}
-IsPinWithin (Some s) = s < 4
+IsPinWithin (Some s) = s < SLOTS
 
 -- the worker's open pin, if any, is on one of the four slots
 abbrev pub IsWithin : PinWorker → Type 0
@@ -176,16 +201,17 @@ pub record IsSmall (x : Slot) : Type 0 where
 
 -- what holds of the machine after every list of steps from the start
 pub record IsSound (m : Machine) : Type 0 where
-  pub slots : length m.slots ≡ 4
-  pub workers : (0 < count m) × (count m ≤ 32)
+  pub slots : length m.slots ≡ SLOTS
+  pub workers : (0 < count m) × (count m ≤ WORKERS)
   pub within : All IsWithin m.workers
   -- for each slot the ended and the open pins are the pins that it had
-  pub balanced : (s : ℕ) → s < 4 → (slot_at m s).ended + opens m s ≡ due (slot_at m s)
+  pub balanced : (s : ℕ) → s < SLOTS → (slot_at m s).ended + opens m s ≡ due (slot_at m s)
   pub settled : All IsSettled m.slots
   -- the pins of all slots are the pins of all workers
   pub total : sum_by due m.slots ≡ sum_by (λ x. x.pins) m.workers
-  pub pins : All (λ x. x.pins ≤ 2 ^ 46) m.workers
+  pub pins : All (λ x. x.pins ≤ MOST_PINS) m.workers
   pub small : All IsSmall m.slots
-  pub serials : m.published ≤ 2 ^ 40
+  pub serials : m.published ≤ MOST_SERIALS
   -- once something is published exactly one slot is current
-  pub one_current : count_by (λ x. is_current x.phase) m.slots ≡ (if nat_lt 0 m.published then 1 else 0)
+  pub one_current : count_by (λ x. is_current x.phase) m.slots
+      ≡ (if nat_lt 0 m.published then 1 else 0)

@@ -1,13 +1,15 @@
--- One slot, from its first filled worker to its last drained one, and what a step makes of it. This server's own rule.
+-- One slot, from its first filled worker to its last drained one, and what a step makes of it. This
+-- server's own rule.
 use Rattle.std.specs.Prelude.{ℕ, ◌+◌, Bool, true, false, not, ◌&&◌, List, take, replicate, slice_index_or, slice_set, if◌then◌else◌}
 use Rattle.std.specs.List.{list_all}
+use Rattle.pin_core.specs.declared.slots.TheConstants.{WORKERS}
 use Rattle.pin_core.specs.declared.slots.Slot.{Slot}
 use Rattle.pin_core.specs.declared.slots.Phase.{Phase}
 use Rattle.pin_core.specs.declared.slots.Phase.TheVariants.{Free, Filling, Current, Replaced}
 
 -- no worker is marked
 abbrev pub no_marks : List Bool
-no_marks = replicate 32 false
+no_marks = replicate WORKERS false
 
 -- whether this worker is marked
 abbrev pub is_marked : ℕ → List Bool → Bool
@@ -70,7 +72,8 @@ due_by base (Filling marks) = base
 due_by base (Current pins) = base + pins
 due_by base (Replaced total ready drained) = total
 
--- the pins that the slot had so far: base, base plus pins where it is current, total where it was replaced
+-- the pins that the slot had so far: base, base plus pins where it is current, total where it was
+-- replaced
 abbrev pub due : Slot → ℕ
 due x = due_by x.base x.phase
 
@@ -130,17 +133,20 @@ ready_phase (Replaced total ready drained) = Replaced total true drained
 abbrev pub ready_slot : Slot → Slot
 ready_slot x = with_phase x (ready_phase x.phase)
 
--- a replaced slot with these marks of drained workers: free where each is drained, its base then what ended
+-- a replaced slot with these marks of drained workers: free where each is drained, its base then
+-- what ended
 abbrev pub drained_to : ℕ → Slot → ℕ → Bool → List Bool → Slot
 drained_to workers x total ready drained =
-    if is_all workers drained then record { base = x.ended; ended = x.ended; phase = Free } else with_phase x (Replaced total ready drained)
+    if is_all workers drained then record { base = x.ended; ended = x.ended; phase = Free } else
+    with_phase x (Replaced total ready drained)
 
 -- the slot in its phase, drained for one worker more
 abbrev pub drained_by : ℕ → ℕ → Slot → Phase → Slot
 drained_by workers worker x Free = x
 drained_by workers worker x (Filling marks) = x
 drained_by workers worker x (Current pins) = x
-drained_by workers worker x (Replaced total ready drained) = drained_to workers x total ready (with_mark worker drained)
+drained_by workers worker x (Replaced total ready drained) =
+    drained_to workers x total ready (with_mark worker drained)
 
 -- the slot, drained for one worker more
 abbrev pub drained_slot : ℕ → ℕ → Slot → Slot

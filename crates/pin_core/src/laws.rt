@@ -12,7 +12,8 @@ pub fn sound_always(workers: u32)
     ensures { (steps : List PinStep) → IsSound (run (start workers) steps) }
 {}
 
-/// Over every list of steps a generation is drained at most once for each worker, after its last pin.
+/// Over every list of steps a generation is drained at most once for each worker, after its last
+/// pin.
 pub fn retires_once(workers: u32)
     requires { (0 < workers) × (workers ≤ WORKERS) }
 
@@ -20,6 +21,7 @@ pub fn retires_once(workers: u32)
     ensures idle { (steps : List PinStep) → DrainsIdle (run (start workers) steps) }
 
     // The log is that of these steps, and it tells one retirement of each generation.
-    ensures machine { (steps : List PinStep) → (log_of workers steps).machine ≡ run (start workers) steps }
+    ensures machine { (steps : List PinStep)
+        → (log_of workers steps).machine ≡ run (start workers) steps }
     ensures once { (steps : List PinStep) → RetiresOnce (log_of workers steps) }
 {}

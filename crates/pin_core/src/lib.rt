@@ -9,6 +9,6 @@ mod steps;
 mod tests;
 
 pub use laws::{retires_once, sound_always};
-pub use slots::{Phase, PinWorker, SLOTS, Slot, WORKERS};
+pub use slots::{MOST_PINS, MOST_SERIALS, Phase, PinWorker, SLOTS, Slot, WORKERS};
 pub use state::{NoMemory, PinState};
 pub use steps::{PinReply, PinStep};

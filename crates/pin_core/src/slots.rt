@@ -1,12 +1,18 @@
 //! A slot, a worker's pins, and what one step makes of each.
 ghost use Rattle.std.specs.Prelude.{◌≡◌, ◌+◌, ◌<◌, ◌≤◌, ◌^◌, length};
-ghost use Rattle.pin_core.specs.Slots.{is_all, lacks, is_filled, is_free, is_current, is_drainable, due, filled_slot, published_slot, replaced_slot, pinned_slot, drained_slot};
+ghost use Rattle.pin_core.specs.Slots.{is_all, lacks, is_filled, is_current, is_drainable, due, filled_slot, published_slot, replaced_slot, pinned_slot, drained_slot};
 
 /// How many generations there may be at once: the current one, those still pinned, and the next.
 pub const SLOTS: usize = 4;
 
 /// The most workers that there may be.
 pub const WORKERS: usize = 32;
+
+/// The serials that there may be; each is published once.
+pub const MOST_SERIALS: u64 = 1 << 40;
+
+/// The pins that one worker may make.
+pub const MOST_PINS: u64 = 1 << 46;
 
 /// What a slot is for at present. Marks are by worker, for 32 workers however many there are.
 #[derive(Clone, Copy, Debug)]
@@ -68,12 +74,6 @@ impl Phase {
             Phase::Filling(marks) => all_marked(marks, workers),
             _ => false,
         }
-    }
-
-    pub(crate) fn is_free(&self) -> bool
-        ensures { result ≡ is_free self.now }
-    {
-        matches!(self, Phase::Free)
     }
 
     #[inline]

@@ -1,9 +1,9 @@
 //! The machine: its state, its reads and its steps.
 ghost use Rattle.std.specs.Prelude.{◌≡◌, ◌+◌, ◌<◌, ◌≤◌, ◌^◌, ◌↔◌, IfOk, IfSome, IsNone, All, map, position};
-ghost use Rattle.pin_core.specs.Slots.{is_free, is_current, replaced_slot, due};
+ghost use Rattle.pin_core.specs.Slots.{is_current, replaced_slot, due};
 ghost use Rattle.pin_core.specs.Machine.{IsSound, start, current, after, fill, publish, pin, unpin, sweep, drain};
 
-use crate::slots::{Phase, PinWorker, SLOTS, Slot, WORKERS};
+use crate::slots::{MOST_PINS, MOST_SERIALS, Phase, PinWorker, SLOTS, Slot, WORKERS};
 use crate::steps::{PinReply, PinStep};
 use std::alloc::{AllocError, Global};
 use std::marker::Model;
@@ -18,12 +18,6 @@ impl From<AllocError> for NoMemory {
     }
 }
 
-/// The serials that there may be; each is published once.
-const MOST_SERIALS: u64 = 1 << 40;
-
-/// The pins that one worker may make.
-const MOST_PINS: u64 = 1 << 46;
-
 /// The pins of all workers on the generations of all slots.
 #[derive(Drop)]
 pub struct PinState {
@@ -37,9 +31,17 @@ impl Model for PinState {
 
     ghost Value = { Machine };
 
-    ghost view = { λ s. record { published = s.published; slots = s.slots; workers = s.workers.items } };
+    ghost view = { λ s. record {
+      published = s.published;
+      slots = s.slots;
+      workers = s.workers.items;
+    } };
 
-    ghost invariant = { λ s. IsSound (record { published = s.published; slots = s.slots; workers = s.workers.items }) };
+    ghost invariant = { λ s. IsSound (record {
+      published = s.published;
+      slots = s.slots;
+      workers = s.workers.items;
+    }) };
 }
 
 fn replace_all(slots: &mut [Slot; SLOTS])
@@ -56,12 +58,6 @@ fn current_of(slots: &[Slot]) -> Option<usize>
     ensures { result ≡ position (λ x. is_current x.phase) slots.now }
 {
     slots.iter().position(|slot| slot.phase.is_current())
-}
-
-fn free_of(slots: &[Slot]) -> Option<usize>
-    ensures { result ≡ position (λ x. is_free x.phase) slots.now }
-{
-    slots.iter().position(|slot| slot.phase.is_free())
 }
 
 impl PinState {
@@ -103,14 +99,6 @@ impl PinState {
         ensures within { IfSome result (λ s. s < SLOTS) }
     {
         let slot = current_of(&self.slots)?;
-        Some(slot as u32)
-    }
-
-    /// The least free slot.
-    pub fn free_slot(&self) -> Option<u32>
-        ensures { result ≡ position (λ x. is_free x.phase) self.now.slots }
-    {
-        let slot = free_of(&self.slots)?;
         Some(slot as u32)
     }
 

@@ -7,6 +7,7 @@ use Rattle.std.proofs.lemmas.List.{get_or-replicate, length-replicate}
 use Rattle.std.proofs.lemmas.List.Elements.{All-get_or}
 use Rattle.std.proofs.lemmas.List.Sums.{sum_by-set, sum_by-cons, get_or-le-sum_by}
 use Rattle.std.proofs.lemmas.Bool.{false≢true, ne_eqb, ltb-true, ltb-false}
+use Rattle.pin_core.specs.declared.slots.TheConstants.{MOST_PINS, MOST_SERIALS}
 use Rattle.pin_core.specs.declared.slots.Slot.{Slot}
 use Rattle.pin_core.specs.declared.slots.Phase.{Phase}
 use Rattle.pin_core.specs.declared.slots.Phase.TheVariants.{Free, Filling, Current, Replaced}
@@ -56,7 +57,7 @@ numbered_current n k (Filling marks) is h = absurd (false≢true is)
 numbered_current n k (Current made) is h = h
 numbered_current n k (Replaced total ready drained) is h = absurd (false≢true is)
 
-traced_pin : (m : Machine) (s w : ℕ) (es : List Event) → IsTraced (record { machine = m; events = es }) → s < 4 → w < count m → is_current (slot_at m s).phase ≡ true → (worker_at m w).held ≡ None → (worker_at m w).pins < 2 ^ 46
+traced_pin : (m : Machine) (s w : ℕ) (es : List Event) → IsTraced (record { machine = m; events = es }) → s < 4 → w < count m → is_current (slot_at m s).phase ≡ true → (worker_at m w).held ≡ None → (worker_at m w).pins < MOST_PINS
     → IsTraced (record { machine = pinned_at m s w; events = was_pinned (m.published - 1) ∷ es })
 traced_pin m s w es h in' at is none few =
     let k = m.published - 1 in
@@ -188,7 +189,7 @@ next_serial j n = by_tests (ltb j n) refl (ltb j (n + 1)) refl
     by_tests false e true f = let above = ltb-false j n e in let below = ltb-true j (n + 1) f in omega (arith, ap one_if e, ap one_if f, ap one_if (eq-eqb n j (omega arith)))
     by_tests false e false f = let above = ltb-false j (n + 1) f in omega (arith, ap one_if e, ap one_if f, ap one_if (ne_eqb n j (λ same. omega arith)))
 
-traced_publish : (m : Machine) (s : ℕ) (es : List Event) → IsTraced (record { machine = m; events = es }) → s < 4 → m.published < 2 ^ 40 → is_filled (count m) (slot_at m s).phase ≡ true
+traced_publish : (m : Machine) (s : ℕ) (es : List Event) → IsTraced (record { machine = m; events = es }) → s < 4 → m.published < MOST_SERIALS → is_filled (count m) (slot_at m s).phase ≡ true
     → IsTraced (record { machine = published_at m s; events = was_published s m.published ∷ es })
 traced_publish m s es h in' few is =
     let n = m.published in

@@ -3,6 +3,7 @@ use Rattle.std.specs.Prelude.{◌≡◌, ℕ, ◌+◌, ◌-◌, ◌^◌, ◌<◌
 use Rattle.std.specs.Option.{is_some}
 use Rattle.std.proofs.Common.{cond, ap, ◌∙◌, length-set}
 use Rattle.std.proofs.lemmas.Bool.{false≢true, ltb-true, ltb-false, lt-ltb, le-ltb, and_parts, and_from}
+use Rattle.pin_core.specs.declared.slots.TheConstants.{MOST_PINS, MOST_SERIALS}
 use Rattle.pin_core.specs.declared.steps.PinStep.{PinStep}
 use Rattle.pin_core.specs.declared.steps.PinStep.TheVariants.{Fill, Publish, Pin, Unpin, Sweep, Drain}
 use Rattle.pin_core.specs.declared.steps.PinReply.TheVariants.{Done, Pinned, NotYet, Ready, Unlawful}
@@ -27,10 +28,10 @@ pub by_rows : (m : Machine) (P : PinStep → After → Type 0) → Rows m P → 
 by_rows m P r (Fill s w) =
     by_test _ (P (Fill s w)) _ _ (λ e. let t = and_parts _ _ e in let u = and_parts _ _ t.1 in r.fill s w (ltb-true s 4 t.0) (ltb-true w (count m) u.0) u.1) (λ _. r.refused (Fill s w))
 by_rows m P r (Publish s) =
-    by_test _ (P (Publish s)) _ _ (λ e. let t = and_parts _ _ e in let u = and_parts _ _ t.1 in r.publish s (ltb-true s 4 t.0) (ltb-true m.published (2 ^ 40) u.0) u.1) (λ _. r.refused (Publish s))
+    by_test _ (P (Publish s)) _ _ (λ e. let t = and_parts _ _ e in let u = and_parts _ _ t.1 in r.publish s (ltb-true s 4 t.0) (ltb-true m.published (MOST_SERIALS) u.0) u.1) (λ _. r.refused (Publish s))
 by_rows m P r (Pin w) =
     by_test _ (P (Pin w)) _ _ (λ e. let t = and_parts _ _ e in let u = and_parts _ _ t.1 in let v = and_parts _ _ u.1 in
-    r.pin w (ltb-true 0 m.published t.0) (ltb-true w (count m) u.0) (no_pin (worker_at m w).held v.0) (ltb-true (worker_at m w).pins (2 ^ 46) v.1)) (λ _. r.refused (Pin w))
+    r.pin w (ltb-true 0 m.published t.0) (ltb-true w (count m) u.0) (no_pin (worker_at m w).held v.0) (ltb-true (worker_at m w).pins MOST_PINS v.1)) (λ _. r.refused (Pin w))
 by_rows m P r (Unpin w) =
     by_test _ (P (Unpin w)) _ _ (λ e. by_held m w (P (Unpin w)) (worker_at m w).held (λ s is. r.unpin s w (ltb-true w (count m) e) is) (r.refused (Unpin w))) (λ _. r.refused (Unpin w))
 by_rows m P r (Sweep s) =
@@ -74,13 +75,13 @@ count-run m (step ∷ steps) = count-run (after m step).0 steps ∙ count-after 
 pub after-Fill : (m : Machine) (s w : ℕ) → s < 4 → w < count m → lacks w (slot_at m s).phase ≡ true → after m (Fill s w) ≡ (with_slot m s (filled_slot w (slot_at m s)), Done)
 after-Fill m s w in' at is = ap (λ (b : Bool). cond b (with_slot m s (filled_slot w (slot_at m s)), Done) (unlawful m)) (and_from _ _ (lt-ltb s 4 in') (and_from _ _ (lt-ltb w (count m) at) is))
 
-pub after-Publish : (m : Machine) (s : ℕ) → s < 4 → m.published < 2 ^ 40 → is_filled (count m) (slot_at m s).phase ≡ true → after m (Publish s) ≡ (published_at m s, Done)
-after-Publish m s in' few is = ap (λ (b : Bool). cond b (published_at m s, Done) (unlawful m)) (and_from _ _ (lt-ltb s 4 in') (and_from _ _ (lt-ltb m.published (2 ^ 40) few) is))
+pub after-Publish : (m : Machine) (s : ℕ) → s < 4 → m.published < MOST_SERIALS → is_filled (count m) (slot_at m s).phase ≡ true → after m (Publish s) ≡ (published_at m s, Done)
+after-Publish m s in' few is = ap (λ (b : Bool). cond b (published_at m s, Done) (unlawful m)) (and_from _ _ (lt-ltb s 4 in') (and_from _ _ (lt-ltb m.published (MOST_SERIALS) few) is))
 
-pub after-Pin : (m : Machine) (w : ℕ) → 0 < m.published → w < count m → (worker_at m w).held ≡ None → (worker_at m w).pins < 2 ^ 46 → after m (Pin w) ≡ (pinned_at m (current m) w, Pinned (current m) (m.published - 1))
+pub after-Pin : (m : Machine) (w : ℕ) → 0 < m.published → w < count m → (worker_at m w).held ≡ None → (worker_at m w).pins < MOST_PINS → after m (Pin w) ≡ (pinned_at m (current m) w, Pinned (current m) (m.published - 1))
 after-Pin m w some at none few =
     ap (λ (b : Bool). cond b (pinned_at m (current m) w, Pinned (current m) (m.published - 1)) (unlawful m))
-    (and_from _ _ (lt-ltb 0 m.published some) (and_from _ _ (lt-ltb w (count m) at) (and_from _ _ (ap (λ (o : Option ℕ). not (is_some o)) none) (lt-ltb (worker_at m w).pins (2 ^ 46) few))))
+    (and_from _ _ (lt-ltb 0 m.published some) (and_from _ _ (lt-ltb w (count m) at) (and_from _ _ (ap (λ (o : Option ℕ). not (is_some o)) none) (lt-ltb (worker_at m w).pins MOST_PINS few))))
 
 pub after-Unpin : (m : Machine) (s w : ℕ) → w < count m → (worker_at m w).held ≡ Some s → after m (Unpin w) ≡ (unpinned_at m s w, Done)
 after-Unpin m s w at is = ap (λ (b : Bool). cond b (unpin_from m w (worker_at m w).held) (unlawful m)) (lt-ltb w (count m) at) ∙ ap (unpin_from m w) is

@@ -8,6 +8,7 @@ use Rattle.std.proofs.lemmas.List.Elements.{All-set, All-get_or, All-from_get_or
 use Rattle.std.proofs.lemmas.List.Folds.{sum_by-replicate}
 use Rattle.std.proofs.lemmas.List.Sums.{sum_by-set, sum_by-cons, sum_by-le, get_or-le-sum_by, passes_at_first, fails_before_first, position_or_len_is}
 use Rattle.std.proofs.lemmas.Bool.{false≢true, lt-ltb, ltb-true, ne_eqb, ltb-false}
+use Rattle.pin_core.specs.declared.slots.TheConstants.{MOST_PINS, MOST_SERIALS}
 use Rattle.pin_core.specs.declared.slots.Slot.{Slot}
 use Rattle.pin_core.specs.declared.slots.Phase.{Phase}
 use Rattle.pin_core.specs.declared.slots.Phase.TheVariants.{Free, Filling, Current, Replaced}
@@ -42,16 +43,16 @@ record Counted (m : Machine) : Type 0 where
   balanced : (s : ℕ) → s < 4 → (slot_at m s).ended + opens m s ≡ due (slot_at m s)
   settled : All IsSettled m.slots
   total : sum_by due m.slots ≡ sum_by (λ x. x.pins) m.workers
-  pins : All (λ x. x.pins ≤ 2 ^ 46) m.workers
+  pins : All (λ x. x.pins ≤ MOST_PINS) m.workers
   bases : All (λ x. x.base < 2 ^ 52) m.slots
-  serials : m.published ≤ 2 ^ 40
+  serials : m.published ≤ MOST_SERIALS
   one_current : count_by (λ x. is_current x.phase) m.slots ≡ cond (nat_lt 0 m.published) 1 0
 
 -- no slot had more pins than all workers made
 due_small : (m : Machine) → Counted m → (s : ℕ) → s < 4 → due (slot_at m s) < 2 ^ 52
 due_small m h s in' =
     let one = get_or-le-sum_by due m.slots s unused (omega (arith, h.slots)) in
-    let all = sum_by-le (λ (x : PinWorker). x.pins) (2 ^ 46) m.workers h.pins in
+    let all = sum_by-le (λ (x : PinWorker). x.pins) MOST_PINS m.workers h.pins in
     let few : count m ≤ 32 = h.workers.1 in omega (arith, h.total)
 
 sound_of : (m : Machine) → Counted m → IsSound m
@@ -151,7 +152,7 @@ record Moved (s : ℕ) (x y : Slot) (u v : PinWorker) : Type 0 where
   settled : IsSettled y
   current : is_current y.phase ≡ is_current x.phase
   within : IsWithin v
-  few : v.pins ≤ 2 ^ 46
+  few : v.pins ≤ MOST_PINS
 
 sound_moved : (m : Machine) (s w : ℕ) (y : Slot) (v : PinWorker) → IsSound m → s < 4 → w < count m → Moved s (slot_at m s) y (worker_at m w) v → IsSound (with_worker (with_slot m s y) w v)
 sound_moved m s w y v h in' at k =
@@ -167,7 +168,7 @@ sound_moved m s w y v h in' at k =
           (λ ne. omega (arith, opened t, k.others t ne, h.balanced t l));
       settled = All-set IsSettled m.slots s y k.settled h.settled;
       total = (let e = sum_by-set due m.slots s y unused here in let f = sum_by-set (λ (z : PinWorker). z.pins) m.workers w v idle at in omega (arith, e, f, k.pins, h.total));
-      pins = All-set (λ (z : PinWorker). z.pins ≤ 2 ^ 46) m.workers w v k.few h.pins;
+      pins = All-set (λ (z : PinWorker). z.pins ≤ MOST_PINS) m.workers w v k.few h.pins;
       bases = All-set (λ (z : Slot). z.base < 2 ^ 52) m.slots s y (omega (arith, k.base, small.base)) (bases_of m h);
       serials = h.serials;
       one_current = (let e = sum_by-set (λ (z : Slot). one_if (is_current z.phase)) m.slots s y unused here in
@@ -218,7 +219,7 @@ current_within m h some = by_past (ltb (current m) 4) refl
     by_past true e = found (ltb-true (current m) 4 e)
     by_past false e = absurd (nothing (ltb-false (current m) 4 e))
 
-pub sound_pin : (m : Machine) (s w : ℕ) → IsSound m → s < 4 → w < count m → is_current (slot_at m s).phase ≡ true → (worker_at m w).held ≡ None → (worker_at m w).pins < 2 ^ 46 → IsSound (pinned_at m s w)
+pub sound_pin : (m : Machine) (s w : ℕ) → IsSound m → s < 4 → w < count m → is_current (slot_at m s).phase ≡ true → (worker_at m w).held ≡ None → (worker_at m w).pins < MOST_PINS → IsSound (pinned_at m s w)
 sound_pin m s w h in' at is none few =
     let x = slot_at m s in
     let v : PinWorker = record { held = Some s; pins = (worker_at m w).pins + 1 } in
@@ -256,7 +257,7 @@ sound_unpin m s w h at is =
       settled = settled_unpinned x.base x.ended (opens m s) x.phase (omega (arith, some, one)) (h.balanced s in') (All-get_or IsSettled m.slots s unused (omega (arith, h.slots)) h.settled);
       current = refl;
       within = tt;
-      few = All-get_or (λ (z : PinWorker). z.pins ≤ 2 ^ 46) m.workers w idle at h.pins;
+      few = All-get_or (λ (z : PinWorker). z.pins ≤ MOST_PINS) m.workers w idle at h.pins;
     }
 
 due_replaced : (b : ℕ) (p : Phase) → due_by b (replaced_phase b p) ≡ due_by b p
@@ -295,7 +296,7 @@ due_filled n b (Filling marks) is = refl
 due_filled n b (Current pins) is = absurd (false≢true is)
 due_filled n b (Replaced total ready drained) is = absurd (false≢true is)
 
-pub sound_publish : (m : Machine) (s : ℕ) → IsSound m → s < 4 → m.published < 2 ^ 40 → is_filled (count m) (slot_at m s).phase ≡ true → IsSound (published_at m s)
+pub sound_publish : (m : Machine) (s : ℕ) → IsSound m → s < 4 → m.published < MOST_SERIALS → is_filled (count m) (slot_at m s).phase ≡ true → IsSound (published_at m s)
 sound_publish m s h in' few is =
     let here : s < length m.slots = omega (arith, h.slots) in
     let old = map replaced_slot m.slots in
@@ -375,7 +376,7 @@ sound_start n some few = sound_of (start n) record {
   balanced = λ s l. subst (λ (x : Slot). x.ended + opens (start n) s ≡ due x) (sym (get_or-replicate 4 s unused unused l)) (let e = sum_by-replicate (λ (z : PinWorker). one_if (is_open_on s z)) n idle in omega (arith, e));
   settled = All-replicate IsSettled 4 unused refl;
   total = omega (arith, sum_by-replicate (λ (z : PinWorker). z.pins) n idle);
-  pins = All-replicate (λ (z : PinWorker). z.pins ≤ 2 ^ 46) n idle (omega arith);
+  pins = All-replicate (λ (z : PinWorker). z.pins ≤ MOST_PINS) n idle (omega arith);
   bases = All-replicate (λ (z : Slot). z.base < 2 ^ 52) 4 unused (omega arith);
   serials = omega arith;
   one_current = refl;

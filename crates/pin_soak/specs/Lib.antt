@@ -1,0 +1,4 @@
+pub mod Chains
+pub mod Keepers
+pub mod Roles
+pub mod Workers

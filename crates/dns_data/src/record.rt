@@ -1,7 +1,8 @@
 ghost use Rattle.std.specs.Prelude.{◌≡◌, ◌^◌, ◌<◌, ◌≤◌, length};
 ghost use Rattle.std.specs.List.{AllByRecursion};
 ghost use Rattle.dns_data.specs.Name.{IsName};
-ghost use Rattle.dns_data.specs.Record.{IsFormed, NumbersFit, SoaFits, kind_of, data_length, names_in, has_form, strings_length};
+ghost use Rattle.dns_data.specs.Record.{IsFormed, NumbersFit, kind_of, data_length, names_in, has_form, strings_length};
+ghost use Rattle.dns_data.specs.declared.record.Rdata.TheVariants as rdata;
 
 use crate::{Bytes, Copies, Name, NoMemory, Strings};
 use std::alloc::Global;
@@ -23,7 +24,7 @@ impl Soa {
     // Tells that the numbers are in the range of their Rust type. It does nothing.
     #[inline]
     fn read_numbers(&self)
-        ensures { SoaFits self.now }
+        ensures { NumbersFit (rdata.Soa self.now) }
     {
         let _serial = self.serial;
         let _refresh = self.refresh;

@@ -1,10 +1,10 @@
 -- Resource records as plain data (RFC 1035, sections 3.2 and 3.3), the fields of their data, and when one is proper.
-use Rattle.std.specs.Prelude.{◌≡◌, ℕ, zero, suc, ◌+◌, ◌≤◌, ◌<◌, ◌^◌, ◌==◌, ◌||◌, Bool, true, false, List, [], ◌∷◌, length, map, if◌then◌else◌}
+use Rattle.std.specs.Prelude.{◌≡◌, ℕ, ◌+◌, ◌≤◌, ◌<◌, ◌^◌, ◌==◌, ◌||◌, Bool, false, List, [], ◌∷◌, length}
 use Rattle.std.specs.List.{AllByRecursion}
 use Rattle.dns_data.specs.Name.{IsName, wire_length}
 use Rattle.dns_data.specs.declared.record.Rdata.{Rdata}
 use Rattle.dns_data.specs.declared.record.Rdata.TheVariants as rdata
-use Rattle.dns_data.specs.declared.record.Soa.{Soa}
+use Rattle.dns_data.specs.declared.kind.TheConstants as kinds
 
 pub record RecordData : Type 0 where
   pub owner : List (List ℕ)
@@ -28,21 +28,21 @@ pub data Field : Type 0 where
   Remainder : List ℕ → Field
   Unknown : ℕ → List ℕ → Field
 
--- THE TABLE OF TYPES: the number of a type, the fields of its data in their order, and the data that has such fields
+-- The table of types: their numbers, and the fields of their data.
 
 -- the number of a type
 abbrev pub kind_of : Rdata → ℕ
-kind_of (rdata.A addr) = 1
-kind_of (rdata.Ns name) = 2
-kind_of (rdata.Cname name) = 5
-kind_of (rdata.Soa soa) = 6
-kind_of (rdata.Ptr name) = 12
-kind_of (rdata.Hinfo cpu os) = 13
-kind_of (rdata.Mx preference exchange) = 15
-kind_of (rdata.Txt strings) = 16
-kind_of (rdata.Aaaa addr) = 28
-kind_of (rdata.Srv priority weight port target) = 33
-kind_of (rdata.Caa flags tag value) = 257
+kind_of (rdata.A addr) = kinds.A
+kind_of (rdata.Ns name) = kinds.NS
+kind_of (rdata.Cname name) = kinds.CNAME
+kind_of (rdata.Soa soa) = kinds.SOA
+kind_of (rdata.Ptr name) = kinds.PTR
+kind_of (rdata.Hinfo cpu os) = kinds.HINFO
+kind_of (rdata.Mx preference exchange) = kinds.MX
+kind_of (rdata.Txt strings) = kinds.TXT
+kind_of (rdata.Aaaa addr) = kinds.AAAA
+kind_of (rdata.Srv priority weight port target) = kinds.SRV
+kind_of (rdata.Caa flags tag value) = kinds.CAA
 kind_of (rdata.Opaque kind bytes) = kind
 
 -- the fields of the data, in their order
@@ -62,9 +62,9 @@ fields_of (rdata.Caa flags tag value) = U8 flags ∷ NonEmpty tag ∷ Remainder 
 fields_of (rdata.Opaque kind bytes) = Unknown kind bytes ∷ []
 
 -- whether a type has a form of its own, OPT (41) among them, so that no record of it is opaque
-unfoldable pub has_form : ℕ → Bool
-has_form kind =
-    kind == 1 || kind == 2 || kind == 5 || kind == 6 || kind == 12 || kind == 13 || kind == 15 || kind == 16 || kind == 28 || kind == 33 || kind == 41 || kind == 257
+unfoldable pub is_known_type : ℕ → Bool
+is_known_type kind =
+    kind == kinds.A || kind == kinds.NS || kind == kinds.CNAME || kind == kinds.SOA || kind == kinds.PTR || kind == kinds.HINFO || kind == kinds.MX || kind == kinds.TXT || kind == kinds.AAAA || kind == kinds.SRV || kind == kinds.OPT || kind == kinds.CAA
 
 -- strings, each behind its length byte
 abbrev pub strings_length : List (List ℕ) → ℕ
@@ -110,16 +110,16 @@ abbrev pub data_length : Rdata → ℕ
 data_length d = names_length (names_in d) + texts_length (fields_of d)
 
 -- a string's length stands in a byte
-abbrev pub IsString : List ℕ → Type 0
-IsString string = length string ≤ 255
+abbrev pub IsCharacterString : List ℕ → Type 0
+IsCharacterString string = length string ≤ 255
 
 -- strings have their form, a tag has at least one byte (RFC 8659, section 4.1), and bytes without a form are those of a
 -- type that has none
 abbrev pub HasForm : Field → Type 0
-HasForm (CharString text) = IsString text
-HasForm (NonEmpty text) = (1 ≤ length text) × IsString text
-HasForm (CharStrings texts) = AllByRecursion IsString texts
-HasForm (Unknown kind text) = has_form kind ≡ false
+HasForm (CharString text) = IsCharacterString text
+HasForm (NonEmpty text) = (1 ≤ length text) × IsCharacterString text
+HasForm (CharStrings texts) = AllByRecursion IsCharacterString texts
+HasForm (Unknown kind text) = is_known_type kind ≡ false
 HasForm field = Unit {0}
 
 pub record AreFormed (fields : List Field) : Type 0 where

@@ -58,7 +58,7 @@ pub use name::Name;
 pub use name_read::NameFault;
 pub use net::Net;
 pub use query::Query;
-pub use record::{Rdata, Record, Soa, has_form};
+pub use record::{Rdata, Record, Soa, is_known_type};
 pub use seq::{Copies, Seq};
 pub use text::Text;
 pub use zone::Zone;

@@ -8,7 +8,7 @@ use Rattle.dns_data.specs.declared.message.Transport.TheVariants.{Udp, Tcp}
 use Rattle.dns_data.specs.declared.query.Query.{Query}
 use Rattle.dns_wire.specs.declared.fault.Head.{Head}
 use Rattle.dns_wire.specs.Wire.{flag_at}
-use Rattle.dns_wire.specs.Spells.{AsksElse, AsksNothing}
+use Rattle.dns_wire.specs.Spells.{HasOtherOpcode, IsMalformed}
 use Rattle.dns_wire.specs.Asked.{QueriesThis}
 use Rattle.dns_wire.specs.declared.asked.Asked.{Asked}
 use Rattle.dns_wire.specs.Written.{bit, written}
@@ -128,13 +128,13 @@ header_reply id opcode rd rcode = to_be_bytes w16 id ++ (128 + 8 * opcode + bit 
 -- NOTIMP, with the opcode that came (RFC 1035, section 4.1.1)
 pub record RefusesOpcode (d : Datagram) (reply : List ℕ) : Type 0 where
   pub head : Head
-  pub asks : AsksElse d.bytes head
+  pub asks : HasOtherOpcode d.bytes head
   pub bytes : reply ≡ header_reply head.id head.opcode head.rd 4
 
 -- FORMERR
 pub record RefusesForm (d : Datagram) (reply : List ℕ) : Type 0 where
   pub head : Head
-  pub asks : AsksNothing d.bytes head
+  pub asks : IsMalformed d.bytes head
   pub bytes : reply ≡ header_reply head.id 0 head.rd 1
 
 -- what a datagram means, and that its meaning takes no marks. Want of memory is always allowed.

@@ -9,7 +9,7 @@ use crate::corefile::Block;
 use crate::room::Room;
 use crate::whoami::whoami_answer;
 use dns_data::{Answer, Bytes, NoMemory, Opt, Query, Question, Records, Seq, Transport};
-use dns_wire::{Asked, Head, Header, MessageParts, QueryFault, read_asked, write_parts};
+use dns_wire::{Asked, Flags, Head, MessageParts, QueryFault, read_asked, write_parts};
 use outside::Datagram;
 use std::alloc::Global;
 
@@ -227,10 +227,10 @@ fn replying<'a>(
     answer: &'a Answer,
 ) -> MessageParts<'a>
     ensures message { message_of result ≡ replying id class opt query.now answer.now }
-    ensures codes { AreCodes result.header.opcode result.header.rcode }
+    ensures codes { AreCodes result.flags.opcode result.flags.rcode }
 {
     MessageParts {
-        header: Header {
+        flags: Flags {
             id,
             qr: true,
             opcode: 0,

@@ -1,11 +1,13 @@
 pub mod Wire
-pub mod Runs
+pub mod Sequences
 pub mod Data
+pub mod Fields
+pub mod Cursor
 pub mod Records
 pub mod Spells
 pub mod Asked
 pub mod Reads
 pub mod Written
-pub mod Places
+pub mod Offsets
 pub mod Assembled
 pub mod Putting

@@ -1,6 +1,6 @@
 ghost use Rattle.std.specs.Prelude.{◌≡◌};
 ghost use Rattle.dns_wire.specs.declared.fault.QueryFault.TheVariants as fault;
-ghost use Rattle.dns_wire.specs.declared.fault.ReplyFault.TheVariants as reply;
+ghost use Rattle.dns_wire.specs.declared.fault.WireFault.TheVariants as reply;
 
 /// What the header of a query says, for an answer to a query that isn't read: its id, its opcode (below 16) and RD.
 #[derive(Clone, Copy, Debug, PartialEq, Eq)]
@@ -26,7 +26,7 @@ pub enum QueryFault {
 
 /// Why bytes are no reply.
 #[derive(Clone, Copy, Debug, PartialEq, Eq)]
-pub enum ReplyFault {
+pub enum WireFault {
     /// No message with QR set, opcode QUERY and one question.
     Bad,
     NoMemory,
@@ -40,10 +40,10 @@ impl From<dns_data::NoMemory> for QueryFault {
     }
 }
 
-impl From<dns_data::NoMemory> for ReplyFault {
+impl From<dns_data::NoMemory> for WireFault {
     ghost from_gives = { λ _ e. e ≡ reply.NoMemory };
 
-    fn from(_: dns_data::NoMemory) -> ReplyFault {
-        ReplyFault::NoMemory
+    fn from(_: dns_data::NoMemory) -> WireFault {
+        WireFault::NoMemory
     }
 }

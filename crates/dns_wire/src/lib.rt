@@ -2,13 +2,16 @@
 #![tactic(auto)]
 
 mod asked;
+mod character_string;
+mod cursor;
 mod fault;
+mod header;
 mod message;
 mod name;
 mod number;
+mod offsets;
 #[cfg(test)]
 mod outside_messages;
-mod places;
 mod query;
 mod rdata;
 mod record;
@@ -25,7 +28,8 @@ mod write_tests;
 mod writer;
 
 pub use asked::{Asked, read_asked};
-pub use fault::{Head, QueryFault, ReplyFault};
+pub use fault::{Head, QueryFault, WireFault};
+pub use header::Flags;
 pub use query::read_query;
 pub use reply::read_reply;
-pub use write::{Header, MessageParts, write_message, write_parts};
+pub use write::{MessageParts, write_message, write_parts};

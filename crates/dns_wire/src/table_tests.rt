@@ -195,7 +195,7 @@ const SPOILT: [(&str, &str); 43] = [
     ),
     (
         "123484000001000000000000c00b00010001",
-        "pointer to place 11",
+        "pointer to offset 11",
     ),
     (
         "123484000001000000000000c00ec00c00010001",
@@ -229,11 +229,11 @@ const SPOILT: [(&str, &str); 43] = [
     ),
     (
         "123484000001000000000000076578616d706c65036f72670000",
-        "type cut",
+        "type truncated",
     ),
     (
         "123484000001000000000000076578616d706c65036f726700000100",
-        "class cut",
+        "class truncated",
     ),
     (
         "123484000001000100000000076578616d706c65036f72670000010001",
@@ -245,7 +245,7 @@ const SPOILT: [(&str, &str); 43] = [
     ),
     (
         "123484000001000100000000076578616d706c65036f72670000010001c00c0001000100000e100004c00002",
-        "data cut",
+        "data truncated",
     ),
     (
         "123484000001000100000000076578616d706c65036f72670000010001c00c0001000100000e100003c00002",
@@ -269,11 +269,11 @@ const SPOILT: [(&str, &str); 43] = [
     ),
     (
         "123484000001000100000000076578616d706c65036f72670000010001c00c0005000100000e1000020161",
-        "CNAME whose name runs out",
+        "CNAME whose name sequences out",
     ),
     (
         "123484000001000100000000076578616d706c65036f72670000010001c00c0006000100000e100014c00cc00c00000001000000010000000100000001",
-        "SOA cut by a number",
+        "SOA truncated by a number",
     ),
     (
         "123484000001000100000000076578616d706c65036f72670000010001c00c0006000100000e100019c00cc00c000000010000000100000001000000010000000100",
@@ -333,7 +333,7 @@ const SPOILT: [(&str, &str); 43] = [
     ),
     (
         "123484000001000000000001076578616d706c65036f7267000001000100002904d0000000000004000a",
-        "OPT whose data is cut",
+        "OPT whose data is truncated",
     ),
     (
         "123484000001000100000000076578616d706c65036f72670000010001c0ff0001000100000e100004c0000201",
@@ -412,10 +412,10 @@ fn edns_of(message: &Message) -> &str {
 
 // Adds the TTLs, the types and the lengths of the data.
 fn add(sums: &mut [u64; 3], records: &Records) {
-    for entry in records.as_slice() {
-        sums[0] = sums[0].saturating_add(u64::from(entry.ttl));
-        sums[1] = sums[1].saturating_add(u64::from(entry.rdata.kind()));
-        sums[2] = sums[2].saturating_add(entry.rdata.data_len() as u64);
+    for rr in records.as_slice() {
+        sums[0] = sums[0].saturating_add(u64::from(rr.ttl));
+        sums[1] = sums[1].saturating_add(u64::from(rr.rdata.kind()));
+        sums[2] = sums[2].saturating_add(rr.rdata.data_len() as u64);
     }
 }
 

@@ -118,7 +118,7 @@ fn refuses_a_query_that_spells_no_message(rt: HostRuntime) -> Result<(), Fail> {
         (11, 2, "one record too few"),
         (12, 0x40, "a label byte with the upper bits 01"),
         (12, 0x80, "a label byte with the upper bits 10"),
-        (20, 8, "a name that runs into its type"),
+        (20, 8, "a name that sequences into its type"),
         (29, 1, "OPT below a label"),
         (39, 1, "data of OPT behind the end"),
     ];
@@ -246,7 +246,7 @@ fn refuses_replies_that_are_spoilt(rt: HostRuntime) -> Result<(), Fail> {
             0x40,
             "a label byte with the upper bits 01",
         ),
-        (MX.as_slice(), 30, 0x1d, "a pointer at its own run"),
+        (MX.as_slice(), 30, 0x1d, "a pointer at its own sequence"),
         (MX.as_slice(), 30, 0x0b, "a pointer into the header"),
         (MX.as_slice(), 40, 8, "data shorter than its form"),
         (MX.as_slice(), 40, 10, "data longer than its form"),
@@ -264,7 +264,7 @@ fn refuses_replies_that_are_spoilt(rt: HostRuntime) -> Result<(), Fail> {
     for (bytes, at, byte, what) in one_byte_is_other {
         let bytes = with(rt.alloc(), bytes, at, byte)?;
         assert!(rt;
-            matches!(read_reply(rt.alloc(), &bytes), Err(ReplyFault::Bad)),
+            matches!(read_reply(rt.alloc(), &bytes), Err(WireFault::Bad)),
             "{what}"
         );
     }
@@ -292,11 +292,11 @@ fn head(opcode: u8, rd: bool) -> Head {
     }
 }
 
-// The bytes with another one at a place.
+// The bytes with another one at an offset.
 fn with(alloc: Global, bytes: &[u8], at: usize, byte: u8) -> Result<Vec<u8>, AllocError> {
     let mut other = Vec::from_slice(alloc, bytes)?;
-    if let Some(place) = other.get_mut(at) {
-        *place = byte;
+    if let Some(offset) = other.get_mut(at) {
+        *offset = byte;
     }
     Ok(other)
 }

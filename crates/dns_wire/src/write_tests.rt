@@ -98,7 +98,7 @@ fn writes_an_opt_record_with_extended_code_1(rt: HostRuntime) -> Result<(), Fail
 fn writes_in_the_memory_of_other_bytes(rt: HostRuntime) -> Result<(), Fail> {
     let message = reply(rt.alloc())?;
     let parts = MessageParts {
-        header: Header {
+        flags: Flags {
             id: 0x1234,
             qr: true,
             opcode: 0,
@@ -226,7 +226,7 @@ fn put_property(alloc: Global, records: &mut Records) -> Result<(), NoMemory> {
     put(alloc, records, Rdata::Caa(128, tag, value))
 }
 
-#[tactic(auto, unfolding(dns_data::specs::Record::has_form))]
+#[tactic(auto, unfolding(dns_data::specs::Record::is_known_type))]
 fn put_opaque(alloc: Global, records: &mut Records) -> Result<(), NoMemory> {
     let bytes = Bytes::from_slice(alloc, &[1, 2, 3])?;
     put(alloc, records, Rdata::Opaque(65_280, bytes))
@@ -255,8 +255,8 @@ fn put_service(alloc: Global, records: &mut Records) -> Result<(), NoMemory> {
 fn put(alloc: Global, records: &mut Records, rdata: Rdata) -> Result<(), NoMemory>
     requires { IsFormed rdata }
 {
-    let entry = record(alloc, rdata)?;
-    records.push(entry)
+    let rr = record(alloc, rdata)?;
+    records.push(rr)
 }
 
 fn record(alloc: Global, rdata: Rdata) -> Result<Record, NoMemory>

@@ -1,4 +1,5 @@
--- Resource records as plain data (RFC 1035, sections 3.2 and 3.3), the fields of their data, and when one is proper.
+-- Resource records as plain data (RFC 1035, sections 3.2 and 3.3), the fields of their data, and
+-- when one is proper.
 use Rattle.std.specs.Prelude.{◌≡◌, ℕ, ◌+◌, ◌≤◌, ◌<◌, ◌^◌, ◌==◌, ◌||◌, Bool, false, List, [], ◌∷◌, length}
 use Rattle.std.specs.List.{AllByRecursion}
 use Rattle.dns_data.specs.Name.{IsName, wire_length}
@@ -12,9 +13,9 @@ pub record RecordData : Type 0 where
   pub ttl : ℕ
   pub rdata : Rdata
 
--- A field of the data of a record: a name that may be compressed; a name that never is; numbers of 8, 16, 32 and 128 bits;
--- a character-string; one that isn't empty; character-strings up to the end; bytes up to the end; and the bytes of a type
--- without a form of its own, by its number.
+-- A field of the data of a record: a name that may be compressed; a name that never is; numbers of
+-- 8, 16, 32 and 128 bits; a character-string; one that isn't empty; character-strings up to the
+-- end; bytes up to the end; and the bytes of a type without a form of its own, by its number.
 pub data Field : Type 0 where
   Compressed : List (List ℕ) → Field
   Uncompressed : List (List ℕ) → Field
@@ -51,20 +52,24 @@ fields_of (rdata.A addr) = U32 addr ∷ []
 fields_of (rdata.Ns name) = Compressed name ∷ []
 fields_of (rdata.Cname name) = Compressed name ∷ []
 fields_of (rdata.Soa soa) =
-    Compressed soa.mname ∷ Compressed soa.rname ∷ U32 soa.serial ∷ U32 soa.refresh ∷ U32 soa.retry ∷ U32 soa.expire ∷ U32 soa.minimum ∷ []
+    Compressed soa.mname ∷ Compressed soa.rname ∷ U32 soa.serial ∷ U32 soa.refresh ∷ U32 soa.retry
+        ∷ U32 soa.expire ∷ U32 soa.minimum ∷ []
 fields_of (rdata.Ptr name) = Compressed name ∷ []
 fields_of (rdata.Hinfo cpu os) = CharString cpu ∷ CharString os ∷ []
 fields_of (rdata.Mx preference exchange) = U16 preference ∷ Compressed exchange ∷ []
 fields_of (rdata.Txt strings) = CharStrings strings ∷ []
 fields_of (rdata.Aaaa addr) = U128 addr ∷ []
-fields_of (rdata.Srv priority weight port target) = U16 priority ∷ U16 weight ∷ U16 port ∷ Uncompressed target ∷ []
+fields_of (rdata.Srv priority weight port target) =
+    U16 priority ∷ U16 weight ∷ U16 port ∷ Uncompressed target ∷ []
 fields_of (rdata.Caa flags tag value) = U8 flags ∷ NonEmpty tag ∷ Remainder value ∷ []
 fields_of (rdata.Opaque kind bytes) = Unknown kind bytes ∷ []
 
 -- whether a type has a form of its own, OPT (41) among them, so that no record of it is opaque
 unfoldable pub is_known_type : ℕ → Bool
 is_known_type kind =
-    kind == kinds.A || kind == kinds.NS || kind == kinds.CNAME || kind == kinds.SOA || kind == kinds.PTR || kind == kinds.HINFO || kind == kinds.MX || kind == kinds.TXT || kind == kinds.AAAA || kind == kinds.SRV || kind == kinds.OPT || kind == kinds.CAA
+    kind == kinds.A || kind == kinds.NS || kind == kinds.CNAME || kind == kinds.SOA
+        || kind == kinds.PTR || kind == kinds.HINFO || kind == kinds.MX || kind == kinds.TXT
+        || kind == kinds.AAAA || kind == kinds.SRV || kind == kinds.OPT || kind == kinds.CAA
 
 -- strings, each behind its length byte
 abbrev pub strings_length : List (List ℕ) → ℕ
@@ -113,8 +118,8 @@ data_length d = names_length (names_in d) + texts_length (fields_of d)
 abbrev pub IsCharacterString : List ℕ → Type 0
 IsCharacterString string = length string ≤ 255
 
--- strings have their form, a tag has at least one byte (RFC 8659, section 4.1), and bytes without a form are those of a
--- type that has none
+-- strings have their form, a tag has at least one byte (RFC 8659, section 4.1), and bytes without a
+-- form are those of a type that has none
 abbrev pub HasForm : Field → Type 0
 HasForm (CharString text) = IsCharacterString text
 HasForm (NonEmpty text) = (1 ≤ length text) × IsCharacterString text

@@ -48,8 +48,8 @@ impl Copies for Soa {
     }
 }
 
-/// The data of a record, by its type (RFC 1035, section 3.3; AAAA by RFC 3596; SRV by RFC 2782, with priority, weight, port
-/// and target; CAA by RFC 8659, with flags, tag and value).
+/// The data of a record, by its type (RFC 1035, section 3.3; AAAA by RFC 3596; SRV by RFC 2782,
+/// with priority, weight, port and target; CAA by RFC 8659, with flags, tag and value).
 #[derive(Debug, Drop)]
 pub enum Rdata {
     A(u32),
@@ -155,7 +155,8 @@ fn strings_len(strings: &[Bytes]) -> usize
     total
 }
 
-/// Whether a type has a form of its own, so that no record of it is opaque. OPT (41) is one of them.
+/// Whether a type has a form of its own, so that no record of it is opaque. OPT (41) is one of
+/// them.
 #[tactic(auto, unfolding(crate::specs::Record::is_known_type))]
 pub fn is_known_type(kind: u16) -> bool
     ensures { result ≡ is_known_type kind }
@@ -215,7 +216,9 @@ impl Model for Record {
 
     ghost view = { λ r. record { owner = r.owner; class = r.class; ttl = r.ttl; rdata = r.rdata } };
 
-    ghost invariant = { λ r. IsProper (record { owner = r.owner; class = r.class; ttl = r.ttl; rdata = r.rdata }) };
+    ghost invariant =
+        { λ r. IsProper
+            (record { owner = r.owner; class = r.class; ttl = r.ttl; rdata = r.rdata }) };
 }
 
 impl Record {
@@ -238,8 +241,8 @@ impl Record {
 }
 
 impl Record {
-    /// Ends a record as a drop does. It stands where it is called, so that a record of an address, whose owner takes no
-    /// memory, costs no call.
+    /// Ends a record as a drop does. It stands where it is called, so that a record of an address,
+    /// whose owner takes no memory, costs no call.
     #[inline(always)]
     pub fn end(self) {
         let Record {

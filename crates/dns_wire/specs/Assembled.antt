@@ -26,7 +26,8 @@ message_of p = record {
 
 -- the bytes of a header that hold its flags and codes (RFC 1035, section 4.1.1)
 abbrev pub high_byte : Flags → Bool → ℕ
-high_byte f is_truncated = 128 * bit f.qr + 8 * f.opcode + 4 * bit f.aa + 2 * bit (f.tc || is_truncated) + bit f.rd
+high_byte f is_truncated =
+    128 * bit f.qr + 8 * f.opcode + 4 * bit f.aa + 2 * bit (f.tc || is_truncated) + bit f.rd
 
 abbrev pub low_byte : Flags → ℕ
 low_byte f = 128 * bit f.ra + 32 * bit f.ad + 16 * bit f.cd + f.rcode

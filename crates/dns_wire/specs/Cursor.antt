@@ -9,7 +9,8 @@ use Rattle.dns_wire.specs.Fields.{shape}
 use Rattle.dns_wire.specs.Reads.{Reads}
 use Rattle.dns_wire.specs.declared.fault.WireFault.{WireFault}
 
--- where a reader stands in data that ends at a limit, and whether all stood there that it was asked for
+-- where a reader stands in data that ends at a limit, and whether all stood there that it was asked
+-- for
 pub record CursorData : Type 0 where
   pub bytes : List ℕ
   pub at : ℕ
@@ -19,7 +20,8 @@ pub record CursorData : Type 0 where
 -- fields stand one after the other, up to an offset: told from the last of them to the first
 abbrev pub StandBack : List ℕ → ℕ → ℕ → List Field → ℕ → Type 0
 StandBack bytes limit start [] at = at ≡ start
-StandBack bytes limit start (field ∷ fields) at = (middle : ℕ) × StandBack bytes limit start fields middle × FieldAt bytes limit middle field at
+StandBack bytes limit start (field ∷ fields) at =
+    (middle : ℕ) × StandBack bytes limit start fields middle × FieldAt bytes limit middle field at
 
 -- the fields, from the last to the first, in front of others
 abbrev pub back_onto : {A : Type 0} → List A → List A → List A
@@ -35,10 +37,13 @@ pub record Found (bytes : List ℕ) (start limit : ℕ) (fields : List Field) (a
 -- no fields of these kinds stand within the data
 abbrev pub NoneStand : List ℕ → ℕ → ℕ → List Field → Type 0
 NoneStand bytes start limit fields =
-    (others : List Field) (end : ℕ) → map shape others ≡ map shape fields → StandBack bytes limit start others end → end ≤ limit → ⊥
+    (others : List Field) (end : ℕ) → map shape others ≡ map shape fields
+    → StandBack bytes limit start others end → end ≤ limit → ⊥
 
--- a reader that began at start has read these fields, the last one first, or no such fields stand there
-pub record HasRead (bytes : List ℕ) (start limit : ℕ) (fields : List Field) (c : CursorData) : Type 0 where
+-- a reader that began at start has read these fields, the last one first, or no such fields stand
+-- there
+pub record HasRead (bytes : List ℕ) (start limit : ℕ) (fields : List Field)
+    (c : CursorData) : Type 0 where
   pub same_bytes : c.bytes ≡ bytes
   pub same_limit : c.limit ≡ limit
   pub few : limit ≤ start + 65535
@@ -48,25 +53,32 @@ pub record HasRead (bytes : List ℕ) (start limit : ℕ) (fields : List Field) 
 -- a reader goes on by a field, whatever it has read before
 abbrev pub Takes : CursorData → CursorData → Field → Type 0
 Takes before after field =
-    (bytes : List ℕ) (start limit : ℕ) (fields : List Field) → HasRead bytes start limit fields before → HasRead bytes start limit (field ∷ fields) after
+    (bytes : List ℕ) (start limit : ℕ) (fields : List Field)
+    → HasRead bytes start limit fields before → HasRead bytes start limit (field ∷ fields) after
 
 -- what reading the data of a type answers
-pub record ReadsData (bytes : List ℕ) (kind at behind : ℕ) (result : Result Rdata WireFault) : Type 0 where
+pub record ReadsData (bytes : List ℕ) (kind at behind : ℕ)
+    (result : Result Rdata WireFault) : Type 0 where
   pub spelt : Reads (IsDataOf bytes kind at behind) result
   pub form : IfOk result IsFormed
 
 -- what passing so many bytes answers: the offset of the first, or they aren't left
 abbrev pub Passes : CursorData → CursorData → ℕ → Option ℕ → Type 0
 Passes before after count (Some at) =
-    (after ≡ record before { at = before.at + count }) × (before.is_sound ≡ true) × (at ≡ before.at) × (at + count ≤ before.limit) × (before.limit ≤ length before.bytes)
+    (after ≡ record before { at = before.at + count }) × (before.is_sound ≡ true)
+    × (at ≡ before.at) × (at + count ≤ before.limit) × (before.limit ≤ length before.bytes)
 Passes before after count None =
-    (after ≡ record before { is_sound = false }) × (before.is_sound ≡ true → before.limit < before.at + count)
+    (after ≡ record before { is_sound = false })
+    × (before.is_sound ≡ true → before.limit < before.at + count)
 
 -- what passing a character-string answers: the string, or none stands there
 abbrev pub TakesString : CursorData → CursorData → Option (Bor (List ℕ)) → Type 0
 TakesString before after (Some text) =
     (after ≡ record before { at = before.at + 1 + length text.now })
-    × (before.is_sound ≡ true) × CharacterStringAt before.bytes before.at text.now (before.at + 1 + length text.now) × (length text.now ≤ 255)
+    × (before.is_sound ≡ true)
+    × CharacterStringAt before.bytes before.at text.now (before.at + 1 + length text.now)
+    × (length text.now ≤ 255)
 TakesString before after None =
     (after ≡ record before { is_sound = false })
-    × (before.is_sound ≡ true → (text : List ℕ) (behind : ℕ) → CharacterStringAt before.bytes before.at text behind → behind ≤ before.limit → ⊥)
+    × (before.is_sound ≡ true → (text : List ℕ) (behind : ℕ)
+    → CharacterStringAt before.bytes before.at text behind → behind ≤ before.limit → ⊥)

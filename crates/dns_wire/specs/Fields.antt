@@ -1,4 +1,5 @@
--- The table of types read backwards: the kinds of fields that a type's data has, and the data that has such fields.
+-- The table of types read backwards: the kinds of fields that a type's data has, and the data that
+-- has such fields.
 use Rattle.std.specs.Prelude.{ℕ, zero, suc, ◌+◌, ◌==◌, List, [], ◌∷◌, map, if◌then◌else◌}
 use Rattle.dns_data.specs.Record.{fields_of, Field, Compressed, Uncompressed, U8, U16, U32, U128, CharString, NonEmpty, CharStrings, Remainder, Unknown}
 use Rattle.dns_data.specs.declared.record.Rdata.{Rdata}
@@ -68,8 +69,10 @@ listed kind fs =
     else if kind == kinds.MX then rdata.Mx (number_of (field_at 0 fs)) (labels_in (field_at 1 fs))
     else if kind == kinds.TXT then rdata.Txt (texts_of (field_at 0 fs))
     else if kind == kinds.AAAA then rdata.Aaaa (number_of (field_at 0 fs))
-    else if kind == kinds.SRV then rdata.Srv (number_of (field_at 0 fs)) (number_of (field_at 1 fs)) (number_of (field_at 2 fs)) (labels_in (field_at 3 fs))
-    else if kind == kinds.CAA then rdata.Caa (number_of (field_at 0 fs)) (text_of (field_at 1 fs)) (text_of (field_at 2 fs))
+    else if kind == kinds.SRV then rdata.Srv (number_of (field_at 0 fs))
+    (number_of (field_at 1 fs)) (number_of (field_at 2 fs)) (labels_in (field_at 3 fs))
+    else if kind == kinds.CAA then rdata.Caa (number_of (field_at 0 fs)) (text_of (field_at 1 fs))
+    (text_of (field_at 2 fs))
     else rdata.Opaque kind (text_of (field_at 0 fs))
 
 -- the kinds of the fields of a type with a form

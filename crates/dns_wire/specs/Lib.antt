@@ -8,6 +8,8 @@ pub mod Spells
 pub mod Asked
 pub mod Reads
 pub mod Written
+pub mod Compression
+pub mod Writes
 pub mod Offsets
 pub mod Assembled
 pub mod Putting

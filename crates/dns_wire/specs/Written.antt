@@ -1,9 +1,12 @@
--- The one way in which a message is written and truncated (RFC 1035, sections 4.1 and 4.1.4; OPT by RFC 6891, section 6.1).
+-- The one way in which a message is written and truncated (RFC 1035, sections 4.1 and 4.1.4; OPT by
+-- RFC 6891, section 6.1).
 use Rattle.std.specs.Prelude.{◌≡◌, ◌≤◌, ◌<◌, ℕ, zero, suc, Bool, true, false, ◌||◌, ◌+◌, ◌-◌, ◌*◌, ◌/◌, ◌%◌, List, [], ◌∷◌, ◌++◌, length, take, drop, Option, Some, None, option_map, find, nat_lt, nat_le, if◌then◌else◌}
 use Rattle.std.specs.Int.{w16, w32, w128, to_be_bytes}
 use Rattle.dns_data.specs.Name.{same_labels, spelled}
 use Rattle.dns_data.specs.Record.{RecordData, kind_of, fields_of, Field, Compressed, Uncompressed, U8, U16, U32, U128, CharString, NonEmpty, CharStrings, Remainder, Unknown}
 use Rattle.dns_data.specs.Message.{MessageData}
+use Rattle.dns_data.specs.declared.limit.TheConstants as limits
+use Rattle.dns_data.specs.declared.kind.TheConstants as kinds
 use Rattle.dns_data.specs.declared.message.Question.{Question}
 use Rattle.dns_data.specs.declared.message.Opt.{Opt}
 use Rattle.dns_data.specs.declared.record.Rdata.{Rdata}
@@ -13,7 +16,8 @@ pub record OffsetData : Type 0 where
   pub suffix : List (List ℕ)
   pub at : ℕ
 
--- what stands behind the header so far, and the suffixes that were written out in it, the earliest first
+-- what stands behind the header so far, and the suffixes that were written out in it, the earliest
+-- first
 pub record Draft : Type 0 where
   pub bytes : List ℕ
   pub offsets : List OffsetData
@@ -35,13 +39,15 @@ put_u16 d number = put d (to_be_bytes w16 number)
 
 -- the earliest offset at which a suffix was written out, byte for byte
 unfoldable pub earliest : List OffsetData → List (List ℕ) → Option ℕ
-earliest offsets suffix = option_map (λ offset. offset.at) (find (λ offset. same_labels offset.suffix suffix) offsets)
+earliest offsets suffix =
+    option_map (λ offset. offset.at) (find (λ offset. same_labels offset.suffix suffix) offsets)
 
 -- with an offset for a suffix that is written out next, where a pointer can name that offset
 abbrev pub keep : Draft → List (List ℕ) → Draft
 keep d suffix = record {
   bytes = d.bytes;
-  offsets = if nat_lt (size d) 16384 then d.offsets ++ record { suffix = suffix; at = size d } ∷ [] else d.offsets;
+  offsets = if nat_lt (size d) limits.POINTER_END then d.offsets ++ record { suffix = suffix; at = size d } ∷ []
+      else d.offsets;
 }
 
 -- with a label behind
@@ -57,11 +63,13 @@ abbrev pub pointer_or : Draft → Option ℕ → Draft → Draft
 pointer_or d (Some at) written_out = put_pointer d at
 pointer_or d None written_out = written_out
 
--- with a compressed name behind: labels up to the first suffix that was written out before, or to the root
+-- with a compressed name behind: labels up to the first suffix that was written out before, or to
+-- the root
 unfoldable pub put_name : Draft → List (List ℕ) → Draft
 put_name d [] = put d (0 ∷ [])
 put_name d (label ∷ labels) =
-    pointer_or d (earliest d.offsets (label ∷ labels)) (put_name (put_label (keep d (label ∷ labels)) label) labels)
+    pointer_or d (earliest d.offsets (label ∷ labels))
+    (put_name (put_label (keep d (label ∷ labels)) label) labels)
 
 -- with a whole name behind, which gives no offsets
 abbrev pub put_whole : Draft → List (List ℕ) → Draft
@@ -111,12 +119,17 @@ put_data d r = put_fields d (fields_of r)
 unfoldable pub with_length : Draft → Draft → Draft
 with_length d more =
     let behind = drop (length d.bytes + 2) more.bytes in
-    record { bytes = d.bytes ++ (to_be_bytes w16 (length behind) ++ behind); offsets = more.offsets }
+    record {
+      bytes = d.bytes
+          ++ (to_be_bytes w16 (length behind) ++ behind);
+      offsets = more.offsets;
+    }
 
 -- with a record behind; the length of its data is the length that was written
 unfoldable pub put_record : Draft → RecordData → Draft
 put_record d r =
-    let head = put (put_u16 (put_u16 (put_name d r.owner) (kind_of r.rdata)) r.class) (to_be_bytes w32 r.ttl) in
+    let head = put (put_u16 (put_u16 (put_name d r.owner) (kind_of r.rdata)) r.class)
+    (to_be_bytes w32 r.ttl) in
     with_length head (put_data (put_u16 head 0) r.rdata)
 
 -- with records behind, in their order
@@ -132,19 +145,23 @@ bit false = 0
 -- an OPT record with the root as owner, no data, and no flag but DO
 unfoldable pub opt_bytes : Option Opt → List ℕ
 opt_bytes None = []
-opt_bytes (Some o) = 0 ∷ (to_be_bytes w16 41 ++ to_be_bytes w16 o.size ++ o.ext ∷ o.version ∷ (128 * bit o.dnssec) ∷ 0 ∷ 0 ∷ 0 ∷ [])
+opt_bytes (Some o) = 0
+    ∷ (to_be_bytes w16 kinds.OPT ++ to_be_bytes w16 o.size ++ o.ext ∷ o.version ∷ (128 * bit o.dnssec) ∷ 0
+    ∷ 0 ∷ 0 ∷ [])
 
 -- how many OPT records there are
 abbrev pub opt_count : Option Opt → ℕ
 opt_count None = 0
 opt_count (Some o) = 1
 
--- a header: the id, two bytes of flags and codes, and the counts; the OPT record is counted in additional
+-- a header: the id, two bytes of flags and codes, and the counts; the OPT record is counted in
+-- additional
 unfoldable pub header : MessageData → List ℕ
 header m =
     let high = 128 * bit m.qr + 8 * m.opcode + 4 * bit m.aa + 2 * bit m.tc + bit m.rd in
     let low = 128 * bit m.ra + 32 * bit m.ad + 16 * bit m.cd + m.rcode in
-    to_be_bytes w16 m.id ++ high ∷ low ∷ [] ++ to_be_bytes w16 1 ++ to_be_bytes w16 (length m.answer) ++ to_be_bytes w16 (length m.authority)
+    to_be_bytes w16 m.id ++ high ∷ low ∷ [] ++ to_be_bytes w16 1
+    ++ to_be_bytes w16 (length m.answer) ++ to_be_bytes w16 (length m.authority)
     ++ to_be_bytes w16 (length m.additional + opt_count m.opt)
 
 -- the records of all sections but the OPT, as one list
@@ -186,7 +203,8 @@ greatest test (suc n) = if test (suc n) then suc n else greatest test n
 
 -- how many records are kept at a limit in bytes
 unfoldable pub kept : MessageData → ℕ → ℕ
-kept m limit = greatest (λ count. nat_le (length (untruncated (truncated m count))) limit) (length (records_of m))
+kept m limit = greatest (λ count. nat_le (length (untruncated (truncated m count))) limit)
+    (length (records_of m))
 
 -- the bytes of a message at a limit
 unfoldable pub written : MessageData → ℕ → List ℕ
@@ -198,4 +216,5 @@ pub record IsLongest (m : MessageData) (limit : ℕ) (bytes : List ℕ) : Type 0
   pub inside : count ≤ length (records_of m)
   pub text : bytes ≡ untruncated (truncated m count)
   pub fits : length bytes ≤ limit
-  pub longest : (more : ℕ) → count < more → more ≤ length (records_of m) → limit < length (untruncated (truncated m more))
+  pub longest : (more : ℕ) → count < more → more ≤ length (records_of m)
+      → limit < length (untruncated (truncated m more))

@@ -33,11 +33,13 @@ pub fn read_strings(
     Ok(strings)
 }
 
-/// The character-string that stands at an offset and ends before another, or there (RFC 1035, section 3.3).
+/// The character-string that stands at an offset and ends before another, or there (RFC 1035,
+/// section 3.3).
 pub fn string_at(bytes: &[u8], at: usize, most: usize) -> Option<&[u8]>
     requires inside { most ≤ length bytes.now }
     requires order { at ≤ most }
-    ensures found { IfSome result (λ text. CharacterStringAt bytes.now at text.now (at + 1 + length text.now)) }
+    ensures found { IfSome result
+        (λ text. CharacterStringAt bytes.now at text.now (at + 1 + length text.now)) }
     ensures inside { IfSome result (λ text. at + 1 + length text.now ≤ most) }
     ensures short { IfSome result (λ text. IsCharacterString text.now) }
     ensures none { IfNone result ((text : List ℕ) (behind : ℕ)

@@ -11,7 +11,8 @@ use dns_data::{Bytes, Name, NoMemory, Rdata, Seq, Strings};
 use std::alloc::Global;
 use std::marker::Model;
 
-/// Reads the data of a record field by field. Whether all fields stood there is told once, by `finish`.
+/// Reads the data of a record field by field. Whether all fields stood there is told once, by
+/// `finish`.
 #[derive(Drop)]
 pub struct Cursor<'a> {
     alloc: Global,
@@ -205,7 +206,8 @@ impl<'a> Cursor<'a> {
         requires known { is_known_type kind ≡ true }
         requires shapes { map shape (fields_of rdata) ≡ shapes_of (kind_of rdata) }
         ensures { (bytes : List ℕ) (start limit : ℕ)
-            → HasRead bytes start limit (back_onto (fields_of rdata) []) self.now → ReadsData bytes kind start limit result }
+            → HasRead bytes start limit (back_onto (fields_of rdata) []) self.now
+            → ReadsData bytes kind start limit result }
     {
         if !self.is_sound {
             return Err(WireFault::Bad);

@@ -6,7 +6,8 @@ use crate::{Head, QueryFault};
 use dns_data::limit::HEADER_BYTES;
 use dns_data::opcode;
 
-/// What the header of a message says beside its counts (RFC 1035, section 4.1.1; AD and CD by RFC 4035, section 3).
+/// What the header of a message says beside its counts (RFC 1035, section 4.1.1; AD and CD by RFC
+/// 4035, section 3).
 #[derive(Clone, Copy, Debug, PartialEq, Eq)]
 pub struct Flags {
     pub id: u16,
@@ -46,7 +47,8 @@ pub fn flags_at(bytes: &[u8]) -> Flags
 /// Tells the first fault of bytes whose header isn't that of a query with opcode QUERY.
 #[inline(always)]
 pub fn check_query(bytes: &[u8]) -> Result<(), QueryFault>
-    ensures { ReadsBy (λ _. Asks bytes.now × (slice_index bytes.now 2 / 8 % 16 ≡ 0)) bytes.now result }
+    ensures { ReadsBy
+        (λ _. Asks bytes.now × (slice_index bytes.now 2 / 8 % 16 ≡ 0)) bytes.now result }
 {
     if bytes.len() < HEADER_BYTES {
         return Err(QueryFault::Short);

@@ -1,4 +1,5 @@
-//! Messages of the DNS as bytes (RFC 1035, section 4): queries and replies are read, and messages are written.
+//! Messages of the DNS as bytes (RFC 1035, section 4): queries and replies are read, and messages
+//! are written.
 #![tactic(auto)]
 
 mod asked;
@@ -10,21 +11,15 @@ mod message;
 mod name;
 mod number;
 mod offsets;
-#[cfg(test)]
-mod outside_messages;
 mod query;
 mod rdata;
 mod record;
 mod reply;
 mod section;
 #[cfg(test)]
-mod table_tests;
-#[cfg(test)]
 mod tests;
 mod write;
 mod write_record;
-#[cfg(test)]
-mod write_tests;
 mod writer;
 
 pub use asked::{Asked, read_asked};

@@ -13,7 +13,8 @@ use dns_data::limit::HEADER_BYTES;
 use dns_data::{Message, Opt, Question, Seq};
 use std::alloc::Global;
 
-/// Reads a message with one question, whatever its QR and its opcode are. Bytes behind it are ignored.
+/// Reads a message with one question, whatever its QR and its opcode are. Bytes behind it are
+/// ignored.
 #[inline]
 pub fn read_message(alloc: Global, bytes: &[u8]) -> Result<Message, WireFault>
     requires { 12 ≤ length bytes.now }
@@ -72,7 +73,8 @@ pub fn read_question(alloc: Global, bytes: &[u8], at: usize) -> Result<(Question
     Ok((question, middle + 4))
 }
 
-/// The OPT record of a message without other records, if it has one. Most queries are such messages.
+/// The OPT record of a message without other records, if it has one. Most queries are such
+/// messages.
 #[inline]
 pub fn opt_alone(bytes: &[u8], at: usize) -> Option<Option<Opt>>
     requires long { 12 ≤ length bytes.now }

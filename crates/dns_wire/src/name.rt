@@ -12,7 +12,8 @@ use std::alloc::Global;
 // The least byte whose upper two bits are set (RFC 1035, section 4.1.4).
 const POINTER: u8 = 192;
 
-/// Reads the name at an offset, and gives the offset behind it. Most names are one sequence of labels, which is copied at once.
+/// Reads the name at an offset, and gives the offset behind it. Most names are one sequence of
+/// labels, which is copied at once.
 #[inline(always)]
 pub fn read_name(alloc: Global, bytes: &[u8], first: usize) -> Result<(Name, usize), WireFault>
     requires { first ≤ length bytes.now }
@@ -29,8 +30,8 @@ pub fn read_name(alloc: Global, bytes: &[u8], first: usize) -> Result<(Name, usi
     Ok((name, end + 1))
 }
 
-// Reads the name at an offset through its pointers. Each sequence of labels is copied at once. Stays a call, so that what reads
-// a name without pointers is small.
+// Reads the name at an offset through its pointers. Each sequence of labels is copied at once.
+// Stays a call, so that what reads a name without pointers is small.
 #[inline(never)]
 fn read_sequences(alloc: Global, bytes: &[u8], first: usize) -> Result<(Name, usize), WireFault>
     requires { first ≤ length bytes.now }
@@ -67,24 +68,8 @@ fn read_sequences(alloc: Global, bytes: &[u8], first: usize) -> Result<(Name, us
     }
 }
 
-/// Reads the name that stands at an offset and ends just before another.
-pub fn read_name_to(
-    alloc: Global,
-    bytes: &[u8],
-    at: usize,
-    behind: usize,
-) -> Result<Name, WireFault>
-    requires { at ≤ length bytes.now }
-    ensures { Reads (λ name. WholeNameAt bytes.now at name behind) result }
-{
-    let (name, end) = read_name(alloc, bytes, at)?;
-    if end != behind {
-        return Err(WireFault::Bad);
-    }
-    Ok(name)
-}
-
-// The offset of the zero byte or the pointer that ends the sequence of labels at `start`, where they are labels of a name.
+// The offset of the zero byte or the pointer that ends the sequence of labels at `start`, where
+// they are labels of a name.
 #[inline]
 fn end_of_labels(bytes: &[u8], start: usize) -> Option<usize>
     requires { start ≤ length bytes.now }

@@ -5,14 +5,15 @@ ghost use Rattle.dns_wire.specs.Written.{earliest};
 ghost use Rattle.dns_wire.specs.Offsets.{offset_of, IsOffset};
 
 use dns_data::NoMemory;
+use dns_data::limit::POINTER_END;
 use std::alloc::Global;
 use std::marker::Model;
 
 // As many offsets as stand in the value itself. Most replies have fewer.
 const NEAR: usize = 6;
 
-/// Where suffixes of names were written out, the earliest first: each is the wire form of a suffix without the zero byte,
-/// and an offset below 16,384. The first six take no memory.
+/// Where suffixes of names were written out, the earliest first: each is the wire form of a suffix
+/// without the zero byte, and an offset below 16,384. The first six take no memory.
 #[derive(Drop)]
 pub struct Offsets<'a> {
     near: [(&'a [u8], usize); NEAR],
@@ -54,8 +55,9 @@ impl<'a> Offsets<'a> {
     #[inline]
     pub fn push(&mut self, suffix: &'a [u8], at: usize) -> Result<(), NoMemory>
         requires wire { IsWire suffix.now }
-        requires small { at < 16384 }
-        ensures { OnOk result (self.new ≡ self.old ++ record { suffix = labels_of suffix.now; at = at } ∷ []) }
+        requires small { at < POINTER_END }
+        ensures { OnOk result
+            (self.new ≡ self.old ++ record { suffix = labels_of suffix.now; at = at } ∷ []) }
     {
         if self.count < NEAR {
             self.near[self.count] = (suffix, at);
@@ -80,11 +82,13 @@ impl<'a> Offsets<'a> {
         }
     }
 
-    /// The first offset, where it is that of a suffix, letter for letter. That is the whole question's name, as a rule.
+    /// The first offset, where it is that of a suffix, letter for letter. That is the whole
+    /// question's name, as a rule.
     #[inline]
     pub fn first(&self, suffix: &[u8]) -> Option<usize>
         requires { IsWire suffix.now }
-        ensures { IfSome result (λ at. (at < 16384) × (earliest self.now (labels_of suffix.now) ≡ Some at)) }
+        ensures { IfSome result
+            (λ at. (at < POINTER_END) × (earliest self.now (labels_of suffix.now) ≡ Some at)) }
     {
         if self.count == 0 {
             return None;
@@ -97,7 +101,7 @@ impl<'a> Offsets<'a> {
     pub fn find(&self, suffix: &[u8]) -> Option<usize>
         requires { IsWire suffix.now }
         ensures value { result ≡ earliest self.now (labels_of suffix.now) }
-        ensures small { IfSome result (λ at. at < 16384) }
+        ensures small { IfSome result (λ at. at < POINTER_END) }
     {
         if let Some(at) = find_among(&self.near[..self.count], suffix) {
             return Some(at);
@@ -114,7 +118,7 @@ fn find_among(offsets: &[(&[u8], usize)], suffix: &[u8]) -> Option<usize>
     requires wire { IsWire suffix.now }
     requires offsets { AllByRecursion IsOffset offsets.now }
     ensures value { result ≡ earliest (map offset_of offsets.now) (labels_of suffix.now) }
-    ensures small { IfSome result (λ at. at < 16384) }
+    ensures small { IfSome result (λ at. at < POINTER_END) }
 {
     for offset in offsets {
         if offset.0 == suffix {

@@ -7,7 +7,8 @@ use crate::{QueryFault, WireFault};
 use dns_data::Message;
 use std::alloc::Global;
 
-/// Reads a query: QR clear, opcode QUERY, one question, and any records (RFC 1035, section 4.1; OPT by RFC 6891).
+/// Reads a query: QR clear, opcode QUERY, one question, and any records (RFC 1035, section 4.1; OPT
+/// by RFC 6891).
 pub fn read_query(alloc: Global, bytes: &[u8]) -> Result<Message, QueryFault>
     ensures read { ReadsQuery bytes.now result }
     ensures alone { IfOk result (SpellsAlone bytes.now) }

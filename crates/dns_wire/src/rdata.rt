@@ -6,7 +6,8 @@ use crate::cursor::Cursor;
 use dns_data::{Bytes, Rdata, Soa, is_known_type, kind};
 use std::alloc::Global;
 
-/// Reads the data of a record of a type that isn't OPT: it stands at an offset and is used up just before another.
+/// Reads the data of a record of a type that isn't OPT: it stands at an offset and is used up just
+/// before another.
 pub fn read_data(
     alloc: Global,
     bytes: &[u8],

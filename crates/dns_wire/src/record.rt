@@ -42,7 +42,8 @@ pub fn read_part(alloc: Global, bytes: &[u8], at: usize) -> Result<(Part, usize)
     Ok((Part::Record(Record::new(owner, class, ttl, rdata)), behind))
 }
 
-/// The OPT record at an offset, where its owner is a zero byte there, as it mostly is: no name is made for it.
+/// The OPT record at an offset, where its owner is a zero byte there, as it mostly is: no name is
+/// made for it.
 #[inline]
 pub fn plain_opt_at(bytes: &[u8], at: usize) -> Option<(Opt, usize)>
     requires { at ≤ length bytes.now }
@@ -59,7 +60,8 @@ pub fn plain_opt_at(bytes: &[u8], at: usize) -> Option<(Opt, usize)>
     Some((opt_at(bytes, at + 1), behind))
 }
 
-// The offset behind the record whose type stands at an offset, where its data ends within the bytes.
+// The offset behind the record whose type stands at an offset, where its data ends within the
+// bytes.
 #[inline]
 fn end_of_part(bytes: &[u8], middle: usize) -> Option<usize>
     requires { middle ≤ length bytes.now }

@@ -25,12 +25,14 @@ pub struct Sections {
     pub opt: Option<Opt>,
 }
 
-/// Reads the three sections that a header counts. Stays a call, so that what reads a plain query is small.
+/// Reads the three sections that a header counts. Stays a call, so that what reads a plain query is
+/// small.
 #[inline(never)]
 pub fn read_sections(alloc: Global, bytes: &[u8], start: usize) -> Result<Sections, WireFault>
     requires long { 12 ≤ length bytes.now }
     requires inside { start ≤ length bytes.now }
-    ensures { Reads (λ s. SectionsAt bytes.now start s.answer s.authority s.additional s.opt) result }
+    ensures { Reads
+        (λ s. SectionsAt bytes.now start s.answer s.authority s.additional s.opt) result }
 {
     let (answer, behind) = read_records(alloc, bytes, start, u16_at(bytes, 6))?;
     let (authority, behind) = read_records(alloc, bytes, behind, u16_at(bytes, 8))?;
@@ -51,7 +53,8 @@ pub fn read_sections(alloc: Global, bytes: &[u8], start: usize) -> Result<Sectio
 #[inline]
 fn read_section(alloc: Global, bytes: &[u8], start: usize, count: u16) -> Result<Section, WireFault>
     requires { start ≤ length bytes.now }
-    ensures spelt { Reads (λ found. SectionAt bytes.now count start found.records found.opt found.behind) result }
+    ensures spelt { Reads
+        (λ found. SectionAt bytes.now count start found.records found.opt found.behind) result }
     ensures inside { IfOk result (λ found. found.behind ≤ length bytes.now) }
 {
     if count == 0 {
@@ -64,11 +67,13 @@ fn read_section(alloc: Global, bytes: &[u8], start: usize, count: u16) -> Result
     read_parts(alloc, bytes, start, count)
 }
 
-// Reads so many records one after the other. Stays a call, so that an empty section costs next to nothing.
+// Reads so many records one after the other. Stays a call, so that an empty section costs next to
+// nothing.
 #[inline(never)]
 fn read_parts(alloc: Global, bytes: &[u8], start: usize, count: u16) -> Result<Section, WireFault>
     requires { start ≤ length bytes.now }
-    ensures spelt { Reads (λ found. SectionAt bytes.now count start found.records found.opt found.behind) result }
+    ensures spelt { Reads
+        (λ found. SectionAt bytes.now count start found.records found.opt found.behind) result }
     ensures inside { IfOk result (λ found. found.behind ≤ length bytes.now) }
 {
     let mut records: Records = Seq::new(alloc);

@@ -1,7 +1,7 @@
 ghost use Rattle.std.specs.Prelude.{◌≡◌, ◌≤◌, ◌<◌, ◌+◌, ◌-◌, ◌^◌, [], ◌∷◌, length, take, vec_len, OnOk, IfOk, IfSome};
 ghost use Rattle.std.specs.Int.{w16, to_be_bytes};
 ghost use Rattle.dns_data.specs.Record.{IsProper};
-ghost use Rattle.dns_wire.specs.Spells.{Spells};
+ghost use Rattle.dns_wire.specs.Writes.{Writes};
 ghost use Rattle.dns_wire.specs.Written.{size, put, put_question, opt_bytes, header, untruncated, truncated, kept, written, IsLongest};
 ghost use Rattle.dns_data.specs.Message.{AreCodes};
 ghost use Rattle.dns_wire.specs.Assembled.{message_of, high_byte, low_byte};
@@ -10,7 +10,8 @@ ghost use Rattle.dns_wire.specs.Putting.{total, QuestionFits, OptFits, PutWithin
 use crate::Flags;
 use crate::write_record::put_record;
 use crate::writer::{Writer, begun};
-use dns_data::{Bytes, Message, Name, NoMemory, Opt, Record};
+use dns_data::limit::{MESSAGE_BYTES, UDP_BYTES};
+use dns_data::{Bytes, Message, Name, NoMemory, Opt, Record, kind};
 use std::alloc::Global;
 
 // The length of an OPT record without data (RFC 6891, section 6.1.2).
@@ -24,7 +25,8 @@ pub struct Counts {
     pub additional: usize,
 }
 
-/// A message whose parts stand where they are: a question of this name, type and class, and the records.
+/// A message whose parts stand where they are: a question of this name, type and class, and the
+/// records.
 #[derive(Drop)]
 pub struct MessageParts<'a> {
     pub flags: Flags,
@@ -37,15 +39,13 @@ pub struct MessageParts<'a> {
     pub opt: Option<Opt>,
 }
 
-/// Writes a message in the one form, with the longest prefix of its records with which it stays within a limit in bytes.
-/// TC is set where a record of answer or authority is left out (RFC 2181, section 9). The question's name, owner names and
-/// names in NS, CNAME, SOA, PTR and MX data are compressed, and targets of SRV records aren't (RFC 2782).
+/// Writes a message in the one form, with the longest prefix of its records with which it stays
+/// within a limit in bytes. TC is set where a record of answer or authority is left out (RFC 2181,
+/// section 9). The question's name, owner names and names in NS, CNAME, SOA, PTR and MX data are
+/// compressed, and targets of SRV records aren't (RFC 2782).
 pub fn write_message(alloc: Global, message: &Message, limit: u32) -> Result<Bytes, NoMemory>
-    requires limit { (512 ≤ limit) × (limit ≤ 65535) }
-    ensures text { IfOk result (λ bytes. bytes ≡ written message.now limit) }
-    ensures longest { IfOk result (λ bytes. IsLongest message.now limit bytes) }
-    ensures spelt { IfOk result (λ bytes. Spells bytes (truncated message.now (kept message.now limit))) }
-    ensures whole { length (untruncated message.now) ≤ limit → IfOk result (λ bytes. Spells bytes message.now) }
+    requires limit { (UDP_BYTES ≤ limit) × (limit ≤ MESSAGE_BYTES) }
+    ensures { IfOk result (Writes message.now limit) }
 {
     let parts = parts_of(message);
     write_parts(alloc, Bytes::new(alloc), &parts, limit)
@@ -86,18 +86,16 @@ pub fn write_parts(
     parts: &MessageParts<'_>,
     limit: u32,
 ) -> Result<Bytes, NoMemory>
-    requires limit { (512 ≤ limit) × (limit ≤ 65535) }
+    requires limit { (UDP_BYTES ≤ limit) × (limit ≤ MESSAGE_BYTES) }
     requires codes { AreCodes parts.now.flags.opcode parts.now.flags.rcode }
-    ensures text { IfOk result (λ bytes. bytes ≡ written (message_of parts.now) limit) }
-    ensures longest { IfOk result (λ bytes. IsLongest (message_of parts.now) limit bytes) }
-    ensures spelt { IfOk result (λ bytes. Spells bytes (truncated (message_of parts.now) (kept (message_of parts.now) limit))) }
-    ensures whole { length (untruncated (message_of parts.now)) ≤ limit → IfOk result (λ bytes. Spells bytes (message_of parts.now)) }
+    ensures { IfOk result (Writes (message_of parts.now) limit) }
 {
     let out = begun(room)?;
     write_behind(alloc, out, parts, limit)
 }
 
-// Writes a message behind and into a header of zero bytes. It is a function of its own so that the writer is made in one go.
+// Writes a message behind and into a header of zero bytes. It is a function of its own so that the
+// writer is made in one go.
 #[inline(always)]
 fn write_behind(
     alloc: Global,
@@ -106,12 +104,9 @@ fn write_behind(
     limit: u32,
 ) -> Result<Bytes, NoMemory>
     requires begun { vec_len out ≡ 12 }
-    requires limit { (512 ≤ limit) × (limit ≤ 65535) }
+    requires limit { (UDP_BYTES ≤ limit) × (limit ≤ MESSAGE_BYTES) }
     requires codes { AreCodes parts.now.flags.opcode parts.now.flags.rcode }
-    ensures text { IfOk result (λ bytes. bytes ≡ written (message_of parts.now) limit) }
-    ensures longest { IfOk result (λ bytes. IsLongest (message_of parts.now) limit bytes) }
-    ensures spelt { IfOk result (λ bytes. Spells bytes (truncated (message_of parts.now) (kept (message_of parts.now) limit))) }
-    ensures whole { length (untruncated (message_of parts.now)) ≤ limit → IfOk result (λ bytes. Spells bytes (message_of parts.now)) }
+    ensures { IfOk result (Writes (message_of parts.now) limit) }
 {
     let mut writer = Writer::over(alloc, out);
     let room_for_records = room_for_records(limit as usize, &parts.opt);
@@ -137,7 +132,8 @@ fn room_for_records(limit: usize, opt: &Option<Opt>) -> usize
 #[tactic(auto, unfolding(crate::specs::Written::put_question))]
 fn put_question<'a>(writer: &mut Writer<'a>, parts: &MessageParts<'a>) -> Result<(), NoMemory>
     requires { writer.old.offsets ≡ [] }
-    ensures text { OnOk result (writer.new ≡ put_question writer.old (message_of parts.now).question) }
+    ensures text { OnOk result
+        (writer.new ≡ put_question writer.old (message_of parts.now).question) }
     ensures fits { OnOk result (QuestionFits (message_of parts.now).question) }
 {
     let kind = parts.kind.to_be_bytes();
@@ -241,12 +237,13 @@ fn put_opt(writer: &mut Writer<'_>, opt: &Option<Opt>) -> Result<(), NoMemory>
     match opt {
         None => Ok(()),
         Some(opt) => {
+            let kind = kind::OPT.to_be_bytes();
             let size = opt.size.to_be_bytes();
             let flags = 128 * opt.dnssec as u8;
             writer.put(&[
                 0,
-                0,
-                41,
+                kind[0],
+                kind[1],
                 size[0],
                 size[1],
                 opt.ext,
@@ -291,8 +288,11 @@ fn header_bytes(parts: &MessageParts<'_>, kept: Counts) -> [u8; 12]
     requires codes { AreCodes parts.now.flags.opcode parts.now.flags.rcode }
     requires few { total kept < 2 ^ 16 - 1 }
     requires answer { kept.answer ≡ length (take (total kept) parts.now.answer.now) }
-    requires authority { kept.authority ≡ length (take (total kept - length parts.now.answer.now) parts.now.authority.now) }
-    requires additional { kept.additional ≡ length (take (total kept - length parts.now.answer.now - length parts.now.authority.now) parts.now.additional.now) }
+    requires authority { kept.authority
+        ≡ length (take (total kept - length parts.now.answer.now) parts.now.authority.now) }
+    requires additional { kept.additional
+        ≡ length (take
+        (total kept - length parts.now.answer.now - length parts.now.authority.now) parts.now.additional.now) }
     ensures text { result ≡ header (truncated (message_of parts.now) (total kept)) }
     ensures fits { parts.now.flags.id < 2 ^ 16 }
 {

@@ -33,7 +33,8 @@ pub fn put_record<'a>(writer: &mut Writer<'a>, rr: &'a Record) -> Result<(), NoM
     }
 }
 
-// Type, class and TTL, and the length of the data. Where that isn't known before the data it is 0 as yet.
+// Type, class and TTL, and the length of the data. Where that isn't known before the data it is 0
+// as yet.
 #[inline]
 fn put_head(
     writer: &mut Writer<'_>,
@@ -42,7 +43,8 @@ fn put_head(
     ttl: u32,
     length: u16,
 ) -> Result<(), NoMemory>
-    ensures { OnOk result (writer.new ≡ put_u16 (put_u32 (put_u16 (put_u16 writer.old kind) class) ttl) length) }
+    ensures { OnOk result
+        (writer.new ≡ put_u16 (put_u32 (put_u16 (put_u16 writer.old kind) class) ttl) length) }
 {
     let kind = kind.to_be_bytes();
     let class = class.to_be_bytes();
@@ -107,7 +109,8 @@ fn put_service(
     weight: u16,
     port: u16,
 ) -> Result<(), NoMemory>
-    ensures { OnOk result (writer.new ≡ put_u16 (put_u16 (put_u16 writer.old priority) weight) port) }
+    ensures { OnOk result
+        (writer.new ≡ put_u16 (put_u16 (put_u16 writer.old priority) weight) port) }
 {
     let priority = priority.to_be_bytes();
     let weight = weight.to_be_bytes();

@@ -19,8 +19,8 @@ pub struct Mark {
     pub offsets: usize,
 }
 
-/// The bytes of a message so far, and where suffixes of its names stand in them. The names are borrowed. Contracts see
-/// what stands behind the header, which comes last.
+/// The bytes of a message so far, and where suffixes of its names stand in them. The names are
+/// borrowed. Contracts see what stands behind the header, which comes last.
 #[derive(Drop)]
 pub struct Writer<'a> {
     out: Vec<u8>,
@@ -84,7 +84,12 @@ impl<'a> Writer<'a> {
     /// Takes back what was written since the mark.
     pub fn back_to(&mut self, mark: Mark)
         requires header { 12 ≤ mark.bytes }
-        ensures { self.new ≡ record { bytes = take (mark.bytes - 12) self.old.bytes; offsets = take mark.offsets self.old.offsets } }
+        ensures { self.new
+            ≡ record {
+              bytes = take
+                  (mark.bytes - 12) self.old.bytes;
+              offsets = take mark.offsets self.old.offsets;
+            } }
     {
         self.out.truncate(mark.bytes);
         self.offsets.truncate(mark.offsets);
@@ -109,7 +114,8 @@ impl<'a> Writer<'a> {
         requires inside { at ≤ size self.old }
         requires small { size self.old - at < 2 ^ 16 }
         ensures { self.new ≡ record {
-          bytes = take (at - 14) self.old.bytes ++ (to_be_bytes w16 (size self.old - at) ++ drop (at - 12) self.old.bytes);
+          bytes = take (at - 14) self.old.bytes
+              ++ (to_be_bytes w16 (size self.old - at) ++ drop (at - 12) self.old.bytes);
           offsets = self.old.offsets;
         } }
     {
@@ -146,7 +152,7 @@ impl<'a> Writer<'a> {
 
     #[inline]
     fn put_pointer(&mut self, at: usize) -> Result<(), NoMemory>
-        requires { at < 16384 }
+        requires { at < POINTER_END }
         ensures { OnOk result (self.new ≡ put_pointer self.old at) }
     {
         self.put(&[192 + (at / 256) as u8, (at % 256) as u8])
@@ -167,7 +173,8 @@ impl<'a> Writer<'a> {
         self.put_suffixes(name)
     }
 
-    /// Writes a name as `put_name` does, where none was written before: no suffix of it can stand there.
+    /// Writes a name as `put_name` does, where none was written before: no suffix of it can stand
+    /// there.
     pub fn put_first_name(&mut self, name: &'a Name) -> Result<(), NoMemory>
         requires { self.old.offsets ≡ [] }
         ensures text { OnOk result (self.new ≡ put_name self.old name.now) }
@@ -184,8 +191,8 @@ impl<'a> Writer<'a> {
         self.put(&[0])
     }
 
-    // Writes a name label by label, up to a pointer or the zero byte. Stays a call, so that a name which stood before is
-    // written by few steps.
+    // Writes a name label by label, up to a pointer or the zero byte. Stays a call, so that a name
+    // which stood before is written by few steps.
     #[inline(never)]
     fn put_suffixes(&mut self, name: &'a Name) -> Result<(), NoMemory>
         ensures text { OnOk result (self.new ≡ put_name self.old name.now) }
@@ -234,7 +241,8 @@ pub fn begun(room: Bytes) -> Result<Vec<u8>, NoMemory>
 #[inline]
 fn overwrite(out: &mut Vec<u8>, at: usize, bytes: &[u8])
     requires { at + length bytes.now ≤ vec_len out.old }
-    ensures { out.new.items ≡ take at out.old.items ++ (bytes.now ++ drop (at + length bytes.now) out.old.items) }
+    ensures { out.new.items ≡ take at out.old.items
+        ++ (bytes.now ++ drop (at + length bytes.now) out.old.items) }
 {
     out[at..at + bytes.len()].copy_from_slice(bytes);
 }

@@ -53,7 +53,7 @@ fields_of (rdata.Ns name) = Compressed name ∷ []
 fields_of (rdata.Cname name) = Compressed name ∷ []
 fields_of (rdata.Soa soa) =
     Compressed soa.mname ∷ Compressed soa.rname ∷ U32 soa.serial ∷ U32 soa.refresh ∷ U32 soa.retry
-        ∷ U32 soa.expire ∷ U32 soa.minimum ∷ []
+    ∷ U32 soa.expire ∷ U32 soa.minimum ∷ []
 fields_of (rdata.Ptr name) = Compressed name ∷ []
 fields_of (rdata.Hinfo cpu os) = CharString cpu ∷ CharString os ∷ []
 fields_of (rdata.Mx preference exchange) = U16 preference ∷ Compressed exchange ∷ []
@@ -68,8 +68,8 @@ fields_of (rdata.Opaque kind bytes) = Unknown kind bytes ∷ []
 unfoldable pub is_known_type : ℕ → Bool
 is_known_type kind =
     kind == kinds.A || kind == kinds.NS || kind == kinds.CNAME || kind == kinds.SOA
-        || kind == kinds.PTR || kind == kinds.HINFO || kind == kinds.MX || kind == kinds.TXT
-        || kind == kinds.AAAA || kind == kinds.SRV || kind == kinds.OPT || kind == kinds.CAA
+    || kind == kinds.PTR || kind == kinds.HINFO || kind == kinds.MX || kind == kinds.TXT
+    || kind == kinds.AAAA || kind == kinds.SRV || kind == kinds.OPT || kind == kinds.CAA
 
 -- strings, each behind its length byte
 abbrev pub strings_length : List (List ℕ) → ℕ

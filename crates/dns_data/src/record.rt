@@ -216,9 +216,8 @@ impl Model for Record {
 
     ghost view = { λ r. record { owner = r.owner; class = r.class; ttl = r.ttl; rdata = r.rdata } };
 
-    ghost invariant =
-        { λ r. IsProper
-            (record { owner = r.owner; class = r.class; ttl = r.ttl; rdata = r.rdata }) };
+    ghost invariant = { λ r. IsProper
+        (record { owner = r.owner; class = r.class; ttl = r.ttl; rdata = r.rdata }) };
 }
 
 impl Record {

@@ -148,7 +148,9 @@ fn data_has_the_number_of_its_type_and_the_length_of_its_form(rt: HostRuntime) -
     assert_eq!(rt; shape_of(Rdata::A(1)), (1, 4));
     assert_eq!(rt; shape_of(Rdata::Aaaa(1)), (28, 16));
     assert_eq!(rt; shape_of(Rdata::Mx(1, name_of(alloc, "h.org")?)), (15, 9));
-    assert!(rt; is_known_type(41) && is_known_type(257) && !is_known_type(255) && !is_known_type(65280));
+    assert!(rt;
+        is_known_type(41) && is_known_type(257) && !is_known_type(255) && !is_known_type(65280)
+    );
     Ok(())
 }
 

@@ -62,18 +62,8 @@ tail_last (f ∷ []) = true
 tail_last (f ∷ g ∷ gs) = not (is_tail f) && tail_last (g ∷ gs)
 
 data_tail_last : (d : Rdata) → tail_last (fields_of d) ≡ true
-data_tail_last (rdata.A addr) = refl
-data_tail_last (rdata.Ns name) = refl
-data_tail_last (rdata.Cname name) = refl
-data_tail_last (rdata.Soa soa) = refl
-data_tail_last (rdata.Ptr name) = refl
-data_tail_last (rdata.Hinfo cpu os) = refl
-data_tail_last (rdata.Mx preference exchange) = refl
-data_tail_last (rdata.Txt strings) = refl
-data_tail_last (rdata.Aaaa addr) = refl
-data_tail_last (rdata.Srv priority weight port target) = refl
-data_tail_last (rdata.Caa flags tag value) = refl
 data_tail_last (rdata.Opaque kind bytes) = refl
+data_tail_last d = refl
 
 no_tail : (b c : Bool) → not b && c ≡ true → (b ≡ false) × (c ≡ true)
 no_tail false c e = (refl, e)

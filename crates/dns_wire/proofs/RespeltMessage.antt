@@ -43,18 +43,8 @@ data_fits head r short =
     omega (arith, whole, g.high, length-drop (length head.bytes + 2) e.bytes)
 
 kind_fits : (r : Rdata) → NumbersFit r → kind_of r < 2 ^ 16
-kind_fits (rdata.A addr) fits = omega arith
-kind_fits (rdata.Ns name) fits = omega arith
-kind_fits (rdata.Cname name) fits = omega arith
-kind_fits (rdata.Soa soa) fits = omega arith
-kind_fits (rdata.Ptr name) fits = omega arith
-kind_fits (rdata.Hinfo cpu os) fits = omega arith
-kind_fits (rdata.Mx preference exchange) fits = omega arith
-kind_fits (rdata.Txt strings) fits = omega arith
-kind_fits (rdata.Aaaa addr) fits = omega arith
-kind_fits (rdata.Srv priority weight port target) fits = omega arith
-kind_fits (rdata.Caa flags tag value) fits = omega arith
 kind_fits (rdata.Opaque kind bytes) fits = fits.0
+kind_fits r fits = omega arith
 
 pub record_spelt : (bytes : List ℕ) (d : Draft) (r : RecordData) → IsProper r → OffsetsSpelt bytes d → Stands bytes 12 (put_record d r).bytes
     → RecordAt bytes (size d) r (size (put_record d r)) × OffsetsSpelt bytes (put_record d r)

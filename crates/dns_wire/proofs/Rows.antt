@@ -33,18 +33,8 @@ unknown_row kind text other = record {
 
 pub row : (bytes : List ℕ) (at behind : ℕ) (d : Rdata) → DataAt bytes at d behind → Row d
 unfolding is_known_type
-row bytes at behind (rdata.A addr) h = record { again = refl; shape_is = refl; not_opt = λ e. omega arith }
-row bytes at behind (rdata.Ns name) h = record { again = refl; shape_is = refl; not_opt = λ e. omega arith }
-row bytes at behind (rdata.Cname name) h = record { again = refl; shape_is = refl; not_opt = λ e. omega arith }
-row bytes at behind (rdata.Soa soa) h = record { again = refl; shape_is = refl; not_opt = λ e. omega arith }
-row bytes at behind (rdata.Ptr name) h = record { again = refl; shape_is = refl; not_opt = λ e. omega arith }
-row bytes at behind (rdata.Hinfo cpu os) h = record { again = refl; shape_is = refl; not_opt = λ e. omega arith }
-row bytes at behind (rdata.Mx preference exchange) h = record { again = refl; shape_is = refl; not_opt = λ e. omega arith }
-row bytes at behind (rdata.Txt strings) h = record { again = refl; shape_is = refl; not_opt = λ e. omega arith }
-row bytes at behind (rdata.Aaaa addr) h = record { again = refl; shape_is = refl; not_opt = λ e. omega arith }
-row bytes at behind (rdata.Srv priority weight port target) h = record { again = refl; shape_is = refl; not_opt = λ e. omega arith }
-row bytes at behind (rdata.Caa flags tag value) h = record { again = refl; shape_is = refl; not_opt = λ e. omega arith }
 row bytes at behind (rdata.Opaque kind text) h = unknown_row kind text h.1.3
+row bytes at behind d h = record { again = refl; shape_is = refl; not_opt = λ e. omega arith }
 
 -- two data of one type have fields of the same kinds
 pub same_shapes : (bytes : List ℕ) (at x y : ℕ) (d e : Rdata) → DataAt bytes at d x → DataAt bytes at e y → kind_of d ≡ kind_of e → map shape (fields_of d) ≡ map shape (fields_of e)

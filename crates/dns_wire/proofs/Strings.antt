@@ -5,7 +5,7 @@ use Rattle.std.specs.List.{AllByRecursion}
 use Rattle.dns_data.specs.Record.{IsCharacterString, strings_length}
 use Rattle.dns_wire.specs.Data.{CharacterStringAt, CharacterStringsAt, no_string, string}
 
--- two strings at one offset are one
+-- two character-strings at one offset are one
 pub one_string : (bytes : List ℕ) (at m n : ℕ) (a b : List ℕ) → CharacterStringAt bytes at a m → CharacterStringAt bytes at b n → m ≡ n
 one_string bytes at m n a b p q = omega (arith, p.size.is, q.size.is, p.behind_is, q.behind_is)
 
@@ -13,7 +13,7 @@ pub strings_forward : {bytes : List ℕ} {at behind : ℕ} {strings : List (List
 strings_forward (no_string is) = omega arith
 strings_forward (string here more) = omega (arith, here.behind_is, strings_forward more)
 
--- what was read up to an offset is these strings: whatever strings follow complete them, and nothing else does
+-- what was read up to an offset is these character-strings: whatever ones follow complete them, and nothing else does
 pub record StringsSoFar (bytes : List ℕ) (start at behind : ℕ) (front : List (List ℕ)) : Type 0 where
   pub size : strings_length front + start ≡ at
   pub each : AllByRecursion IsCharacterString front
@@ -23,7 +23,7 @@ pub record StringsSoFar (bytes : List ℕ) (start at behind : ℕ) (front : List
 pub strings_begin : (bytes : List ℕ) (start behind : ℕ) → StringsSoFar bytes start start behind []
 strings_begin bytes start behind = record { size = omega arith; each = tt; sound = λ others h. h; complete = λ whole h. (whole, h) }
 
--- behind a string, the rest
+-- behind a character-string, the rest
 behind_string : {bytes : List ℕ} {at middle behind : ℕ} {first : List ℕ} {whole : List (List ℕ)} → CharacterStringAt bytes at first middle → middle ≤ behind → CharacterStringsAt bytes at whole behind
     → (others : List (List ℕ)) × CharacterStringsAt bytes middle others behind
 behind_string here inside (no_string is) = absurd (omega (arith, here.behind_is))
@@ -54,7 +54,7 @@ pub strings_end : {bytes : List ℕ} {start at behind : ℕ} {front : List (List
 strings_end {bytes} {start} {at} {behind} {front} so_far is =
     subst (λ (l : List (List ℕ)). CharacterStringsAt bytes start l behind) (append-nil front) (so_far.sound [] (no_string is))
 
--- where no string stands, there are no strings
+-- where no character-string stands, there are none
 first_string : {bytes : List ℕ} {at behind : ℕ} {whole : List (List ℕ)} → CharacterStringsAt bytes at whole behind → at < behind
     → ((first : List ℕ) (middle : ℕ) → CharacterStringAt bytes at first middle → middle ≤ behind → ⊥) → ⊥
 first_string (no_string is) more none = omega arith

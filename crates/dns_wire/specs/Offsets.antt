@@ -6,7 +6,7 @@ use Rattle.dns_data.specs.Name.{IsWire, labels_of}
 use Rattle.dns_data.specs.declared.limit.TheConstants as limits
 use Rattle.dns_wire.specs.Written.{OffsetData}
 
--- an offset by the wire form of its suffix
+-- an offset by the wire format of its suffix
 abbrev pub offset_of : Bor (List ℕ) × ℕ → OffsetData
 offset_of p = record { suffix = labels_of p.0.now; at = p.1 }
 

@@ -46,7 +46,9 @@ earliest offsets suffix =
 abbrev pub keep : Draft → List (List ℕ) → Draft
 keep d suffix = record {
   bytes = d.bytes;
-  offsets = if nat_lt (size d) limits.POINTER_END then d.offsets ++ record { suffix = suffix; at = size d } ∷ []
+  offsets =
+      if nat_lt (size d) limits.POINTER_END
+      then d.offsets ++ record { suffix = suffix; at = size d } ∷ []
       else d.offsets;
 }
 
@@ -83,11 +85,11 @@ put_question d q = put_u16 (put_u16 (put_name d q.name) q.kind) q.class
 abbrev pub put_u32 : Draft → ℕ → Draft
 put_u32 d number = put d (to_be_bytes w32 number)
 
--- with a string behind its length
+-- with a character-string behind its length
 abbrev pub put_string : Draft → List ℕ → Draft
 put_string d string = put d (length string ∷ string)
 
--- with strings behind, in their order
+-- with character-strings behind, in their order
 abbrev pub put_strings : Draft → List (List ℕ) → Draft
 put_strings d [] = d
 put_strings d (string ∷ strings) = put_strings (put_string d string) strings
@@ -145,9 +147,9 @@ bit false = 0
 -- an OPT record with the root as owner, no data, and no flag but DO
 unfoldable pub opt_bytes : Option Opt → List ℕ
 opt_bytes None = []
-opt_bytes (Some o) = 0
-    ∷ (to_be_bytes w16 kinds.OPT ++ to_be_bytes w16 o.size ++ o.ext ∷ o.version ∷ (128 * bit o.dnssec) ∷ 0
-    ∷ 0 ∷ 0 ∷ [])
+opt_bytes (Some o) =
+    0 ∷ (to_be_bytes w16 kinds.OPT ++ to_be_bytes w16 o.size
+    ++ o.ext ∷ o.version ∷ (128 * bit o.dnssec) ∷ 0 ∷ 0 ∷ 0 ∷ [])
 
 -- how many OPT records there are
 abbrev pub opt_count : Option Opt → ℕ

@@ -28,7 +28,12 @@ impl<'a> Model for Cursor<'a> {
 
     ghost Value = { CursorData };
 
-    ghost view = { λ c. record { bytes = c.bytes.now; at = c.at; limit = c.limit; is_sound = c.is_sound } };
+    ghost view = { λ c. record {
+      bytes = c.bytes.now;
+      at = c.at;
+      limit = c.limit;
+      is_sound = c.is_sound;
+    } };
 
     ghost invariant = { λ c. (c.at ≤ c.limit) × (c.limit ≤ length c.bytes.now) };
 }

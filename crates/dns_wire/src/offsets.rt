@@ -12,8 +12,8 @@ use std::marker::Model;
 // As many offsets as stand in the value itself. Most replies have fewer.
 const NEAR: usize = 6;
 
-/// Where suffixes of names were written out, the earliest first: each is the wire form of a suffix
-/// without the zero byte, and an offset below 16,384. The first six take no memory.
+/// Where suffixes of names were written out, the earliest first: each is the wire format of a
+/// suffix without the zero byte, and an offset below 16,384. The first six take no memory.
 #[derive(Drop)]
 pub struct Offsets<'a> {
     near: [(&'a [u8], usize); NEAR],

@@ -291,8 +291,8 @@ fn header_bytes(parts: &MessageParts<'_>, kept: Counts) -> [u8; 12]
     requires authority { kept.authority
         ≡ length (take (total kept - length parts.now.answer.now) parts.now.authority.now) }
     requires additional { kept.additional
-        ≡ length (take
-        (total kept - length parts.now.answer.now - length parts.now.authority.now) parts.now.additional.now) }
+        ≡ length (take (total kept - length parts.now.answer.now - length parts.now.authority.now)
+        parts.now.additional.now) }
     ensures text { result ≡ header (truncated (message_of parts.now) (total kept)) }
     ensures fits { parts.now.flags.id < 2 ^ 16 }
 {

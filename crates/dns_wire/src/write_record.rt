@@ -132,7 +132,7 @@ fn put_u32(writer: &mut Writer<'_>, number: u32) -> Result<(), NoMemory>
     writer.put(&number.to_be_bytes())
 }
 
-// A string behind its length.
+// A character-string behind its length.
 fn put_string(writer: &mut Writer<'_>, string: &Bytes) -> Result<(), NoMemory>
     requires { IsCharacterString string.now }
     ensures { OnOk result (writer.new ≡ put_string writer.old string.now) }

@@ -5,7 +5,7 @@ use crate::fault::CaseFault;
 use crate::fields::{bytes_field, read_bytes};
 use dns_data::Message;
 use dns_data::limit::{MESSAGE_BYTES, UDP_BYTES};
-use dns_wire::{QueryFault, ReplyFault, read_query, read_reply, write_message};
+use dns_wire::{QueryFault, WireFault, read_query, read_reply, write_message};
 use std::alloc::Global;
 
 /// What a query is refused for, or `ok` and its message, spelt anew.
@@ -39,8 +39,8 @@ pub fn reply(alloc: Global, case: &Case<'_>) -> Result<String, CaseFault> {
     let bytes = read_bytes(alloc, case.argument()?)?;
     match read_reply(alloc, &bytes) {
         Ok(message) => spelt(alloc, &message),
-        Err(ReplyFault::Bad) => Ok(String::from_str(alloc, "bad")?),
-        Err(ReplyFault::NoMemory) => Err(CaseFault::NoMemory),
+        Err(WireFault::Bad) => Ok(String::from_str(alloc, "bad")?),
+        Err(WireFault::NoMemory) => Err(CaseFault::NoMemory),
     }
 }
 
@@ -55,8 +55,8 @@ pub fn truncated(alloc: Global, case: &Case<'_>) -> Result<String, CaseFault> {
     }
     match read_reply(alloc, &read_bytes(alloc, bytes)?) {
         Ok(message) => bytes_field(alloc, write_message(alloc, &message, limit)?.as_slice()),
-        Err(ReplyFault::Bad) => Err(CaseFault::Bad),
-        Err(ReplyFault::NoMemory) => Err(CaseFault::NoMemory),
+        Err(WireFault::Bad) => Err(CaseFault::Bad),
+        Err(WireFault::NoMemory) => Err(CaseFault::NoMemory),
     }
 }
 

@@ -12,6 +12,6 @@ pub use Rattle.dns_data.specs.Message.{AnswerData, AreCodes, MessageData}
 pub use Rattle.dns_data.specs.Name.{IsLabel, IsName, IsWire, IsWithin, labels_of, lowered}
 pub use Rattle.dns_data.specs.Name.{same_labels, spelled, wire_length}
 pub use Rattle.dns_data.specs.NameText.{ReadsName, name_of, name_text}
-pub use Rattle.dns_data.specs.Record.{IsFormed, IsProper, RecordData, data_length, has_form, kind_of}
+pub use Rattle.dns_data.specs.Record.{IsFormed, IsProper, RecordData, data_length, is_known_type, kind_of}
 pub use Rattle.dns_data.specs.Record.{names_in}
 pub use Rattle.dns_data.specs.ReverseNames.{StandsFor, reverse_of, reversed_of}

@@ -1,10 +1,11 @@
--- Resource records as plain data (RFC 1035, sections 3.2 and 3.3), and when one is proper.
+-- Resource records as plain data (RFC 1035, sections 3.2 and 3.3), the fields of their data, and
+-- when one is proper.
 use Rattle.std.specs.Prelude.{◌≡◌, ℕ, ◌+◌, ◌≤◌, ◌<◌, ◌^◌, ◌==◌, ◌||◌, Bool, false, List, [], ◌∷◌, length}
 use Rattle.std.specs.List.{AllByRecursion}
 use Rattle.dns_data.specs.Name.{IsName, wire_length}
 use Rattle.dns_data.specs.declared.record.Rdata.{Rdata}
 use Rattle.dns_data.specs.declared.record.Rdata.TheVariants as rdata
-use Rattle.dns_data.specs.declared.record.Soa.{Soa}
+use Rattle.dns_data.specs.declared.kind.TheConstants as kinds
 
 pub record RecordData : Type 0 where
   pub owner : List (List ℕ)
@@ -12,115 +13,140 @@ pub record RecordData : Type 0 where
   pub ttl : ℕ
   pub rdata : Rdata
 
+-- A field of the data of a record: a name that may be compressed; a name that never is; numbers of
+-- 8, 16, 32 and 128 bits; a character-string; one that isn't empty; character-strings up to the
+-- end; bytes up to the end; and the bytes of a type without a form of its own, by its number.
+pub data Field : Type 0 where
+  Compressed : List (List ℕ) → Field
+  Uncompressed : List (List ℕ) → Field
+  U8 : ℕ → Field
+  U16 : ℕ → Field
+  U32 : ℕ → Field
+  U128 : ℕ → Field
+  CharString : List ℕ → Field
+  NonEmpty : List ℕ → Field
+  CharStrings : List (List ℕ) → Field
+  Remainder : List ℕ → Field
+  Unknown : ℕ → List ℕ → Field
+
+-- The table of types: their numbers, and the fields of their data.
+
 -- the number of a type
 abbrev pub kind_of : Rdata → ℕ
-kind_of (rdata.A addr) = 1
-kind_of (rdata.Ns name) = 2
-kind_of (rdata.Cname name) = 5
-kind_of (rdata.Soa soa) = 6
-kind_of (rdata.Ptr name) = 12
-kind_of (rdata.Hinfo cpu os) = 13
-kind_of (rdata.Mx preference exchange) = 15
-kind_of (rdata.Txt strings) = 16
-kind_of (rdata.Aaaa addr) = 28
-kind_of (rdata.Srv priority weight port target) = 33
-kind_of (rdata.Caa flags tag value) = 257
+kind_of (rdata.A addr) = kinds.A
+kind_of (rdata.Ns name) = kinds.NS
+kind_of (rdata.Cname name) = kinds.CNAME
+kind_of (rdata.Soa soa) = kinds.SOA
+kind_of (rdata.Ptr name) = kinds.PTR
+kind_of (rdata.Hinfo cpu os) = kinds.HINFO
+kind_of (rdata.Mx preference exchange) = kinds.MX
+kind_of (rdata.Txt strings) = kinds.TXT
+kind_of (rdata.Aaaa addr) = kinds.AAAA
+kind_of (rdata.Srv priority weight port target) = kinds.SRV
+kind_of (rdata.Caa flags tag value) = kinds.CAA
 kind_of (rdata.Opaque kind bytes) = kind
 
+-- the fields of the data, in their order
+abbrev pub fields_of : Rdata → List Field
+fields_of (rdata.A addr) = U32 addr ∷ []
+fields_of (rdata.Ns name) = Compressed name ∷ []
+fields_of (rdata.Cname name) = Compressed name ∷ []
+fields_of (rdata.Soa soa) =
+    Compressed soa.mname ∷ Compressed soa.rname ∷ U32 soa.serial ∷ U32 soa.refresh ∷ U32 soa.retry
+    ∷ U32 soa.expire ∷ U32 soa.minimum ∷ []
+fields_of (rdata.Ptr name) = Compressed name ∷ []
+fields_of (rdata.Hinfo cpu os) = CharString cpu ∷ CharString os ∷ []
+fields_of (rdata.Mx preference exchange) = U16 preference ∷ Compressed exchange ∷ []
+fields_of (rdata.Txt strings) = CharStrings strings ∷ []
+fields_of (rdata.Aaaa addr) = U128 addr ∷ []
+fields_of (rdata.Srv priority weight port target) =
+    U16 priority ∷ U16 weight ∷ U16 port ∷ Uncompressed target ∷ []
+fields_of (rdata.Caa flags tag value) = U8 flags ∷ NonEmpty tag ∷ Remainder value ∷ []
+fields_of (rdata.Opaque kind bytes) = Unknown kind bytes ∷ []
+
 -- whether a type has a form of its own, OPT (41) among them, so that no record of it is opaque
-unfoldable pub has_form : ℕ → Bool
-has_form kind =
-    kind == 1 || kind == 2 || kind == 5 || kind == 6 || kind == 12 || kind == 13 || kind == 15 || kind == 16 || kind == 28 || kind == 33 || kind == 41 || kind == 257
+unfoldable pub is_known_type : ℕ → Bool
+is_known_type kind =
+    kind == kinds.A || kind == kinds.NS || kind == kinds.CNAME || kind == kinds.SOA
+    || kind == kinds.PTR || kind == kinds.HINFO || kind == kinds.MX || kind == kinds.TXT
+    || kind == kinds.AAAA || kind == kinds.SRV || kind == kinds.OPT || kind == kinds.CAA
 
 -- strings, each behind its length byte
 abbrev pub strings_length : List (List ℕ) → ℕ
 strings_length [] = 0
 strings_length (string ∷ strings) = length string + 1 + strings_length strings
 
--- how many bytes the data takes with its names written whole
-abbrev pub data_length : Rdata → ℕ
-data_length (rdata.A addr) = 4
-data_length (rdata.Ns name) = wire_length name
-data_length (rdata.Cname name) = wire_length name
-data_length (rdata.Soa soa) = wire_length soa.mname + wire_length soa.rname + 20
-data_length (rdata.Ptr name) = wire_length name
-data_length (rdata.Hinfo cpu os) = length cpu + length os + 2
-data_length (rdata.Mx preference exchange) = 2 + wire_length exchange
-data_length (rdata.Txt strings) = strings_length strings
-data_length (rdata.Aaaa addr) = 16
-data_length (rdata.Srv priority weight port target) = 6 + wire_length target
-data_length (rdata.Caa flags tag value) = 2 + length tag + length value
-data_length (rdata.Opaque kind bytes) = length bytes
+-- how many bytes a field takes, a name aside
+abbrev pub text_length : Field → ℕ
+text_length (Compressed labels) = 0
+text_length (Uncompressed labels) = 0
+text_length (U8 number) = 1
+text_length (U16 number) = 2
+text_length (U32 number) = 4
+text_length (U128 number) = 16
+text_length (CharString text) = length text + 1
+text_length (NonEmpty text) = length text + 1
+text_length (CharStrings texts) = strings_length texts
+text_length (Remainder text) = length text
+text_length (Unknown kind text) = length text
+
+abbrev pub texts_length : List Field → ℕ
+texts_length [] = 0
+texts_length (field ∷ fields) = text_length field + texts_length fields
+
+-- the names among fields
+abbrev pub names_among : List Field → List (List (List ℕ))
+names_among [] = []
+names_among (Compressed labels ∷ fields) = labels ∷ names_among fields
+names_among (Uncompressed labels ∷ fields) = labels ∷ names_among fields
+names_among (field ∷ fields) = names_among fields
+
+-- how many bytes names take that are written whole
+abbrev pub names_length : List (List (List ℕ)) → ℕ
+names_length [] = 0
+names_length (name ∷ names) = wire_length name + names_length names
 
 -- the names that the data holds
 abbrev pub names_in : Rdata → List (List (List ℕ))
-names_in (rdata.A addr) = []
-names_in (rdata.Ns name) = name ∷ []
-names_in (rdata.Cname name) = name ∷ []
-names_in (rdata.Soa soa) = soa.mname ∷ soa.rname ∷ []
-names_in (rdata.Ptr name) = name ∷ []
-names_in (rdata.Hinfo cpu os) = []
-names_in (rdata.Mx preference exchange) = exchange ∷ []
-names_in (rdata.Txt strings) = []
-names_in (rdata.Aaaa addr) = []
-names_in (rdata.Srv priority weight port target) = target ∷ []
-names_in (rdata.Caa flags tag value) = []
-names_in (rdata.Opaque kind bytes) = []
+names_in d = names_among (fields_of d)
+
+-- how many bytes the data takes with its names written whole
+abbrev pub data_length : Rdata → ℕ
+data_length d = names_length (names_in d) + texts_length (fields_of d)
 
 -- a string's length stands in a byte
-abbrev pub IsString : List ℕ → Type 0
-IsString string = length string ≤ 255
+abbrev pub IsCharacterString : List ℕ → Type 0
+IsCharacterString string = length string ≤ 255
 
-pub record AreStrings (strings : List (List ℕ)) : Type 0 where
-  pub each : AllByRecursion IsString strings
-  pub short : strings_length strings ≤ 65535
+-- strings have their form, a tag has at least one byte (RFC 8659, section 4.1), and bytes without a
+-- form are those of a type that has none
+abbrev pub HasForm : Field → Type 0
+HasForm (CharString text) = IsCharacterString text
+HasForm (NonEmpty text) = (1 ≤ length text) × IsCharacterString text
+HasForm (CharStrings texts) = AllByRecursion IsCharacterString texts
+HasForm (Unknown kind text) = is_known_type kind ≡ false
+HasForm field = Unit {0}
 
--- a tag has at least one byte (RFC 8659, section 4.1)
-pub record IsProperty (tag value : List ℕ) : Type 0 where
-  pub some : 1 ≤ length tag
-  pub tag_fits : length tag ≤ 255
-  pub short : 2 + length tag + length value ≤ 65535
-
-pub record IsOpaque (kind : ℕ) (bytes : List ℕ) : Type 0 where
-  pub other : has_form kind ≡ false
-  pub short : length bytes ≤ 65535
+pub record AreFormed (fields : List Field) : Type 0 where
+  pub each : AllByRecursion HasForm fields
+  pub short : texts_length fields ≤ 65535
 
 -- the strings and bytes have the form of the type. Names and numbers always have.
 abbrev pub IsFormed : Rdata → Type 0
-IsFormed (rdata.A addr) = Unit {0}
-IsFormed (rdata.Ns name) = Unit {0}
-IsFormed (rdata.Cname name) = Unit {0}
-IsFormed (rdata.Soa soa) = Unit {0}
-IsFormed (rdata.Ptr name) = Unit {0}
-IsFormed (rdata.Hinfo cpu os) = IsString cpu × IsString os
-IsFormed (rdata.Mx preference exchange) = Unit {0}
-IsFormed (rdata.Txt strings) = AreStrings strings
-IsFormed (rdata.Aaaa addr) = Unit {0}
-IsFormed (rdata.Srv priority weight port target) = Unit {0}
-IsFormed (rdata.Caa flags tag value) = IsProperty tag value
-IsFormed (rdata.Opaque kind bytes) = IsOpaque kind bytes
+IsFormed d = AreFormed (fields_of d)
 
-pub record SoaFits (soa : Soa) : Type 0 where
-  pub serial : soa.serial < 2 ^ 32
-  pub refresh : soa.refresh < 2 ^ 32
-  pub retry : soa.retry < 2 ^ 32
-  pub expire : soa.expire < 2 ^ 32
-  pub minimum : soa.minimum < 2 ^ 32
+-- a number fits its size
+abbrev pub NumberFits : Field → Type 0
+NumberFits (U8 number) = number < 2 ^ 8
+NumberFits (U16 number) = number < 2 ^ 16
+NumberFits (U32 number) = number < 2 ^ 32
+NumberFits (U128 number) = number < 2 ^ 128
+NumberFits (Unknown kind text) = kind < 2 ^ 16
+NumberFits field = Unit {0}
 
 -- the numbers fit the form of the type
 abbrev pub NumbersFit : Rdata → Type 0
-NumbersFit (rdata.A addr) = addr < 2 ^ 32
-NumbersFit (rdata.Ns name) = Unit {0}
-NumbersFit (rdata.Cname name) = Unit {0}
-NumbersFit (rdata.Soa soa) = SoaFits soa
-NumbersFit (rdata.Ptr name) = Unit {0}
-NumbersFit (rdata.Hinfo cpu os) = Unit {0}
-NumbersFit (rdata.Mx preference exchange) = preference < 2 ^ 16
-NumbersFit (rdata.Txt strings) = Unit {0}
-NumbersFit (rdata.Aaaa addr) = addr < 2 ^ 128
-NumbersFit (rdata.Srv priority weight port target) = (priority < 2 ^ 16) × (weight < 2 ^ 16) × (port < 2 ^ 16)
-NumbersFit (rdata.Caa flags tag value) = flags < 2 ^ 8
-NumbersFit (rdata.Opaque kind bytes) = kind < 2 ^ 16
+NumbersFit d = AllByRecursion NumberFits (fields_of d)
 
 -- the data has the form of its type, and takes at most 65,535 bytes with its names written whole
 pub record IsData (d : Rdata) : Type 0 where

@@ -36,7 +36,7 @@ pub use message::{Message, Opt, Question, Transport};
 pub use name::Name;
 pub use name_read::NameFault;
 pub use query::Query;
-pub use record::{Rdata, Record, Soa, has_form};
+pub use record::{Rdata, Record, Soa, is_known_type};
 pub use zone::Zone;
 
 pub type Blocks = Seq<Block>;

@@ -16,8 +16,8 @@ pub struct Question {
     pub class: u16,
 }
 
-/// An OPT record (RFC 6891, section 6.1): the payload size in bytes, the upper 8 bits of the extended RCODE, the
-/// version, and the DO bit.
+/// An OPT record (RFC 6891, section 6.1): the payload size in bytes, the upper 8 bits of the
+/// extended RCODE, the version, and the DO bit.
 #[derive(Clone, Copy, Debug, PartialEq, Eq)]
 pub struct Opt {
     pub size: u16,

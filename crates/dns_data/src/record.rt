@@ -1,9 +1,10 @@
 ghost use Rattle.std.specs.Prelude.{◌≡◌, ◌^◌, ◌<◌, ◌≤◌, length};
 ghost use Rattle.std.specs.List.{AllByRecursion};
 ghost use Rattle.dns_data.specs.Name.{IsName};
-ghost use Rattle.dns_data.specs.Record.{IsFormed, NumbersFit, SoaFits, kind_of, data_length, names_in, has_form, strings_length};
+ghost use Rattle.dns_data.specs.Record.{IsFormed, NumbersFit, kind_of, data_length, names_in, is_known_type, strings_length};
+ghost use Rattle.dns_data.specs.declared.record.Rdata.TheVariants as rdata;
 
-use crate::{Bytes, Copies, Name, NoMemory, Strings};
+use crate::{Bytes, Copies, Name, NoMemory, Strings, kind};
 use std::alloc::Global;
 use std::marker::Model;
 
@@ -23,7 +24,7 @@ impl Soa {
     // Tells that the numbers are in the range of their Rust type. It does nothing.
     #[inline]
     fn read_numbers(&self)
-        ensures { SoaFits self.now }
+        ensures { NumbersFit (rdata.Soa self.now) }
     {
         let _serial = self.serial;
         let _refresh = self.refresh;
@@ -47,8 +48,8 @@ impl Copies for Soa {
     }
 }
 
-/// The data of a record, by its type (RFC 1035, section 3.3; AAAA by RFC 3596; SRV by RFC 2782, with priority, weight, port
-/// and target; CAA by RFC 8659, with flags, tag and value).
+/// The data of a record, by its type (RFC 1035, section 3.3; AAAA by RFC 3596; SRV by RFC 2782,
+/// with priority, weight, port and target; CAA by RFC 8659, with flags, tag and value).
 #[derive(Debug, Drop)]
 pub enum Rdata {
     A(u32),
@@ -74,17 +75,17 @@ impl Rdata {
         ensures { result ≡ kind_of self.now }
     {
         match self {
-            Rdata::A(_) => 1,
-            Rdata::Ns(_) => 2,
-            Rdata::Cname(_) => 5,
-            Rdata::Soa(_) => 6,
-            Rdata::Ptr(_) => 12,
-            Rdata::Hinfo(..) => 13,
-            Rdata::Mx(..) => 15,
-            Rdata::Txt(_) => 16,
-            Rdata::Aaaa(_) => 28,
-            Rdata::Srv(..) => 33,
-            Rdata::Caa(..) => 257,
+            Rdata::A(_) => kind::A,
+            Rdata::Ns(_) => kind::NS,
+            Rdata::Cname(_) => kind::CNAME,
+            Rdata::Soa(_) => kind::SOA,
+            Rdata::Ptr(_) => kind::PTR,
+            Rdata::Hinfo(..) => kind::HINFO,
+            Rdata::Mx(..) => kind::MX,
+            Rdata::Txt(_) => kind::TXT,
+            Rdata::Aaaa(_) => kind::AAAA,
+            Rdata::Srv(..) => kind::SRV,
+            Rdata::Caa(..) => kind::CAA,
             Rdata::Opaque(kind, _) => *kind,
         }
     }
@@ -154,23 +155,24 @@ fn strings_len(strings: &[Bytes]) -> usize
     total
 }
 
-/// Whether a type has a form of its own, so that no record of it is opaque. OPT (41) is one of them.
-#[tactic(auto, unfolding(crate::specs::Record::has_form))]
-pub fn has_form(kind: u16) -> bool
-    ensures { result ≡ has_form kind }
+/// Whether a type has a form of its own, so that no record of it is opaque. OPT (41) is one of
+/// them.
+#[tactic(auto, unfolding(crate::specs::Record::is_known_type))]
+pub fn is_known_type(kind: u16) -> bool
+    ensures { result ≡ is_known_type kind }
 {
-    kind == 1
-        || kind == 2
-        || kind == 5
-        || kind == 6
-        || kind == 12
-        || kind == 13
-        || kind == 15
-        || kind == 16
-        || kind == 28
-        || kind == 33
-        || kind == 41
-        || kind == 257
+    kind == kind::A
+        || kind == kind::NS
+        || kind == kind::CNAME
+        || kind == kind::SOA
+        || kind == kind::PTR
+        || kind == kind::HINFO
+        || kind == kind::MX
+        || kind == kind::TXT
+        || kind == kind::AAAA
+        || kind == kind::SRV
+        || kind == kind::OPT
+        || kind == kind::CAA
 }
 
 impl Copies for Rdata {
@@ -214,7 +216,8 @@ impl Model for Record {
 
     ghost view = { λ r. record { owner = r.owner; class = r.class; ttl = r.ttl; rdata = r.rdata } };
 
-    ghost invariant = { λ r. IsProper (record { owner = r.owner; class = r.class; ttl = r.ttl; rdata = r.rdata }) };
+    ghost invariant = { λ r. IsProper
+        (record { owner = r.owner; class = r.class; ttl = r.ttl; rdata = r.rdata }) };
 }
 
 impl Record {
@@ -237,8 +240,8 @@ impl Record {
 }
 
 impl Record {
-    /// Ends a record as a drop does. It stands where it is called, so that a record of an address, whose owner takes no
-    /// memory, costs no call.
+    /// Ends a record as a drop does. It stands where it is called, so that a record of an address,
+    /// whose owner takes no memory, costs no call.
     #[inline(always)]
     pub fn end(self) {
         let Record {

@@ -1,23 +1,21 @@
--- How drafts grow: bytes and places are only put behind those that are there.
+-- How drafts grow: bytes and offsets are only put behind those that are there.
 use Rattle.std.proofs.Common.{◌≡◌, ◌≤◌, ℕ, ◌+◌, ◌-◌, true, false, List, [], ◌∷◌, ◌++◌, length, take, drop, Option, Some, None, refl, sym, ap, ◌∙◌, append_assoc, arith, length-append, length-drop}
 use Rattle.std.proofs.lemmas.List.{append-nil, take_at, drop-drop, drop-take, drop-append-le, length-take}
 use Rattle.std.specs.Prelude.{◌/◌, ◌%◌, nat_lt, if◌then◌else◌}
 use Rattle.std.specs.Int.{w16, w32, w128, to_be_bytes}
 use Rattle.dns_data.specs.Name.{spelled, wire_length}
 use Rattle.dns_data.specs.NameLaws.{length-spelled}
-use Rattle.dns_data.specs.Record.{RecordData, kind_of, data_length, strings_length}
+use Rattle.dns_data.specs.Record.{RecordData, kind_of, fields_of, data_length, strings_length, names_length, names_among, texts_length, Field, Compressed, Uncompressed, U8, U16, U32, U128, CharString, NonEmpty, CharStrings, Remainder, Unknown}
 use Rattle.dns_data.specs.declared.message.Question.{Question}
-use Rattle.dns_data.specs.declared.record.Soa.{Soa}
 use Rattle.dns_data.specs.declared.record.Rdata.{Rdata}
-use Rattle.dns_data.specs.declared.record.Rdata.TheVariants as rdata
-use Rattle.dns_wire.specs.Written.{Draft, PlaceData, put, put_number, put_long, put_label, put_name, put_whole, put_question, put_string, put_strings, put_soa, put_data, put_record, keep, earliest, pointer_or, with_length}
+use Rattle.dns_wire.specs.Written.{Draft, OffsetData, put, put_u16, put_u32, put_label, put_name, put_whole, put_question, put_string, put_strings, put_fields, put_data, put_record, keep, earliest, pointer_or, with_length}
 
 -- the second draft has at least so many more bytes than the first, at most so many, and the first is its front
 pub record Grown (d e : Draft) (least most : ℕ) : Type 0 where
   pub more : List ℕ
-  pub others : List PlaceData
+  pub others : List OffsetData
   pub bytes : e.bytes ≡ d.bytes ++ more
-  pub places : e.places ≡ d.places ++ others
+  pub offsets : e.offsets ≡ d.offsets ++ others
   pub low : least ≤ length more
   pub high : length more ≤ most
 
@@ -27,22 +25,22 @@ chain {d} {e} {f} p q = record {
   more = p.more ++ q.more;
   others = p.others ++ q.others;
   bytes = q.bytes ∙ ap (λ (t : List ℕ). t ++ q.more) p.bytes ∙ append_assoc d.bytes p.more q.more;
-  places = q.places ∙ ap (λ (t : List PlaceData). t ++ q.others) p.places ∙ append_assoc d.places p.others q.others;
+  offsets = q.offsets ∙ ap (λ (t : List OffsetData). t ++ q.others) p.offsets ∙ append_assoc d.offsets p.others q.others;
   low = omega (arith, p.low, q.low, length-append p.more q.more);
   high = omega (arith, p.high, q.high, length-append p.more q.more);
 }
 
 -- within wider bounds
 pub within : {d e : Draft} {a b x y : ℕ} → Grown d e a x → b ≤ a → x ≤ y → Grown d e b y
-within p low high = record { more = p.more; others = p.others; bytes = p.bytes; places = p.places; low = omega (arith, p.low); high = omega (arith, p.high) }
+within p low high = record { more = p.more; others = p.others; bytes = p.bytes; offsets = p.offsets; low = omega (arith, p.low); high = omega (arith, p.high) }
 
 pub grown-put : (d : Draft) (bytes : List ℕ) (n : ℕ) → length bytes ≡ n → Grown d (put d bytes) n n
-grown-put d bytes n e = record { more = bytes; others = []; bytes = refl; places = sym (append-nil d.places); low = omega arith; high = omega arith }
+grown-put d bytes n e = record { more = bytes; others = []; bytes = refl; offsets = sym (append-nil d.offsets); low = omega arith; high = omega arith }
 
 pub grown-keep : (d : Draft) (suffix : List (List ℕ)) → Grown d (keep d suffix) 0 0
-grown-keep d suffix = elim (nat_lt (12 + length d.bytes) 16384) as (λ t. Grown d (record { bytes = d.bytes; places = if t then d.places ++ record { suffix = suffix; at = 12 + length d.bytes } ∷ [] else d.places }) 0 0) [
-  | true ↦ record { more = []; others = record { suffix = suffix; at = 12 + length d.bytes } ∷ []; bytes = sym (append-nil d.bytes); places = refl; low = omega arith; high = omega arith }
-  | false ↦ record { more = []; others = []; bytes = sym (append-nil d.bytes); places = sym (append-nil d.places); low = omega arith; high = omega arith }
+grown-keep d suffix = elim (nat_lt (12 + length d.bytes) 16384) as (λ t. Grown d (record { bytes = d.bytes; offsets = if t then d.offsets ++ record { suffix = suffix; at = 12 + length d.bytes } ∷ [] else d.offsets }) 0 0) [
+  | true ↦ record { more = []; others = record { suffix = suffix; at = 12 + length d.bytes } ∷ []; bytes = sym (append-nil d.bytes); offsets = refl; low = omega arith; high = omega arith }
+  | false ↦ record { more = []; others = []; bytes = sym (append-nil d.bytes); offsets = sym (append-nil d.offsets); low = omega arith; high = omega arith }
 ]
 
 grown_or : (d : Draft) (at : Option ℕ) (other : Draft) (most : ℕ) → 2 ≤ most → Grown d other 1 most → Grown d (pointer_or d at other) 1 most
@@ -60,7 +58,7 @@ grown-name d (l ∷ ls) =
     let label : Grown (keep d (l ∷ ls)) (put_label (keep d (l ∷ ls)) l) (length l + 1) (length l + 1) = grown-put (keep d (l ∷ ls)) (length l ∷ l) (length l + 1) (omega arith) in
     let rest = grown-name (put_label (keep d (l ∷ ls)) l) ls in
     let whole : Grown d (put_name (put_label (keep d (l ∷ ls)) l) ls) 1 (wire_length (l ∷ ls)) = within (chain (chain (grown-keep d (l ∷ ls)) label) rest) (omega arith) (omega arith) in
-    grown_or d (earliest d.places (l ∷ ls)) (put_name (put_label (keep d (l ∷ ls)) l) ls) (wire_length (l ∷ ls)) (omega (arith, wire_length_least ls)) whole
+    grown_or d (earliest d.offsets (l ∷ ls)) (put_name (put_label (keep d (l ∷ ls)) l) ls) (wire_length (l ∷ ls)) (omega (arith, wire_length_least ls)) whole
 
 pub grown-whole : (d : Draft) (name : List (List ℕ)) → Grown d (put_whole d name) 1 (wire_length name)
 grown-whole d name =
@@ -70,50 +68,35 @@ grown-whole d name =
 pub grown-question : (d : Draft) (q : Question) → Grown d (put_question d q) 5 (wire_length q.name + 4)
 unfolding put_question
 grown-question d q =
-    within (chain (chain (grown-name d q.name) (grown-put (put_name d q.name) (to_be_bytes w16 q.kind) 2 refl)) (grown-put (put_number (put_name d q.name) q.kind) (to_be_bytes w16 q.class) 2 refl)) (omega arith) (omega arith)
+    within (chain (chain (grown-name d q.name) (grown-put (put_name d q.name) (to_be_bytes w16 q.kind) 2 refl)) (grown-put (put_u16 (put_name d q.name) q.kind) (to_be_bytes w16 q.class) 2 refl)) (omega arith) (omega arith)
 
 grown-strings : (d : Draft) (strings : List (List ℕ)) → Grown d (put_strings d strings) 0 (strings_length strings)
-grown-strings d [] = record { more = []; others = []; bytes = sym (append-nil d.bytes); places = sym (append-nil d.places); low = omega arith; high = omega arith }
+grown-strings d [] = record { more = []; others = []; bytes = sym (append-nil d.bytes); offsets = sym (append-nil d.offsets); low = omega arith; high = omega arith }
 grown-strings d (s ∷ ss) = within (chain (grown-put d (length s ∷ s) (length s + 1) (omega arith)) (grown-strings (put_string d s) ss)) (omega arith) (omega arith)
 
-grown-soa : (d : Draft) (soa : Soa) → Grown d (put_soa d soa) 0 (wire_length soa.mname + wire_length soa.rname + 20)
-unfolding put_soa
-grown-soa d soa =
-    let names = chain (grown-name d soa.mname) (grown-name (put_name d soa.mname) soa.rname) in
-    let e = put_name (put_name d soa.mname) soa.rname in
-    let one = chain names (grown-put e (to_be_bytes w32 soa.serial) 4 refl) in
-    let two = chain one (grown-put (put_long e soa.serial) (to_be_bytes w32 soa.refresh) 4 refl) in
-    let three = chain two (grown-put (put_long (put_long e soa.serial) soa.refresh) (to_be_bytes w32 soa.retry) 4 refl) in
-    let four = chain three (grown-put (put_long (put_long (put_long e soa.serial) soa.refresh) soa.retry) (to_be_bytes w32 soa.expire) 4 refl) in
-    let five = chain four (grown-put (put_long (put_long (put_long (put_long e soa.serial) soa.refresh) soa.retry) soa.expire) (to_be_bytes w32 soa.minimum) 4 refl) in
-    within five (omega arith) (omega arith)
+pub grown-fields : (d : Draft) (fs : List Field) → Grown d (put_fields d fs) 0 (names_length (names_among fs) + texts_length fs)
+grown-fields d [] = record { more = []; others = []; bytes = sym (append-nil d.bytes); offsets = sym (append-nil d.offsets); low = omega arith; high = omega arith }
+grown-fields d (Compressed labels ∷ fs) = within (chain (grown-name d labels) (grown-fields (put_name d labels) fs)) (omega arith) (omega arith)
+grown-fields d (Uncompressed labels ∷ fs) = within (chain (grown-whole d labels) (grown-fields (put_whole d labels) fs)) (omega arith) (omega arith)
+grown-fields d (U8 number ∷ fs) = within (chain (grown-put d (number ∷ []) 1 refl) (grown-fields (put d (number ∷ [])) fs)) (omega arith) (omega arith)
+grown-fields d (U16 number ∷ fs) = within (chain (grown-put d (to_be_bytes w16 number) 2 refl) (grown-fields (put_u16 d number) fs)) (omega arith) (omega arith)
+grown-fields d (U32 number ∷ fs) = within (chain (grown-put d (to_be_bytes w32 number) 4 refl) (grown-fields (put_u32 d number) fs)) (omega arith) (omega arith)
+grown-fields d (U128 number ∷ fs) =
+    within (chain (grown-put d (to_be_bytes w128 number) 16 refl) (grown-fields (put d (to_be_bytes w128 number)) fs)) (omega arith) (omega arith)
+grown-fields d (CharString text ∷ fs) =
+    within (chain (grown-put d (length text ∷ text) (length text + 1) (omega arith)) (grown-fields (put_string d text) fs)) (omega arith) (omega arith)
+grown-fields d (NonEmpty text ∷ fs) =
+    within (chain (grown-put d (length text ∷ text) (length text + 1) (omega arith)) (grown-fields (put_string d text) fs)) (omega arith) (omega arith)
+grown-fields d (CharStrings texts ∷ fs) = within (chain (grown-strings d texts) (grown-fields (put_strings d texts) fs)) (omega arith) (omega arith)
+grown-fields d (Remainder text ∷ fs) = within (chain (grown-put d text (length text) refl) (grown-fields (put d text) fs)) (omega arith) (omega arith)
+grown-fields d (Unknown kind text ∷ fs) = within (chain (grown-put d text (length text) refl) (grown-fields (put d text) fs)) (omega arith) (omega arith)
 
 pub grown-data : (d : Draft) (r : Rdata) → Grown d (put_data d r) 0 (data_length r)
 unfolding put_data
-grown-data d (rdata.A addr) = within (grown-put d (to_be_bytes w32 addr) 4 refl) (omega arith) (omega arith)
-grown-data d (rdata.Ns name) = within (grown-name d name) (omega arith) (omega arith)
-grown-data d (rdata.Cname name) = within (grown-name d name) (omega arith) (omega arith)
-grown-data d (rdata.Soa soa) = grown-soa d soa
-grown-data d (rdata.Ptr name) = within (grown-name d name) (omega arith) (omega arith)
-grown-data d (rdata.Hinfo cpu os) =
-    within (chain (grown-put d (length cpu ∷ cpu) (length cpu + 1) (omega arith)) (grown-put (put_string d cpu) (length os ∷ os) (length os + 1) (omega arith))) (omega arith) (omega arith)
-grown-data d (rdata.Mx preference exchange) =
-    within (chain (grown-put d (to_be_bytes w16 preference) 2 refl) (grown-name (put_number d preference) exchange)) (omega arith) (omega arith)
-grown-data d (rdata.Txt strings) = grown-strings d strings
-grown-data d (rdata.Aaaa addr) = within (grown-put d (to_be_bytes w128 addr) 16 refl) (omega arith) (omega arith)
-grown-data d (rdata.Srv priority weight port target) =
-    let one = grown-put d (to_be_bytes w16 priority) 2 refl in
-    let two = chain one (grown-put (put_number d priority) (to_be_bytes w16 weight) 2 refl) in
-    let three = chain two (grown-put (put_number (put_number d priority) weight) (to_be_bytes w16 port) 2 refl) in
-    within (chain three (grown-whole (put_number (put_number (put_number d priority) weight) port) target)) (omega arith) (omega arith)
-grown-data d (rdata.Caa flags tag value) =
-    let one = grown-put d (flags ∷ []) 1 refl in
-    let two = chain one (grown-put (put d (flags ∷ [])) (length tag ∷ tag) (length tag + 1) (omega arith)) in
-    within (chain two (grown-put (put_string (put d (flags ∷ [])) tag) value (length value) refl)) (omega arith) (omega arith)
-grown-data d (rdata.Opaque kind bytes) = within (grown-put d bytes (length bytes) refl) (omega arith) (omega arith)
+grown-data d r = grown-fields d (fields_of r)
 
 -- the length stands in the two bytes before the data
-pub grown-length : (d e : Draft) (most : ℕ) → Grown (put_number d 0) e 0 most → Grown d (with_length d e) 2 (most + 2)
+pub grown-length : (d e : Draft) (most : ℕ) → Grown (put_u16 d 0) e 0 most → Grown d (with_length d e) 2 (most + 2)
 unfolding with_length
 grown-length d e most p =
     let behind = drop (length d.bytes + 2) e.bytes in
@@ -123,14 +106,14 @@ grown-length d e most p =
       more = to_be_bytes w16 (length behind) ++ behind;
       others = p.others;
       bytes = refl;
-      places = p.places;
+      offsets = p.offsets;
       low = omega (arith, length-append (to_be_bytes w16 (length behind)) behind);
       high = omega (arith, size, p.high, length-append (to_be_bytes w16 (length behind)) behind);
     }
 
 -- the two bytes before the data are filled
-pub filled : (d e : Draft) (at : ℕ) (most : ℕ) → at ≡ length d.bytes + 14 → Grown (put_number d 0) e 0 most
-    → record { bytes = take (at - 14) e.bytes ++ (to_be_bytes w16 (12 + length e.bytes - at) ++ drop (at - 12) e.bytes); places = e.places } ≡ with_length d e
+pub filled : (d e : Draft) (at : ℕ) (most : ℕ) → at ≡ length d.bytes + 14 → Grown (put_u16 d 0) e 0 most
+    → record { bytes = take (at - 14) e.bytes ++ (to_be_bytes w16 (12 + length e.bytes - at) ++ drop (at - 12) e.bytes); offsets = e.offsets } ≡ with_length d e
 unfolding with_length
 filled d e at most is p =
     let n = length d.bytes in
@@ -140,7 +123,7 @@ filled d e at most is p =
     let b : at - 12 ≡ n + 2 = omega arith in
     let c : 12 + length e.bytes - at ≡ length (drop (n + 2) e.bytes) = omega (arith, whole, length-drop (n + 2) e.bytes) in
     let one : take (at - 14) e.bytes ≡ d.bytes = ap (λ (k : ℕ). take k e.bytes) a ∙ front in
-    λ i. record { bytes = one i ++ (to_be_bytes w16 (c i) ++ drop (b i) e.bytes); places = e.places }
+    λ i. record { bytes = one i ++ (to_be_bytes w16 (c i) ++ drop (b i) e.bytes); offsets = e.offsets }
 
 -- behind the header the same bytes change
 pub fills : (out new at_bytes : List ℕ) (at : ℕ) → 14 ≤ at → at ≤ length out → length at_bytes ≡ 2 → new ≡ take (at - 2) out ++ (at_bytes ++ drop (at - 2 + length at_bytes) out)
@@ -158,19 +141,19 @@ unfolding put_record
 grown-record d r =
     let name = put_name d r.owner in
     let one = chain (grown-name d r.owner) (grown-put name (to_be_bytes w16 (kind_of r.rdata)) 2 refl) in
-    let two = chain one (grown-put (put_number name (kind_of r.rdata)) (to_be_bytes w16 r.class) 2 refl) in
-    let three = chain two (grown-put (put_number (put_number name (kind_of r.rdata)) r.class) (to_be_bytes w32 r.ttl) 4 refl) in
-    let head = put (put_number (put_number name (kind_of r.rdata)) r.class) (to_be_bytes w32 r.ttl) in
-    within (chain three (grown-length head (put_data (put_number head 0) r.rdata) (data_length r.rdata) (grown-data (put_number head 0) r.rdata))) (omega arith) (omega arith)
+    let two = chain one (grown-put (put_u16 name (kind_of r.rdata)) (to_be_bytes w16 r.class) 2 refl) in
+    let three = chain two (grown-put (put_u16 (put_u16 name (kind_of r.rdata)) r.class) (to_be_bytes w32 r.ttl) 4 refl) in
+    let head = put (put_u16 (put_u16 name (kind_of r.rdata)) r.class) (to_be_bytes w32 r.ttl) in
+    within (chain three (grown-length head (put_data (put_u16 head 0) r.rdata) (data_length r.rdata) (grown-data (put_u16 head 0) r.rdata))) (omega arith) (omega arith)
 
 -- what was put behind a draft is taken back
-pub taken_back : {d e : Draft} {least most : ℕ} (bytes places : ℕ) → Grown d e least most → bytes ≡ 12 + length d.bytes → places ≡ length d.places
-    → record { bytes = take (bytes - 12) e.bytes; places = take places e.places } ≡ d
-taken_back {d} {e} bytes places p b l =
+pub taken_back : {d e : Draft} {least most : ℕ} (bytes offsets : ℕ) → Grown d e least most → bytes ≡ 12 + length d.bytes → offsets ≡ length d.offsets
+    → record { bytes = take (bytes - 12) e.bytes; offsets = take offsets e.offsets } ≡ d
+taken_back {d} {e} bytes offsets p b l =
     let n : bytes - 12 ≡ length d.bytes = omega arith in
     let front : take (bytes - 12) e.bytes ≡ d.bytes = ap (λ (k : ℕ). take k e.bytes) n ∙ ap (take (length d.bytes)) p.bytes ∙ take_at d.bytes p.more (length d.bytes) refl in
-    let known : take places e.places ≡ d.places = ap (λ (k : ℕ). take k e.places) l ∙ ap (take (length d.places)) p.places ∙ take_at d.places p.others (length d.places) refl in
-    λ i. record { bytes = front i; places = known i }
+    let known : take offsets e.offsets ≡ d.offsets = ap (λ (k : ℕ). take k e.offsets) l ∙ ap (take (length d.offsets)) p.offsets ∙ take_at d.offsets p.others (length d.offsets) refl in
+    λ i. record { bytes = front i; offsets = known i }
 
 -- how much longer a draft is with data behind it
 pub data_size : (d e : Draft) (r : Rdata) → e ≡ put_data d r → (length d.bytes ≤ length e.bytes) × (length e.bytes ≤ length d.bytes + data_length r)
@@ -180,11 +163,11 @@ data_size d e r is =
     (omega arith, omega (arith, g.high))
 
 -- a record by its parts
-pub record_by_parts : (d : Draft) (r : RecordData) → let head = put (put_number (put_number (put_name d r.owner) (kind_of r.rdata)) r.class) (to_be_bytes w32 r.ttl) in with_length head (put_data (put_number head 0) r.rdata) ≡ put_record d r
+pub record_by_parts : (d : Draft) (r : RecordData) → let head = put (put_u16 (put_u16 (put_name d r.owner) (kind_of r.rdata)) r.class) (to_be_bytes w32 r.ttl) in with_length head (put_data (put_u16 head 0) r.rdata) ≡ put_record d r
 unfolding put_record
 record_by_parts d r = refl
 
 -- without bytes a draft stays
 pub put_none : (d : Draft) (bytes : List ℕ) → length bytes ≡ 0 → d ≡ put d bytes
-put_none d [] none = ap (λ (t : List ℕ). record { bytes = t; places = d.places }) (sym (append-nil d.bytes))
+put_none d [] none = ap (λ (t : List ℕ). record { bytes = t; offsets = d.offsets }) (sym (append-nil d.bytes))
 put_none d (b ∷ bytes) none = absurd (omega arith)

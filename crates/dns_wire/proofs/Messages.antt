@@ -1,10 +1,10 @@
--- The places of the sections of a message.
+-- The offsets of the sections of a message.
 use Rattle.std.proofs.Common.{◌≡◌, ◌≤◌, ℕ, ◌/◌, ◌%◌, Bool, List, length, slice_index, Option, None, refl, sym, subst, arith}
 use Rattle.dns_data.specs.Record.{RecordData}
 use Rattle.dns_data.specs.Message.{MessageData}
 use Rattle.dns_data.specs.declared.message.Opt.{Opt}
 use Rattle.dns_data.specs.declared.message.Question.{Question}
-use Rattle.dns_wire.specs.Wire.{number_at, flag_at}
+use Rattle.dns_wire.specs.Wire.{u16_at, flag_at}
 use Rattle.dns_wire.specs.Records.{SectionAt, SectionsAt}
 use Rattle.dns_wire.specs.Spells.{QuestionAt, Spells}
 use Rattle.dns_wire.specs.Asked.{AsksThis}
@@ -12,18 +12,18 @@ use Rattle.dns_wire.proofs.Names.{same_end}
 use Rattle.dns_wire.proofs.Unique.{one_section}
 
 -- first the answer section stands
-pub answer_here : {bytes : List ℕ} {n x : ℕ} {a b c : List RecordData} {o : Option Opt} → n ≡ number_at bytes 6 → (h : SectionsAt bytes x a b c o) → SectionAt bytes n x a None h.authority_start
+pub answer_here : {bytes : List ℕ} {n x : ℕ} {a b c : List RecordData} {o : Option Opt} → n ≡ u16_at bytes 6 → (h : SectionsAt bytes x a b c o) → SectionAt bytes n x a None h.authority_start
 answer_here {bytes} {n} {x} {a} count h = subst (λ (k : ℕ). SectionAt bytes k x a None h.authority_start) (sym count) h.answer_at
 
 -- behind that the authority section
-pub authority_here : {bytes : List ℕ} {n k x y : ℕ} {a b c d : List RecordData} {o : Option Opt} → n ≡ number_at bytes 6 → k ≡ number_at bytes 8 → SectionAt bytes n x d None y
+pub authority_here : {bytes : List ℕ} {n k x y : ℕ} {a b c d : List RecordData} {o : Option Opt} → n ≡ u16_at bytes 6 → k ≡ u16_at bytes 8 → SectionAt bytes n x d None y
     → (h : SectionsAt bytes x a b c o) → SectionAt bytes k y b None h.additional_start
 authority_here {bytes} {n} {k} {b = b} count other answer h =
     subst (λ (at : ℕ). SectionAt bytes k at b None h.additional_start) (one_section (answer_here count h) answer).end
     (subst (λ (c : ℕ). SectionAt bytes c h.authority_start b None h.additional_start) (sym other) h.authority_at)
 
 -- and behind that the additional section
-pub additional_here : {bytes : List ℕ} {n k j x y z : ℕ} {a b c d e : List RecordData} {o : Option Opt} → n ≡ number_at bytes 6 → k ≡ number_at bytes 8 → j ≡ number_at bytes 10
+pub additional_here : {bytes : List ℕ} {n k j x y z : ℕ} {a b c d e : List RecordData} {o : Option Opt} → n ≡ u16_at bytes 6 → k ≡ u16_at bytes 8 → j ≡ u16_at bytes 10
     → SectionAt bytes n x d None y → SectionAt bytes k y e None z → (h : SectionsAt bytes x a b c o) → SectionAt bytes j z c o h.behind
 additional_here {bytes} {n} {k} {j} {c = c} {o = o} count other last answer authority h =
     subst (λ (at : ℕ). SectionAt bytes j at c o h.behind) (one_section (authority_here count other answer h) authority).end
@@ -46,11 +46,11 @@ sections_here {bytes} question m h =
     subst (λ (at : ℕ). SectionsAt bytes at m.answer m.authority m.additional m.opt) (question_end h.question question) here
 
 -- what the message of a question and its sections asks
-pub asks_this : {bytes : List ℕ} {x : ℕ} {q : Question} {a b c : List RecordData} {o : Option Opt} → (id : ℕ) (rd cd : Bool) → 12 ≤ length bytes → number_at bytes 4 ≡ 1 → QuestionAt bytes 12 q x → SectionsAt bytes x a b c o
-    → id ≡ number_at bytes 0 → rd ≡ flag_at bytes 2 0 → cd ≡ flag_at bytes 3 4 → AsksThis bytes (record { id = id; rd = rd; cd = cd; question = q; opt = o })
+pub asks_this : {bytes : List ℕ} {x : ℕ} {q : Question} {a b c : List RecordData} {o : Option Opt} → (id : ℕ) (rd cd : Bool) → 12 ≤ length bytes → u16_at bytes 4 ≡ 1 → QuestionAt bytes 12 q x → SectionsAt bytes x a b c o
+    → id ≡ u16_at bytes 0 → rd ≡ flag_at bytes 2 0 → cd ≡ flag_at bytes 3 4 → AsksThis bytes (record { id = id; rd = rd; cd = cd; question = q; opt = o })
 asks_this {bytes} {x} {q} {a} {b} {c} {o} id rd cd long one question s id_is rd_is cd_is = record {
   message = record {
-    id = number_at bytes 0;
+    id = u16_at bytes 0;
     qr = flag_at bytes 2 7;
     opcode = slice_index bytes 2 / 8 % 16;
     aa = flag_at bytes 2 2;

@@ -1,4 +1,4 @@
--- Reading a name run by run, through pointers.
+-- Reading a name sequence by sequence, through pointers.
 use Rattle.std.proofs.Common.{◌≡◌, ◌≤◌, ◌<◌, ℕ, ◌+◌, ◌-◌, List, [], ◌∷◌, ◌++◌, length, min, Bool, false, IsTrue, take, drop, get_or, slice_index, slice_range, Option, Some, None, unwrap_or, refl, sym, ap, subst, ◌∙◌, append_assoc, arith, inl, inr, ◌⊎◌}
 use Rattle.std.proofs.lemmas.List.{append-nil, drop-drop}
 use Rattle.std.proofs.lemmas.List.Edits.{between_more, between_none, length-between}
@@ -9,7 +9,7 @@ use Rattle.std.specs.List.{AllByRecursion}
 use Rattle.dns_data.specs.Name.{IsLabel, IsName, IsWire, wire_length, spelled, labels_of}
 use Rattle.dns_data.specs.NameLaws.{spells_name, pushed, length-spelled}
 use Rattle.dns_wire.specs.Wire.{ByteAt, LabelAt, PointerAt, NameAt, WholeNameAt, root, label, pointer}
-use Rattle.dns_wire.specs.Runs.{ReadSoFar, RunAt}
+use Rattle.dns_wire.specs.Sequences.{ReadSoFar, SequenceAt}
 
 pub begins : (bytes : List ℕ) (origin : ℕ) → origin ≤ length bytes → ReadSoFar bytes origin origin origin [] None
 begins bytes origin inside = record {
@@ -18,7 +18,7 @@ begins bytes origin inside = record {
   complete = λ whole behind h. (whole, behind, refl, h);
 }
 
--- two labels at one place are one
+-- two labels at one offset are one
 same_label : (bytes : List ℕ) (at : ℕ) (a b : List ℕ) → LabelAt bytes at a → LabelAt bytes at b → a ≡ b
 same_label bytes at a b p q =
     let sizes : length a ≡ length b = sym p.size.is ∙ q.size.is in
@@ -85,7 +85,7 @@ no_name {bytes} {origin} {start} {at} {front} {passed} so_far a b c whole behind
     let r = so_far.complete whole behind h in
     nothing_at bytes start at r.1 r.0 r.3 a b c
 
--- a pointer to a place that is too low or too high
+-- a pointer to an offset that is too low or too high
 pub bad_target : {bytes : List ℕ} {origin start at target : ℕ} {front : List (List ℕ)} {passed : Option ℕ} → ReadSoFar bytes origin start at front passed → PointerAt bytes at target
     → (12 ≤ target → target < start → ⊥) → (whole : List (List ℕ)) (behind : ℕ) → NameAt bytes origin origin whole behind → ⊥
 bad_target {bytes} {origin} {start} {at} {target} {front} {passed} so_far here bad whole behind h =
@@ -109,20 +109,20 @@ too_far {front} so_far long whole behind proper h =
     let size = ap wire_length a.2 in
     omega (arith, proper.short, size, wire_length-append front a.0, wire_length_pos a.0)
 
--- a run behind what was read
-pub then : {bytes : List ℕ} {origin start at : ℕ} {front run : List (List ℕ)} {passed : Option ℕ} → ReadSoFar bytes origin start start front passed → ReadSoFar bytes start start at run None
-    → ReadSoFar bytes origin start at (front ++ run) passed
-then {bytes} {origin} {start} {at} {front} {run} {passed} before here = record {
+-- a sequence behind what was read
+pub then : {bytes : List ℕ} {origin start at : ℕ} {front sequence : List (List ℕ)} {passed : Option ℕ} → ReadSoFar bytes origin start start front passed → ReadSoFar bytes start start at sequence None
+    → ReadSoFar bytes origin start at (front ++ sequence) passed
+then {bytes} {origin} {start} {at} {front} {sequence} {passed} before here = record {
   inside = here.inside;
   sound = λ others behind h.
-      subst (λ (l : List (List ℕ)). NameAt bytes origin origin l (unwrap_or passed behind)) (sym (append_assoc front run others)) (before.sound (run ++ others) behind (here.sound others behind h));
+      subst (λ (l : List (List ℕ)). NameAt bytes origin origin l (unwrap_or passed behind)) (sym (append_assoc front sequence others)) (before.sound (sequence ++ others) behind (here.sound others behind h));
   complete = λ whole behind h.
       let a = before.complete whole behind h in
       let b = here.complete a.0 a.1 a.3 in
-      (b.0, b.1, a.2 ∙ ap (λ (l : List (List ℕ)). front ++ l) b.2 ∙ sym (append_assoc front run b.0), b.3);
+      (b.0, b.1, a.2 ∙ ap (λ (l : List (List ℕ)). front ++ l) b.2 ∙ sym (append_assoc front sequence b.0), b.3);
 }
 
--- the labels of a run, and the bytes that spell them
+-- the labels of a sequence, and the bytes that spell them
 pub record ReadTo (bytes : List ℕ) (start at : ℕ) : Type 0 where
   pub order : start ≤ at
   pub wire : IsWire (slice_range bytes start at)
@@ -159,7 +159,7 @@ reads_on bytes start at l r here room =
     let s = pushed wire (slice_range bytes start (at + 1 + length l)) l (labels_of wire) r.wire refl here.sized size is in
     record { order = omega (arith, r.order); wire = s.right; so_far = rw s.view (goes_on r.so_far here) }
 
--- the label at a place, by its size
+-- the label at an offset, by its size
 pub record Sized (bytes : List ℕ) (at n : ℕ) : Type 0 where
   pub text : List ℕ
   pub size : length text ≡ n
@@ -196,7 +196,7 @@ no_room bytes start at n r is more few inside long whole behind proper h =
     omega (arith, size, s.size, length-spelled (labels_of wire), ap length r.wire.spells, wire_length-append (labels_of wire) (s.text ∷ [])) in
     too_far (goes_on r.so_far s.here) far whole behind proper h
 
--- neither a label nor the end of a run stands here
+-- neither a label nor the end of a sequence stands here
 pub no_label : (bytes : List ℕ) (start at : ℕ) → ReadTo bytes start at → (get_or bytes at 0 ≡ 0 → ⊥) → get_or bytes at 0 < 192 → (63 < get_or bytes at 0) ⊎ (length bytes < at + 1 + get_or bytes at 0)
     → (whole : List (List ℕ)) (behind : ℕ) → NameAt bytes start start whole behind → ⊥
 no_label bytes start at r not_zero low bad whole behind h =
@@ -209,9 +209,9 @@ pub past_end : (bytes : List ℕ) (start at : ℕ) → ReadTo bytes start at →
 past_end bytes start at r past whole behind h =
     no_name r.so_far (λ z. absurd (omega (arith, z.inside))) (λ l here. absurd (omega (arith, here.size.inside))) (λ t p less more. absurd (omega (arith, p.inside))) whole behind h
 
--- a run ends here
-pub run_to : (bytes : List ℕ) (start at : ℕ) → ReadTo bytes start at → at < length bytes → (get_or bytes at 0 ≡ 0) ⊎ (192 ≤ get_or bytes at 0) → RunAt bytes start at
-run_to bytes start at r inside ends = record {
+-- a sequence ends here
+pub sequence_to : (bytes : List ℕ) (start at : ℕ) → ReadTo bytes start at → at < length bytes → (get_or bytes at 0 ≡ 0) ⊎ (192 ≤ get_or bytes at 0) → SequenceAt bytes start at
+sequence_to bytes start at r inside ends = record {
   order = r.order;
   inside = inside;
   wire = r.wire;
@@ -220,7 +220,7 @@ run_to bytes start at r inside ends = record {
       elim ends [ inl zero ↦ absurd (omega (arith, here.size.is, here.sized.0)) | inr big ↦ absurd (omega (arith, here.size.is, here.sized.1)) ];
 }
 
--- the least place at which a run that began at start can't end
+-- the least offset at which a sequence that began at start can't end
 pub record IsLimit (bytes : List ℕ) (start limit : ℕ) : Type 0 where
   pub inside : limit ≤ length bytes
   pub few : limit ≤ start + 255
@@ -237,7 +237,7 @@ limit_is bytes start inside =
           record { inside = omega (arith, is); few = omega (arith, is); full = inr (omega (arith, is)) }
     ]
 
--- a walk over the labels of a run: below the limit it has read up to its place, and behind that there is no name
+-- a walk over the labels of a sequence: below the limit it has read up to its offset, and behind that there is no name
 pub record Walked (bytes : List ℕ) (start limit at : ℕ) : Type 0 where
   pub limited : IsLimit bytes start limit
   pub read : at < limit → ReadTo bytes start at
@@ -280,14 +280,14 @@ walks_on bytes start limit at n w less is more few =
 pub no_size : {n : ℕ} {is : Bool} → ((1 ≤ n) × (n ≤ 63) → IsTrue is) → is ≡ false → 0 < n → 63 < n
 no_size {n} any none more = elim (cases_lt 63 n) [ inl big ↦ big | inr few ↦ absurd (let e = sym none ∙ any (more, few) in cc) ]
 
--- how long a run is
-pub run_size : (bytes : List ℕ) (start end : ℕ) → RunAt bytes start end → (front : List (List ℕ)) → wire_length (front ++ labels_of (slice_range bytes start end)) ≡ wire_length front + (end - start)
-run_size bytes start end r front =
+-- how long a sequence is
+pub sequence_size : (bytes : List ℕ) (start end : ℕ) → SequenceAt bytes start end → (front : List (List ℕ)) → wire_length (front ++ labels_of (slice_range bytes start end)) ≡ wire_length front + (end - start)
+sequence_size bytes start end r front =
     let wire = slice_range bytes start end in
     let size : length wire ≡ end - start = length-between bytes start end (omega (arith, r.inside)) in
     omega (arith, size, length-spelled (labels_of wire), ap length r.wire.spells, wire_length-append front (labels_of wire))
 
--- one name is spelled from a place on, and one place is behind it
+-- one name is spelled from an offset on, and one offset is behind it
 pub one_name : (bytes : List ℕ) (start at x y : ℕ) (a b : List (List ℕ)) → NameAt bytes start at a x → NameAt bytes start at b y → (a ≡ b) × (x ≡ y)
 one_name bytes start at x y [] [] (root p e) (root q f) = (refl, omega arith)
 one_name bytes start at x y [] (l ∷ b) (root p e) (label q more) = absurd (omega (arith, p.is, q.size.is, q.sized.0))
@@ -305,7 +305,7 @@ one_name bytes start at x y a b (pointer {target = t} {other = o} p low less mor
     let both = one_name bytes t t o v a b more (subst (λ (n : ℕ). NameAt bytes n n b v) (sym same) more2) in
     (both.0, omega arith)
 
--- two whole names at one place end at one place
+-- two whole names at one offset end at one offset
 pub same_end : (bytes : List ℕ) (at x y : ℕ) (a b : List (List ℕ)) → WholeNameAt bytes at a x → WholeNameAt bytes at b y → x ≡ y
 same_end bytes at x y a b p q = (one_name bytes at at x y a b p.spelt q.spelt).1
 
@@ -320,10 +320,10 @@ rest_name front others name = record {
   short = omega (arith, name.short, wire_length-append front others, wire_length_pos front);
 }
 
--- where no run of a name follows, there is no name
-pub no_run : {bytes : List ℕ} {origin start at : ℕ} {front : List (List ℕ)} {passed : Option ℕ} → ReadSoFar bytes origin start at front passed
+-- where no sequence of a name follows, there is no name
+pub no_sequence : {bytes : List ℕ} {origin start at : ℕ} {front : List (List ℕ)} {passed : Option ℕ} → ReadSoFar bytes origin start at front passed
     → ((name : List (List ℕ)) (behind : ℕ) → IsName name → NameAt bytes start at name behind → ⊥) → (whole : List (List ℕ)) (behind : ℕ) → IsName whole → NameAt bytes origin origin whole behind → ⊥
-no_run {front} so_far none whole behind proper h =
+no_sequence {front} so_far none whole behind proper h =
     let a = so_far.complete whole behind h in
     none a.0 a.1 (rest_name front a.0 (subst IsName a.2 proper)) a.3
 

@@ -1,15 +1,16 @@
--- What the owner at a place says of the record there.
-use Rattle.std.proofs.Common.{◌≡◌, ◌≤◌, ℕ, ◌+◌, true, List, [], ◌∷◌, refl, sym, subst, ◌∙◌, ap, arith, rules}
+-- What the owner at an offset says of the record there.
+use Rattle.std.proofs.Common.{◌≡◌, ◌≤◌, ℕ, ◌+◌, List, [], ◌∷◌, refl, sym, subst, ◌∙◌, ap, arith}
 use Rattle.dns_data.specs.Name.{wire_length}
-use Rattle.dns_data.specs.Record.{RecordData, has_form}
+use Rattle.dns_data.specs.Record.{RecordData}
 use Rattle.dns_data.specs.declared.message.Opt.{Opt}
 use Rattle.dns_data.specs.declared.record.Rdata.{Rdata}
-use Rattle.dns_wire.specs.Wire.{ByteAt, WholeNameAt, number_at, root}
+use Rattle.dns_wire.specs.Wire.{ByteAt, WholeNameAt, u16_at, root}
 use Rattle.dns_wire.specs.Records.{EndsAt, RecordAt, OptAt, PartAt}
 use Rattle.dns_wire.specs.declared.record.Part.{Part}
 use Rattle.dns_wire.specs.declared.record.Part.TheVariants as part
 use Rattle.dns_wire.proofs.Names.{one_name, same_end}
-use Rattle.dns_wire.proofs.Forms.{NoForm, IsDataOf, no_form}
+use Rattle.dns_wire.specs.Data.{IsDataOf}
+use Rattle.dns_wire.proofs.Rows.{no_opt_data}
 
 -- a record of either kind has an owner and an end
 pub record Owned (bytes : List ℕ) (at behind : ℕ) : Type 0 where
@@ -29,29 +30,22 @@ ends_here {bytes} {at} {behind} {middle} {name} here h =
 one_end : {bytes : List ℕ} {middle x y : ℕ} → EndsAt bytes middle x → EndsAt bytes middle y → x ≡ y
 one_end p q = p.behind_is ∙ sym q.behind_is
 
--- two records at one place end at one place
+-- two records at one offset end at one offset
 pub part_end : {bytes : List ℕ} {at x y : ℕ} → Owned bytes at x → Owned bytes at y → x ≡ y
 part_end p q = one_end p.ends (ends_here p.owner q)
 
-opt_has_form : has_form 41 ≡ true
-unfolding has_form
-opt_has_form = refl
-
-no_opt_form : {bytes : List ℕ} {kind at behind : ℕ} → kind ≡ 41 → NoForm bytes kind at behind
-no_opt_form is = search rules
-
 -- an OPT record isn't another one
-pub not_opt : {bytes : List ℕ} {at behind middle : ℕ} {name : List (List ℕ)} → (r : RecordData) → WholeNameAt bytes at name middle → number_at bytes middle ≡ 41 → RecordAt bytes at r behind → ⊥
+pub not_opt : {bytes : List ℕ} {at behind middle : ℕ} {name : List (List ℕ)} → (r : RecordData) → WholeNameAt bytes at name middle → u16_at bytes middle ≡ 41 → RecordAt bytes at r behind → ⊥
 not_opt {bytes} {at} {behind} {middle} {name} r here kind h =
     let same : middle ≡ h.middle = same_end bytes at middle h.middle name r.owner here h.owner in
-    let is : number_at bytes h.middle ≡ 41 = ap (number_at bytes) (sym same) ∙ kind in
-    no_form (ap has_form is ∙ opt_has_form) (no_opt_form is) r.rdata (h.kind, h.rdata)
+    let is : u16_at bytes h.middle ≡ 41 = ap (u16_at bytes) (sym same) ∙ kind in
+    no_opt_data bytes (u16_at bytes h.middle) (h.middle + 10) behind is r.rdata (h.kind, h.rdata)
 
 pub parts_differ : {bytes : List ℕ} {at x y : ℕ} → (r : RecordData) (o : Opt) → RecordAt bytes at r x → OptAt bytes at o y → ⊥
 parts_differ r o p q = not_opt r q.owner q.kind p
 
 -- the owner of an OPT record is the root
-pub opt_owner : {bytes : List ℕ} {at middle : ℕ} {name : List (List ℕ)} → (p : Part) (behind : ℕ) → PartAt bytes at p behind → WholeNameAt bytes at name middle → number_at bytes middle ≡ 41 → name ≡ []
+pub opt_owner : {bytes : List ℕ} {at middle : ℕ} {name : List (List ℕ)} → (p : Part) (behind : ℕ) → PartAt bytes at p behind → WholeNameAt bytes at name middle → u16_at bytes middle ≡ 41 → name ≡ []
 opt_owner (part.Record r) behind h here kind = absurd (not_opt r here kind h)
 opt_owner {bytes} {at} {middle} {name} (part.Opt o) behind h here kind = (one_name bytes at at middle h.middle name [] here.spelt h.owner.spelt).0
 
@@ -64,15 +58,15 @@ root_only [] is = refl
 root_only (l ∷ labels) is = absurd (omega (arith, is, length-pos labels))
 
 -- the data of a record that isn't OPT
-pub data_here : {bytes : List ℕ} {at y middle : ℕ} {name : List (List ℕ)} → (p : Part) (x : ℕ) → PartAt bytes at p x → WholeNameAt bytes at name middle → EndsAt bytes middle y → (number_at bytes middle ≡ 41 → ⊥)
-    → (d : Rdata) × IsDataOf bytes (number_at bytes middle) (middle + 10) y d
+pub data_here : {bytes : List ℕ} {at y middle : ℕ} {name : List (List ℕ)} → (p : Part) (x : ℕ) → PartAt bytes at p x → WholeNameAt bytes at name middle → EndsAt bytes middle y → (u16_at bytes middle ≡ 41 → ⊥)
+    → (d : Rdata) × IsDataOf bytes (u16_at bytes middle) (middle + 10) y d
 data_here {bytes} {at} {y} {middle} {name} (part.Record r) x h here ends other =
     let same : h.middle ≡ middle = same_end bytes at h.middle middle r.owner name h.owner here in
     let end : x ≡ y = one_end (subst (λ (m : ℕ). EndsAt bytes m x) same h.ends) ends in
-    (r.rdata, subst (λ (m : ℕ). IsDataOf bytes (number_at bytes m) (m + 10) y r.rdata) same (subst (λ (z : ℕ). IsDataOf bytes (number_at bytes h.middle) (h.middle + 10) z r.rdata) end (h.kind, h.rdata)))
+    (r.rdata, subst (λ (m : ℕ). IsDataOf bytes (u16_at bytes m) (m + 10) y r.rdata) same (subst (λ (z : ℕ). IsDataOf bytes (u16_at bytes h.middle) (h.middle + 10) z r.rdata) end (h.kind, h.rdata)))
 data_here {bytes} {at} {y} {middle} {name} (part.Opt o) x h here ends other =
     let same : middle ≡ h.middle = same_end bytes at middle h.middle name [] here h.owner in
-    absurd (other (ap (number_at bytes) same ∙ h.kind))
+    absurd (other (ap (u16_at bytes) same ∙ h.kind))
 
 pub as_record : {bytes : List ℕ} {at behind : ℕ} {p : Part} {r : RecordData} → p ≡ part.Record r → PartAt bytes at p behind → RecordAt bytes at r behind
 as_record {bytes} {at} {behind} is h = subst (λ (q : Part). PartAt bytes at q behind) is h

@@ -1,21 +1,21 @@
 -- The data that was written of a record is spelt where it stands.
-use Rattle.std.proofs.Common.{◌≡◌, ℕ, ◌+◌, List, [], ◌∷◌, ◌++◌, length, refl, sym, subst, append_assoc, arith, length-append}
+use Rattle.std.proofs.Common.{◌≡◌, ℕ, ◌+◌, Bool, true, false, List, [], ◌∷◌, ◌++◌, length, refl, sym, subst, ◌∙◌, append_assoc, arith, length-append}
+use Rattle.std.specs.Prelude.{not, ◌&&◌}
 use Rattle.std.specs.List.{AllByRecursion}
 use Rattle.std.specs.Int.{w16, w32, w128, to_be_bytes}
 use Rattle.dns_data.specs.Name.{IsLabel, IsName, spelled, wire_length}
 use Rattle.dns_data.specs.NameLaws.{length-spelled}
-use Rattle.dns_data.specs.Record.{IsData, SoaFits}
-use Rattle.dns_data.specs.declared.record.Soa.{Soa}
+use Rattle.dns_data.specs.Record.{IsData, HasForm, NumberFits, fields_of, names_among, Field, Compressed, Uncompressed, U8, U16, U32, U128, CharString, NonEmpty, CharStrings, Remainder, Unknown}
 use Rattle.dns_data.specs.declared.record.Rdata.{Rdata}
 use Rattle.dns_data.specs.declared.record.Rdata.TheVariants as rdata
 use Rattle.dns_wire.specs.Wire.{NameAt, WholeNameAt}
 use Rattle.dns_wire.specs.Wire.NameAt.{root, label}
-use Rattle.dns_wire.specs.Data.{StringsAt, SoaAt, DataAt}
-use Rattle.dns_wire.specs.Data.StringsAt.{no_string, string}
-use Rattle.dns_wire.specs.Written.{Draft, size, put, put_number, put_long, put_name, put_whole, put_string, put_strings, put_soa, put_data}
-use Rattle.dns_wire.proofs.Standing.{Stands, left, right, moved, index, range, byte_here, label_here, string_here, number_here, long_here, wide_here}
-use Rattle.dns_wire.proofs.Respelt.{PlacesSpelt, whole_name, places_name, places_put, front_of}
-use Rattle.dns_wire.proofs.Drafts.{grown-data}
+use Rattle.dns_wire.specs.Data.{CharacterStringsAt, FieldAt, FieldsAt, DataAt}
+use Rattle.dns_wire.specs.Data.CharacterStringsAt.{no_string, string}
+use Rattle.dns_wire.specs.Written.{Draft, size, put, put_whole, put_string, put_strings, put_field, put_fields, put_data}
+use Rattle.dns_wire.proofs.Standing.{Stands, left, right, index, range, byte_here, label_here, string_here, u16_here, u32_here, u128_here}
+use Rattle.dns_wire.proofs.Respelt.{OffsetsSpelt, whole_name, offsets_name, offsets_put}
+use Rattle.dns_wire.proofs.Drafts.{grown-data, grown-fields}
 
 pub put_size : (d : Draft) (more : List ℕ) (n : ℕ) → length more ≡ n → size (put d more) ≡ size d + n
 put_size d more n e = omega (arith, length-append d.bytes more)
@@ -40,7 +40,7 @@ front_of_strings : {bytes : List ℕ} (d : Draft) (strings : List (List ℕ)) �
 front_of_strings d [] s = s
 front_of_strings d (first ∷ others) s = before d (length first ∷ first) (front_of_strings (put_string d first) others s)
 
-strings_spelt : (bytes : List ℕ) (d : Draft) (strings : List (List ℕ)) → Stands bytes 12 (put_strings d strings).bytes → StringsAt bytes (size d) strings (size (put_strings d strings))
+strings_spelt : (bytes : List ℕ) (d : Draft) (strings : List (List ℕ)) → Stands bytes 12 (put_strings d strings).bytes → CharacterStringsAt bytes (size d) strings (size (put_strings d strings))
 strings_spelt bytes d [] s = no_string refl
 strings_spelt bytes d (first ∷ others) s =
     let after = put_string d first in
@@ -48,143 +48,139 @@ strings_spelt bytes d (first ∷ others) s =
     let end : size after ≡ size d + 1 + length first = omega (arith, length-append d.bytes (length first ∷ first)) in
     string (string_here first (size after) (here d (length first ∷ first) front) end) (strings_spelt bytes after others s)
 
-soa_spelt : (bytes : List ℕ) (d : Draft) (soa : Soa) → IsName soa.mname → IsName soa.rname → SoaFits soa → PlacesSpelt bytes d → Stands bytes 12 (put_soa d soa).bytes → SoaAt bytes (size d) soa (size (put_soa d soa))
-unfolding put_soa
-soa_spelt bytes d soa mname rname fits known s =
-    let a = put_name d soa.mname in
-    let b = put_name a soa.rname in
-    let c = put_long b soa.serial in
-    let e = put_long c soa.refresh in
-    let f = put_long e soa.retry in
-    let g = put_long f soa.expire in
-    let sg = before g (to_be_bytes w32 soa.minimum) s in
-    let sf = before f (to_be_bytes w32 soa.expire) sg in
-    let se = before e (to_be_bytes w32 soa.retry) sf in
-    let sc = before c (to_be_bytes w32 soa.refresh) se in
-    let sb = before b (to_be_bytes w32 soa.serial) sc in
-    let sa = front_of bytes a soa.rname sb in
-    let nc = put_size b (to_be_bytes w32 soa.serial) 4 refl in
-    let ne = put_size c (to_be_bytes w32 soa.refresh) 4 refl in
-    let nf = put_size e (to_be_bytes w32 soa.retry) 4 refl in
-    let ng = put_size f (to_be_bytes w32 soa.expire) 4 refl in
-    let nh = put_size g (to_be_bytes w32 soa.minimum) 4 refl in
+-- a field that takes all that is left
+abbrev is_tail : Field → Bool
+is_tail (CharStrings texts) = true
+is_tail (Remainder text) = true
+is_tail (Unknown kind text) = true
+is_tail field = false
+
+-- such a field is the last one
+abbrev tail_last : List Field → Bool
+tail_last [] = true
+tail_last (f ∷ []) = true
+tail_last (f ∷ g ∷ gs) = not (is_tail f) && tail_last (g ∷ gs)
+
+data_tail_last : (d : Rdata) → tail_last (fields_of d) ≡ true
+data_tail_last (rdata.Opaque kind bytes) = refl
+data_tail_last d = refl
+
+no_tail : (b c : Bool) → not b && c ≡ true → (b ≡ false) × (c ≡ true)
+no_tail false c e = (refl, e)
+no_tail true c e = absurd cc
+
+-- a name of a field is one
+abbrev HasName : Field → Type 0
+HasName (Compressed labels) = IsName labels
+HasName (Uncompressed labels) = IsName labels
+HasName field = Unit {0}
+
+names_split : (f : Field) (fs : List Field) → AllByRecursion IsName (names_among (f ∷ fs)) → HasName f × AllByRecursion IsName (names_among fs)
+names_split (Compressed labels) fs all = (all.0, all.1)
+names_split (Uncompressed labels) fs all = (all.0, all.1)
+names_split f fs all = (tt, all)
+
+-- what is known of a field of proper data
+record Proper (f : Field) : Type 0 where
+  form : HasForm f
+  number : NumberFits f
+  name : HasName f
+
+whole_here : (bytes : List ℕ) (d : Draft) (labels : List (List ℕ)) → IsName labels → Stands bytes 12 (put_whole d labels).bytes → WholeNameAt bytes (size d) labels (size (put_whole d labels))
+whole_here bytes d labels proper s =
+    let whole : Stands bytes 12 (d.bytes ++ (spelled labels ++ 0 ∷ [])) = rw (append_assoc d.bytes (spelled labels) (0 ∷ [])) at s in
+    let end : size d + wire_length labels ≡ size (put_whole d labels) = omega (arith, length-append (d.bytes ++ spelled labels) (0 ∷ []), length-append d.bytes (spelled labels), length-spelled labels) in
     record {
-      middle = size a;
-      numbers = size b;
-      mname = whole_name bytes d soa.mname mname known sa;
-      rname = whole_name bytes a soa.rname rname (places_name bytes d soa.mname mname known sa) sb;
-      behind_is = omega arith;
-      serial = long_here soa.serial fits.serial (here b (to_be_bytes w32 soa.serial) sc);
-      refresh = long_here soa.refresh fits.refresh (moved (size b + 4) (here c (to_be_bytes w32 soa.refresh) se) (omega arith));
-      retry = long_here soa.retry fits.retry (moved (size b + 8) (here e (to_be_bytes w32 soa.retry) sf) (omega arith));
-      expire = long_here soa.expire fits.expire (moved (size b + 12) (here f (to_be_bytes w32 soa.expire) sg) (omega arith));
-      minimum = long_here soa.minimum fits.minimum (moved (size b + 16) (here g (to_be_bytes w32 soa.minimum) s) (omega arith));
+      proper = proper;
+      spelt = subst (NameAt bytes (size d) (size d) labels) end (whole_spelt bytes (size d) (size d) labels proper.each (right d.bytes (spelled labels ++ 0 ∷ []) (size d) whole refl));
     }
 
-name_from : (bytes : List ℕ) (at : ℕ) (d : Draft) (name : List (List ℕ)) (behind : ℕ) → at ≡ size d → WholeNameAt bytes (size d) name behind → WholeNameAt bytes at name behind
-name_from bytes at d name behind e w = subst (λ (n : ℕ). WholeNameAt bytes n name behind) (sym e) w
+field_spelt : (bytes : List ℕ) (limit : ℕ) (d : Draft) (f : Field) → Proper f → OffsetsSpelt bytes d → Stands bytes 12 (put_field d f).bytes → (is_tail f ≡ true → limit ≡ size (put_field d f))
+    → FieldAt bytes limit (size d) f (size (put_field d f))
+field_spelt bytes limit d (Compressed labels) p known s last = whole_name bytes d labels p.name known s
+field_spelt bytes limit d (Uncompressed labels) p known s last = whole_here bytes d labels p.name s
+field_spelt bytes limit d (U8 number) p known s last = (put_size d (number ∷ []) 1 refl, sym (index (here d (number ∷ []) s) 0 (size d) (omega arith) (omega arith)))
+field_spelt bytes limit d (U16 number) p known s last = (put_size d (to_be_bytes w16 number) 2 refl, u16_here number p.number (here d (to_be_bytes w16 number) s))
+field_spelt bytes limit d (U32 number) p known s last = (put_size d (to_be_bytes w32 number) 4 refl, u32_here number p.number (here d (to_be_bytes w32 number) s))
+field_spelt bytes limit d (U128 number) p known s last = (put_size d (to_be_bytes w128 number) 16 refl, u128_here number p.number (here d (to_be_bytes w128 number) s))
+field_spelt bytes limit d (CharString text) p known s last =
+    string_here text (size (put_string d text)) (here d (length text ∷ text) s) (omega (arith, length-append d.bytes (length text ∷ text)))
+field_spelt bytes limit d (NonEmpty text) p known s last =
+    (string_here text (size (put_string d text)) (here d (length text ∷ text) s) (omega (arith, length-append d.bytes (length text ∷ text))), p.form.0)
+field_spelt bytes limit d (CharStrings texts) p known s last =
+    let end = last refl in
+    (subst (CharacterStringsAt bytes (size d) texts) (sym end) (strings_spelt bytes d texts s), sym end)
+field_spelt bytes limit d (Remainder text) p known s last =
+    let end = last refl in
+    let long = put_size d text (length text) refl in
+    (sym (range (here d text s) limit (end ∙ long)), omega (arith, end, long), sym end)
+field_spelt bytes limit d (Unknown kind text) p known s last =
+    let end = last refl in
+    let long = put_size d text (length text) refl in
+    (sym (range (here d text s) limit (end ∙ long)), omega (arith, end, long), sym end, p.form)
 
-pub data_spelt : (bytes : List ℕ) (d : Draft) (r : Rdata) → IsData r → PlacesSpelt bytes d → Stands bytes 12 (put_data d r).bytes → DataAt bytes (size d) r (size (put_data d r))
+offsets_strings : (bytes : List ℕ) (d : Draft) (strings : List (List ℕ)) → OffsetsSpelt bytes d → OffsetsSpelt bytes (put_strings d strings)
+offsets_strings bytes d [] known = known
+offsets_strings bytes d (first ∷ others) known = offsets_strings bytes (put_string d first) others (offsets_put bytes d (length first ∷ first) known)
+
+offsets_field : (bytes : List ℕ) (d : Draft) (f : Field) → Proper f → OffsetsSpelt bytes d → Stands bytes 12 (put_field d f).bytes → OffsetsSpelt bytes (put_field d f)
+offsets_field bytes d (Compressed labels) p known s = offsets_name bytes d labels p.name known s
+offsets_field bytes d (Uncompressed labels) p known s = offsets_put bytes (put d (spelled labels)) (0 ∷ []) (offsets_put bytes d (spelled labels) known)
+offsets_field bytes d (U8 number) p known s = offsets_put bytes d (number ∷ []) known
+offsets_field bytes d (U16 number) p known s = offsets_put bytes d (to_be_bytes w16 number) known
+offsets_field bytes d (U32 number) p known s = offsets_put bytes d (to_be_bytes w32 number) known
+offsets_field bytes d (U128 number) p known s = offsets_put bytes d (to_be_bytes w128 number) known
+offsets_field bytes d (CharString text) p known s = offsets_put bytes d (length text ∷ text) known
+offsets_field bytes d (NonEmpty text) p known s = offsets_put bytes d (length text ∷ text) known
+offsets_field bytes d (CharStrings texts) p known s = offsets_strings bytes d texts known
+offsets_field bytes d (Remainder text) p known s = offsets_put bytes d text known
+offsets_field bytes d (Unknown kind text) p known s = offsets_put bytes d text known
+
+front_of_fields : {bytes : List ℕ} (d : Draft) (fs : List Field) → Stands bytes 12 (put_fields d fs).bytes → Stands bytes 12 d.bytes
+front_of_fields d fs s = let g = grown-fields d fs in left d.bytes g.more (rw g.bytes at s)
+
+-- what is known of several
+record AreProper (fs : List Field) : Type 0 where
+  forms : AllByRecursion HasForm fs
+  numbers : AllByRecursion NumberFits fs
+  names : AllByRecursion IsName (names_among fs)
+
+first_proper : (f : Field) (fs : List Field) → AreProper (f ∷ fs) → Proper f
+first_proper f fs p = record { form = p.forms.0; number = p.numbers.0; name = (names_split f fs p.names).0 }
+
+others_proper : (f : Field) (fs : List Field) → AreProper (f ∷ fs) → AreProper fs
+others_proper f fs p = record { forms = p.forms.1; numbers = p.numbers.1; names = (names_split f fs p.names).1 }
+
+fields_spelt : (bytes : List ℕ) (limit : ℕ) (d : Draft) (fs : List Field) → AreProper fs → tail_last fs ≡ true → OffsetsSpelt bytes d → Stands bytes 12 (put_fields d fs).bytes → limit ≡ size (put_fields d fs)
+    → FieldsAt bytes limit (size d) fs
+fields_spelt bytes limit d [] p last known s end = sym end
+fields_spelt bytes limit d (f ∷ []) p last known s end = (size (put_field d f), field_spelt bytes limit d f (first_proper f [] p) known s (λ t. end), sym end)
+fields_spelt bytes limit d (f ∷ g ∷ gs) p last known s end =
+    let parts = no_tail (is_tail f) (tail_last (g ∷ gs)) last in
+    let first = first_proper f (g ∷ gs) p in
+    let after = put_field d f in
+    let sf : Stands bytes 12 after.bytes = front_of_fields after (g ∷ gs) s in (
+      size after,
+      field_spelt bytes limit d f first known sf (λ t. absurd (let clash = sym parts.0 ∙ t in cc)),
+      fields_spelt bytes limit after (g ∷ gs) (others_proper f (g ∷ gs) p) parts.1 (offsets_field bytes d f first known sf) s end,
+    )
+
+offsets_fields : (bytes : List ℕ) (d : Draft) (fs : List Field) → AreProper fs → OffsetsSpelt bytes d → Stands bytes 12 (put_fields d fs).bytes → OffsetsSpelt bytes (put_fields d fs)
+offsets_fields bytes d [] p known s = known
+offsets_fields bytes d (f ∷ fs) p known s =
+    let first = first_proper f fs p in
+    offsets_fields bytes (put_field d f) fs (others_proper f fs p) (offsets_field bytes d f first known (front_of_fields (put_field d f) fs s)) s
+
+data_proper : (r : Rdata) → IsData r → AreProper (fields_of r)
+data_proper r p = record { forms = p.form.each; numbers = p.numbers; names = p.names }
+
+pub data_spelt : (bytes : List ℕ) (d : Draft) (r : Rdata) → IsData r → OffsetsSpelt bytes d → Stands bytes 12 (put_data d r).bytes → DataAt bytes (size d) r (size (put_data d r))
 unfolding put_data
-data_spelt bytes d (rdata.A addr) p known s = (put_size d (to_be_bytes w32 addr) 4 refl, long_here addr p.numbers (here d (to_be_bytes w32 addr) s))
-data_spelt bytes d (rdata.Ns name) p known s = whole_name bytes d name p.names.0 known s
-data_spelt bytes d (rdata.Cname name) p known s = whole_name bytes d name p.names.0 known s
-data_spelt bytes d (rdata.Soa soa) p known s = soa_spelt bytes d soa p.names.0 p.names.1.0 p.numbers known s
-data_spelt bytes d (rdata.Ptr name) p known s = whole_name bytes d name p.names.0 known s
-data_spelt bytes d (rdata.Hinfo cpu os) p known s =
-    let a = put_string d cpu in
-    let sa = before a (length os ∷ os) s in
-    let na : size a ≡ size d + 1 + length cpu = omega (arith, length-append d.bytes (length cpu ∷ cpu)) in
-    let nb : size (put_string a os) ≡ size a + 1 + length os = omega (arith, length-append a.bytes (length os ∷ os)) in
-    record { middle = size a; cpu_at = string_here cpu (size a) (here d (length cpu ∷ cpu) sa) na; os_at = string_here os (size (put_string a os)) (here a (length os ∷ os) s) nb }
-data_spelt bytes d (rdata.Mx preference exchange) p known s =
-    let a = put_number d preference in
-    let sa = front_of bytes a exchange s in
-    let na = put_size d (to_be_bytes w16 preference) 2 refl in
-    record {
-      preference_is = number_here preference p.numbers (here d (to_be_bytes w16 preference) sa);
-      exchange_at = name_from bytes (size d + 2) a exchange (size (put_name a exchange)) (sym na) (whole_name bytes a exchange p.names.0 (places_put bytes d (to_be_bytes w16 preference) known) s);
-    }
-data_spelt bytes d (rdata.Txt strings) p known s = strings_spelt bytes d strings s
-data_spelt bytes d (rdata.Aaaa addr) p known s = (put_size d (to_be_bytes w128 addr) 16 refl, wide_here addr p.numbers (here d (to_be_bytes w128 addr) s))
-data_spelt bytes d (rdata.Srv priority weight port target) p known s =
-    let a = put_number d priority in
-    let b = put_number a weight in
-    let c = put_number b port in
-    let whole : Stands bytes 12 (c.bytes ++ (spelled target ++ 0 ∷ [])) = rw (append_assoc c.bytes (spelled target) (0 ∷ [])) at s in
-    let sc = left c.bytes (spelled target ++ 0 ∷ []) whole in
-    let sb = before b (to_be_bytes w16 port) sc in
-    let sa = before a (to_be_bytes w16 weight) sb in
-    let na = put_size d (to_be_bytes w16 priority) 2 refl in
-    let nb = put_size a (to_be_bytes w16 weight) 2 refl in
-    let nc = put_size b (to_be_bytes w16 port) 2 refl in
-    let place : size d + 6 ≡ size c = omega arith in
-    let end : size d + 6 + wire_length target ≡ size (put_whole c target) = omega (arith, length-append (c.bytes ++ spelled target) (0 ∷ []), length-append c.bytes (spelled target), length-spelled target) in
-    record {
-      priority_is = number_here priority p.numbers.0 (here d (to_be_bytes w16 priority) sa);
-      weight_is = number_here weight p.numbers.1 (moved (size d + 2) (here a (to_be_bytes w16 weight) sb) (omega arith));
-      port_is = number_here port p.numbers.2 (moved (size d + 4) (here b (to_be_bytes w16 port) sc) (omega arith));
-      target_at = record {
-        proper = p.names.0;
-        spelt = subst (NameAt bytes (size d + 6) (size d + 6) target) end (whole_spelt bytes (size d + 6) (size d + 6) target p.names.0.each (right c.bytes (spelled target ++ 0 ∷ []) (size d + 6) whole place));
-      };
-    }
-data_spelt bytes d (rdata.Caa flags tag value) p known s =
-    let a = put d (flags ∷ []) in
-    let b = put_string a tag in
-    let sb = before b value s in
-    let sa = before a (length tag ∷ tag) sb in
-    let na = put_size d (flags ∷ []) 1 refl in
-    let nb : size b ≡ size d + 1 + 1 + length tag = omega (arith, length-append a.bytes (length tag ∷ tag), na) in
-    let nc = put_size b value (length value) refl in
-    record {
-      middle = size b;
-      flags_are = sym (index (here d (flags ∷ []) sa) 0 (size d) (omega arith) (omega arith));
-      tag_at = string_here tag (size b) (moved (size d + 1) (here a (length tag ∷ tag) sb) (sym na)) nb;
-      some = p.form.some;
-      inside = omega arith;
-      value_is = sym (range (here b value s) (size (put b value)) nc);
-    }
-data_spelt bytes d (rdata.Opaque kind data_bytes) p known s =
-    (p.form.other, sym (range (here d data_bytes s) (size (put d data_bytes)) (put_size d data_bytes (length data_bytes) refl)))
+data_spelt bytes d r p known s = fields_spelt bytes (size (put_fields d (fields_of r))) d (fields_of r) (data_proper r p) (data_tail_last r) known s refl
 
-places_soa : (bytes : List ℕ) (d : Draft) (soa : Soa) → IsName soa.mname → IsName soa.rname → PlacesSpelt bytes d → Stands bytes 12 (put_soa d soa).bytes → PlacesSpelt bytes (put_soa d soa)
-unfolding put_soa
-places_soa bytes d soa mname rname known s =
-    let a = put_name d soa.mname in
-    let b = put_name a soa.rname in
-    let c = put_long b soa.serial in
-    let e = put_long c soa.refresh in
-    let f = put_long e soa.retry in
-    let g = put_long f soa.expire in
-    let sb = before b (to_be_bytes w32 soa.serial) (before c (to_be_bytes w32 soa.refresh) (before e (to_be_bytes w32 soa.retry) (before f (to_be_bytes w32 soa.expire) (before g (to_be_bytes w32 soa.minimum) s)))) in
-    let sa = front_of bytes a soa.rname sb in
-    places_put bytes g (to_be_bytes w32 soa.minimum) (places_put bytes f (to_be_bytes w32 soa.expire) (places_put bytes e (to_be_bytes w32 soa.retry)
-    (places_put bytes c (to_be_bytes w32 soa.refresh) (places_put bytes b (to_be_bytes w32 soa.serial) (places_name bytes a soa.rname rname (places_name bytes d soa.mname mname known sa) sb)))))
-
-places_strings : (bytes : List ℕ) (d : Draft) (strings : List (List ℕ)) → PlacesSpelt bytes d → PlacesSpelt bytes (put_strings d strings)
-places_strings bytes d [] known = known
-places_strings bytes d (first ∷ others) known = places_strings bytes (put_string d first) others (places_put bytes d (length first ∷ first) known)
-
-pub places_data : (bytes : List ℕ) (d : Draft) (r : Rdata) → IsData r → PlacesSpelt bytes d → Stands bytes 12 (put_data d r).bytes → PlacesSpelt bytes (put_data d r)
+pub offsets_data : (bytes : List ℕ) (d : Draft) (r : Rdata) → IsData r → OffsetsSpelt bytes d → Stands bytes 12 (put_data d r).bytes → OffsetsSpelt bytes (put_data d r)
 unfolding put_data
-places_data bytes d (rdata.A addr) p known s = places_put bytes d (to_be_bytes w32 addr) known
-places_data bytes d (rdata.Ns name) p known s = places_name bytes d name p.names.0 known s
-places_data bytes d (rdata.Cname name) p known s = places_name bytes d name p.names.0 known s
-places_data bytes d (rdata.Soa soa) p known s = places_soa bytes d soa p.names.0 p.names.1.0 known s
-places_data bytes d (rdata.Ptr name) p known s = places_name bytes d name p.names.0 known s
-places_data bytes d (rdata.Hinfo cpu os) p known s = places_put bytes (put_string d cpu) (length os ∷ os) (places_put bytes d (length cpu ∷ cpu) known)
-places_data bytes d (rdata.Mx preference exchange) p known s = places_name bytes (put_number d preference) exchange p.names.0 (places_put bytes d (to_be_bytes w16 preference) known) s
-places_data bytes d (rdata.Txt strings) p known s = places_strings bytes d strings known
-places_data bytes d (rdata.Aaaa addr) p known s = places_put bytes d (to_be_bytes w128 addr) known
-places_data bytes d (rdata.Srv priority weight port target) p known s =
-    let a = put_number d priority in
-    let b = put_number a weight in
-    let c = put_number b port in
-    places_put bytes (put c (spelled target)) (0 ∷ []) (places_put bytes c (spelled target) (places_put bytes b (to_be_bytes w16 port) (places_put bytes a (to_be_bytes w16 weight) (places_put bytes d (to_be_bytes w16 priority) known))))
-places_data bytes d (rdata.Caa flags tag value) p known s =
-    places_put bytes (put_string (put d (flags ∷ [])) tag) value (places_put bytes (put d (flags ∷ [])) (length tag ∷ tag) (places_put bytes d (flags ∷ []) known))
-places_data bytes d (rdata.Opaque kind data_bytes) p known s = places_put bytes d data_bytes known
+offsets_data bytes d r p known s = offsets_fields bytes d (fields_of r) (data_proper r p) known s
 
 -- the front of what data was put behind
 pub front_of_data : (bytes : List ℕ) (d : Draft) (r : Rdata) → Stands bytes 12 (put_data d r).bytes → Stands bytes 12 d.bytes

@@ -13,58 +13,48 @@ use Rattle.dns_wire.specs.Data.{DataAt}
 use Rattle.dns_data.specs.Message.{MessageData, AreCodes}
 use Rattle.dns_data.specs.declared.message.Question.{Question}
 use Rattle.dns_data.specs.declared.message.Opt.{Opt}
-use Rattle.dns_wire.specs.Wire.{number_at, long_at, flag_at}
+use Rattle.dns_wire.specs.Wire.{u16_at, u32_at, flag_at}
 use Rattle.dns_wire.specs.Wire.NameAt.{root}
 use Rattle.dns_wire.specs.Records.{RecordAt, OptAt, SectionAt, ttl_at}
-use Rattle.dns_wire.specs.Records.SectionAt.{no_more, entry, options}
+use Rattle.dns_wire.specs.Records.SectionAt.{no_more, rr, options}
 use Rattle.dns_wire.specs.Spells.{HeaderIs, QuestionAt, Spells}
-use Rattle.dns_wire.specs.Written.{Draft, IsLongest, empty, size, put_number, put_name, put_question, put_data, put_record, put_records, bit, opt_bytes, opt_count, header, body, uncut, cut, kept, entries}
+use Rattle.dns_wire.specs.Written.{Draft, IsLongest, empty, size, put_u16, put_name, put_question, put_data, put_record, put_records, bit, opt_bytes, opt_count, header, body, untruncated, truncated, kept, records_of}
 use Rattle.dns_wire.specs.Putting.{OptFits, QuestionFits}
-use Rattle.dns_wire.proofs.Standing.{Stands, size_of, left, right, moved, index, number_here, long_here}
-use Rattle.dns_wire.proofs.Respelt.{PlacesSpelt, whole_name, places_name, places_put}
-use Rattle.dns_wire.proofs.RespeltData.{put_size, here, before, data_spelt, places_data, front_of_data}
+use Rattle.dns_wire.proofs.Standing.{Stands, size_of, left, right, moved, index, u16_here, u32_here}
+use Rattle.dns_wire.proofs.Respelt.{OffsetsSpelt, whole_name, offsets_name, offsets_put}
+use Rattle.dns_wire.proofs.RespeltData.{put_size, here, before, data_spelt, offsets_data, front_of_data}
 use Rattle.dns_wire.proofs.Drafts.{grown-data, grown-record}
 use Rattle.dns_wire.proofs.Swaps.{data_size_of, head_of, length_in_order, record_in_order}
-use Rattle.dns_wire.proofs.Cutting.{put_records-append, length-header, entries-cut, kept_is, cut_all}
+use Rattle.dns_wire.proofs.Truncating.{put_records-append, length-header, records-truncated, kept_is, truncated_all}
 
 -- a TTL below 2^31 is read as it is
-ttl_is : (bytes : List ℕ) (at ttl : ℕ) → ttl < 2 ^ 31 → ttl ≡ long_at bytes at → ttl ≡ ttl_at bytes at
+ttl_is : (bytes : List ℕ) (at ttl : ℕ) → ttl < 2 ^ 31 → ttl ≡ u32_at bytes at → ttl ≡ ttl_at bytes at
 ttl_is bytes at ttl small is =
-    let low : long_at bytes at < 2 ^ 31 = omega (arith, is) in
-    is ∙ ap (λ (b : Bool). if b then long_at bytes at else 0) (sym (lt-ltb (long_at bytes at) (2 ^ 31) low))
+    let low : u32_at bytes at < 2 ^ 31 = omega (arith, is) in
+    is ∙ ap (λ (b : Bool). if b then u32_at bytes at else 0) (sym (lt-ltb (u32_at bytes at) (2 ^ 31) low))
 
 -- a record's length has room in 16 bits
 data_fits : (head : Draft) (r : RecordData) → data_length r.rdata ≤ 65535 → data_size_of head r.rdata < 2 ^ 16
 data_fits head r short =
-    let g = grown-data (put_number head 0) r.rdata in
-    let e = put_data (put_number head 0) r.rdata in
+    let g = grown-data (put_u16 head 0) r.rdata in
+    let e = put_data (put_u16 head 0) r.rdata in
     let n : length (head.bytes ++ to_be_bytes w16 0) ≡ length head.bytes + 2 = length-append head.bytes (to_be_bytes w16 0) in
     let whole : length e.bytes ≡ length head.bytes + 2 + length g.more = ap length g.bytes ∙ omega (arith, n, length-append (head.bytes ++ to_be_bytes w16 0) g.more) in
     omega (arith, whole, g.high, length-drop (length head.bytes + 2) e.bytes)
 
 kind_fits : (r : Rdata) → NumbersFit r → kind_of r < 2 ^ 16
-kind_fits (rdata.A addr) fits = omega arith
-kind_fits (rdata.Ns name) fits = omega arith
-kind_fits (rdata.Cname name) fits = omega arith
-kind_fits (rdata.Soa soa) fits = omega arith
-kind_fits (rdata.Ptr name) fits = omega arith
-kind_fits (rdata.Hinfo cpu os) fits = omega arith
-kind_fits (rdata.Mx preference exchange) fits = omega arith
-kind_fits (rdata.Txt strings) fits = omega arith
-kind_fits (rdata.Aaaa addr) fits = omega arith
-kind_fits (rdata.Srv priority weight port target) fits = omega arith
-kind_fits (rdata.Caa flags tag value) fits = omega arith
-kind_fits (rdata.Opaque kind bytes) fits = fits
+kind_fits (rdata.Opaque kind bytes) fits = fits.0
+kind_fits r fits = omega arith
 
-pub record_spelt : (bytes : List ℕ) (d : Draft) (r : RecordData) → IsProper r → PlacesSpelt bytes d → Stands bytes 12 (put_record d r).bytes
-    → RecordAt bytes (size d) r (size (put_record d r)) × PlacesSpelt bytes (put_record d r)
+pub record_spelt : (bytes : List ℕ) (d : Draft) (r : RecordData) → IsProper r → OffsetsSpelt bytes d → Stands bytes 12 (put_record d r).bytes
+    → RecordAt bytes (size d) r (size (put_record d r)) × OffsetsSpelt bytes (put_record d r)
 record_spelt bytes d r p known s =
     let a = put_name d r.owner in
-    let b = put_number a (kind_of r.rdata) in
-    let c = put_number b r.class in
+    let b = put_u16 a (kind_of r.rdata) in
+    let c = put_u16 b r.class in
     let head = head_of d r in
     let n = data_size_of head r.rdata in
-    let e = put_number head n in
+    let e = put_u16 head n in
     let f = put_data e r.rdata in
     let is : put_record d r ≡ f = record_in_order d r in
     let sf : Stands bytes 12 f.bytes = subst (λ (g : Draft). Stands bytes 12 g.bytes) is s in
@@ -77,21 +67,21 @@ record_spelt bytes d r p known s =
     let nc = put_size b (to_be_bytes w16 r.class) 2 refl in
     let nh = put_size c (to_be_bytes w32 r.ttl) 4 refl in
     let ne = put_size head (to_be_bytes w16 n) 2 refl in
-    let count = number_here n (data_fits head r p.rdata.short) (moved (size a + 8) (here head (to_be_bytes w16 n) se) (omega arith)) in
-    let end : size f ≡ size a + 10 + number_at bytes (size a + 8) = omega (arith, length_in_order head r.rdata, count) in
-    let places = places_put bytes head (to_be_bytes w16 n) (places_put bytes c (to_be_bytes w32 r.ttl) (places_put bytes b (to_be_bytes w16 r.class)
-    (places_put bytes a (to_be_bytes w16 (kind_of r.rdata)) (places_name bytes d r.owner p.owner known sa)))) in
+    let count = u16_here n (data_fits head r p.rdata.short) (moved (size a + 8) (here head (to_be_bytes w16 n) se) (omega arith)) in
+    let end : size f ≡ size a + 10 + u16_at bytes (size a + 8) = omega (arith, length_in_order head r.rdata, count) in
+    let offsets = offsets_put bytes head (to_be_bytes w16 n) (offsets_put bytes c (to_be_bytes w32 r.ttl) (offsets_put bytes b (to_be_bytes w16 r.class)
+    (offsets_put bytes a (to_be_bytes w16 (kind_of r.rdata)) (offsets_name bytes d r.owner p.owner known sa)))) in
     let where_data : size e ≡ size a + 10 = omega arith in
     let spelt : RecordAt bytes (size d) r (size f) = record {
       middle = size a;
       owner = whole_name bytes d r.owner p.owner known sa;
       ends = record { behind_is = end; inside = size_of sf };
-      kind = number_here (kind_of r.rdata) (kind_fits r.rdata p.rdata.numbers) (here a (to_be_bytes w16 (kind_of r.rdata)) sb);
-      class = number_here r.class p.class (moved (size a + 2) (here b (to_be_bytes w16 r.class) sc) (omega arith));
-      ttl = ttl_is bytes (size a + 4) r.ttl p.ttl (long_here r.ttl (omega (arith, p.ttl)) (moved (size a + 4) (here c (to_be_bytes w32 r.ttl) sh) (omega arith)));
-      rdata = subst (λ (k : ℕ). DataAt bytes k r.rdata (size f)) where_data (data_spelt bytes e r.rdata p.rdata places sf);
+      kind = u16_here (kind_of r.rdata) (kind_fits r.rdata p.rdata.numbers) (here a (to_be_bytes w16 (kind_of r.rdata)) sb);
+      class = u16_here r.class p.class (moved (size a + 2) (here b (to_be_bytes w16 r.class) sc) (omega arith));
+      ttl = ttl_is bytes (size a + 4) r.ttl p.ttl (u32_here r.ttl (omega (arith, p.ttl)) (moved (size a + 4) (here c (to_be_bytes w32 r.ttl) sh) (omega arith)));
+      rdata = subst (λ (k : ℕ). DataAt bytes k r.rdata (size f)) where_data (data_spelt bytes e r.rdata p.rdata offsets sf);
     } in
-    (subst (λ (g : Draft). RecordAt bytes (size d) r (size g)) (sym is) spelt, subst (PlacesSpelt bytes) (sym is) (places_data bytes e r.rdata p.rdata places sf))
+    (subst (λ (g : Draft). RecordAt bytes (size d) r (size g)) (sym is) spelt, subst (OffsetsSpelt bytes) (sym is) (offsets_data bytes e r.rdata p.rdata offsets sf))
 
 front_of_record : (bytes : List ℕ) (d : Draft) (r : RecordData) → Stands bytes 12 (put_record d r).bytes → Stands bytes 12 d.bytes
 front_of_record bytes d r s = let g = grown-record d r in left d.bytes g.more (rw g.bytes at s)
@@ -101,23 +91,23 @@ front_of_records bytes d [] s = s
 front_of_records bytes d (r ∷ rs) s = front_of_record bytes d r (front_of_records bytes (put_record d r) rs s)
 
 -- the records of a section, and what is behind them
-pub section_spelt : (bytes : List ℕ) (d : Draft) (rs : List RecordData) (count rest : ℕ) (opt : Option Opt) (behind : ℕ) → AllByRecursion IsProper rs → PlacesSpelt bytes d → Stands bytes 12 (put_records d rs).bytes
+pub section_spelt : (bytes : List ℕ) (d : Draft) (rs : List RecordData) (count rest : ℕ) (opt : Option Opt) (behind : ℕ) → AllByRecursion IsProper rs → OffsetsSpelt bytes d → Stands bytes 12 (put_records d rs).bytes
     → count ≡ length rs + rest → SectionAt bytes rest (size (put_records d rs)) [] opt behind → SectionAt bytes count (size d) rs opt behind
 section_spelt bytes d [] count rest opt behind all known s e more = let same : rest ≡ count = omega arith in subst (λ (n : ℕ). SectionAt bytes n (size d) [] opt behind) same more
 section_spelt bytes d (r ∷ rs) count rest opt behind all known s e more =
     let first = record_spelt bytes d r all.0 known (front_of_records bytes (put_record d r) rs s) in
-    entry {left = length rs + rest} (omega arith) first.0 (section_spelt bytes (put_record d r) rs (length rs + rest) rest opt behind all.1 first.1 s refl more)
+    rr {left = length rs + rest} (omega arith) first.0 (section_spelt bytes (put_record d r) rs (length rs + rest) rest opt behind all.1 first.1 s refl more)
 
-pub places_records : (bytes : List ℕ) (d : Draft) (rs : List RecordData) → AllByRecursion IsProper rs → PlacesSpelt bytes d → Stands bytes 12 (put_records d rs).bytes → PlacesSpelt bytes (put_records d rs)
-places_records bytes d [] all known s = known
-places_records bytes d (r ∷ rs) all known s =
+pub offsets_records : (bytes : List ℕ) (d : Draft) (rs : List RecordData) → AllByRecursion IsProper rs → OffsetsSpelt bytes d → Stands bytes 12 (put_records d rs).bytes → OffsetsSpelt bytes (put_records d rs)
+offsets_records bytes d [] all known s = known
+offsets_records bytes d (r ∷ rs) all known s =
     let first = record_spelt bytes d r all.0 known (front_of_records bytes (put_record d r) rs s) in
-    places_records bytes (put_record d r) rs all.1 first.1 s
+    offsets_records bytes (put_record d r) rs all.1 first.1 s
 
 -- a bit that was set in a byte
-flag : (bytes : List ℕ) (at place : ℕ) (b : Bool) → slice_index bytes at / 2 ^ place % 2 ≡ bit b → b ≡ flag_at bytes at place
-flag bytes at place true e = ap (λ (n : ℕ). n == 1) (sym e)
-flag bytes at place false e = ap (λ (n : ℕ). n == 1) (sym e)
+flag : (bytes : List ℕ) (at offset : ℕ) (b : Bool) → slice_index bytes at / 2 ^ offset % 2 ≡ bit b → b ≡ flag_at bytes at offset
+flag bytes at offset true e = ap (λ (n : ℕ). n == 1) (sym e)
+flag bytes at offset false e = ap (λ (n : ℕ). n == 1) (sym e)
 
 bit_small : (b : Bool) → bit b ≤ 1
 bit_small true = omega arith
@@ -136,7 +126,7 @@ opt_spelt bytes at o fits s =
     let g : slice_index bytes (at + 1 + 6) ≡ 128 * bit o.dnssec = index s 7 (at + 1 + 6) (omega arith) (omega arith) in
     let h : slice_index bytes (at + 1 + 8) ≡ 0 = index s 9 (at + 1 + 8) (omega arith) (omega arith) in
     let k : slice_index bytes (at + 1 + 8 + 1) ≡ 0 = index s 10 (at + 1 + 8 + 1) (omega arith) (omega arith) in
-    let end : at + 11 ≡ at + 1 + 10 + number_at bytes (at + 1 + 8) = omega arith in
+    let end : at + 11 ≡ at + 1 + 10 + u16_at bytes (at + 1 + 8) = omega arith in
     let whole = size_of s in
     let small = bit_small o.dnssec in
     record {
@@ -167,8 +157,8 @@ pub record Fits (m : MessageData) : Type 0 where
   pub kind : m.question.kind < 2 ^ 16
   pub class : m.question.class < 2 ^ 16
   pub opt : IfSome m.opt OptFits
-  pub records : AllByRecursion IsProper (entries m)
-  pub few : length (entries m) < 65535
+  pub records : AllByRecursion IsProper (records_of m)
+  pub few : length (records_of m) < 65535
 
 header_spelt : (bytes : List ℕ) (m : MessageData) → Fits m → Stands bytes 0 (header m) → HeaderIs bytes m
 unfolding header
@@ -195,10 +185,10 @@ header_spelt bytes m f s =
     }
 
 record CountsAre (bytes : List ℕ) (m : MessageData) : Type 0 where
-  one : number_at bytes 4 ≡ 1
-  answer : number_at bytes 6 ≡ length m.answer
-  authority : number_at bytes 8 ≡ length m.authority
-  additional : number_at bytes 10 ≡ length m.additional + opt_count m.opt
+  one : u16_at bytes 4 ≡ 1
+  answer : u16_at bytes 6 ≡ length m.answer
+  authority : u16_at bytes 8 ≡ length m.authority
+  additional : u16_at bytes 10 ≡ length m.additional + opt_count m.opt
 
 opt_few : (o : Option Opt) → opt_count o ≤ 1
 opt_few None = omega arith
@@ -216,16 +206,16 @@ counts_spelt bytes m f s =
     let g : slice_index bytes 9 ≡ length m.authority % 256 = index s 9 9 refl (omega arith) in
     let h : slice_index bytes 10 ≡ n / 256 % 256 = index s 10 10 refl (omega arith) in
     let k : slice_index bytes 11 ≡ n % 256 = index s 11 11 refl (omega arith) in
-    let whole : length (entries m) ≡ length m.answer + (length m.authority + length m.additional) = length-append m.answer (m.authority ++ m.additional) ∙ ap (λ (k : ℕ). length m.answer + k) (length-append m.authority m.additional) in
+    let whole : length (records_of m) ≡ length m.answer + (length m.authority + length m.additional) = length-append m.answer (m.authority ++ m.additional) ∙ ap (λ (k : ℕ). length m.answer + k) (length-append m.authority m.additional) in
     let one = opt_few m.opt in
     record { one = omega arith; answer = omega (arith, f.few); authority = omega (arith, f.few); additional = omega (arith, f.few) }
 
 question_spelt : (bytes : List ℕ) (q : Question) → IsName q.name → q.kind < 2 ^ 16 → q.class < 2 ^ 16 → Stands bytes 12 (put_question empty q).bytes
-    → QuestionAt bytes 12 q (size (put_question empty q)) × PlacesSpelt bytes (put_question empty q)
+    → QuestionAt bytes 12 q (size (put_question empty q)) × OffsetsSpelt bytes (put_question empty q)
 unfolding put_question
 question_spelt bytes q name kind class s =
     let a = put_name empty q.name in
-    let b = put_number a q.kind in
+    let b = put_u16 a q.kind in
     let sb = before b (to_be_bytes w16 q.class) s in
     let sa = before a (to_be_bytes w16 q.kind) sb in
     let nb = put_size a (to_be_bytes w16 q.kind) 2 refl in
@@ -233,12 +223,12 @@ question_spelt bytes q name kind class s =
       record {
         middle = size a;
         name = whole_name bytes empty q.name name tt sa;
-        kind = number_here q.kind kind (here a (to_be_bytes w16 q.kind) sb);
-        class = number_here q.class class (moved (size a + 2) (here b (to_be_bytes w16 q.class) s) (omega arith));
+        kind = u16_here q.kind kind (here a (to_be_bytes w16 q.kind) sb);
+        class = u16_here q.class class (moved (size a + 2) (here b (to_be_bytes w16 q.class) s) (omega arith));
         behind_is = omega arith;
         inside = size_of s;
       },
-      places_put bytes b (to_be_bytes w16 q.class) (places_put bytes a (to_be_bytes w16 q.kind) (places_name bytes empty q.name name tt sa)),
+      offsets_put bytes b (to_be_bytes w16 q.class) (offsets_put bytes a (to_be_bytes w16 q.kind) (offsets_name bytes empty q.name name tt sa)),
     )
 
 all_left : {X : Type 0} (P : X → Type 0) (xs ys : List X) → AllByRecursion P (xs ++ ys) → AllByRecursion P xs
@@ -266,8 +256,8 @@ sections_spelt bytes m f header_is counts s =
     let others = all_right IsProper m.answer (m.authority ++ m.additional) f.records in
     let pb = all_left IsProper m.authority m.additional others in
     let pc = all_right IsProper m.authority m.additional others in
-    let ka = places_records bytes dq m.answer pa q.1 sa in
-    let kb = places_records bytes da m.authority pb ka sb in
+    let ka = offsets_records bytes dq m.answer pa q.1 sa in
+    let kb = offsets_records bytes da m.authority pb ka sb in
     let opt_at = opt_section bytes (size dc) m.opt f.opt (right dc.bytes (opt_bytes m.opt) (size dc) whole refl) in
     record {
       header = header_is;
@@ -275,17 +265,17 @@ sections_spelt bytes m f header_is counts s =
       answer_start = size dq;
       question = q.0;
       authority_start = size da;
-      answer = section_spelt bytes dq m.answer (number_at bytes 6) 0 None (size da) pa q.1 sa (counts.answer ∙ omega arith) (no_more refl refl);
+      answer = section_spelt bytes dq m.answer (u16_at bytes 6) 0 None (size da) pa q.1 sa (counts.answer ∙ omega arith) (no_more refl refl);
       additional_start = size db;
-      authority = section_spelt bytes da m.authority (number_at bytes 8) 0 None (size db) pb ka sb (counts.authority ∙ omega arith) (no_more refl refl);
+      authority = section_spelt bytes da m.authority (u16_at bytes 8) 0 None (size db) pb ka sb (counts.authority ∙ omega arith) (no_more refl refl);
       behind = size dc + 11 * opt_count m.opt;
-      additional = section_spelt bytes db m.additional (number_at bytes 10) (opt_count m.opt) m.opt (size dc + 11 * opt_count m.opt) pc kb sc counts.additional opt_at;
+      additional = section_spelt bytes db m.additional (u16_at bytes 10) (opt_count m.opt) m.opt (size dc + 11 * opt_count m.opt) pc kb sc counts.additional opt_at;
     }
 
 -- what is written of a message is spelt again
-pub uncut_spelt : (m : MessageData) → Fits m → Spells (uncut m) m
-unfolding uncut
-uncut_spelt m f =
+pub untruncated_spelt : (m : MessageData) → Fits m → Spells (untruncated m) m
+unfolding untruncated
+untruncated_spelt m f =
     let behind = (body m).bytes ++ opt_bytes m.opt in
     let all : Stands (header m ++ behind) 0 (header m ++ behind) = record { inside = omega arith; rest = []; is = sym (append-nil (header m ++ behind)) } in
     let first = left (header m) behind all in
@@ -293,24 +283,24 @@ uncut_spelt m f =
     sections_spelt (header m ++ behind) m f (header_spelt (header m ++ behind) m f first) (counts_spelt (header m ++ behind) m f first) second
 
 -- a message with the first records alone fits
-pub fits_cut : (m : MessageData) (k : ℕ) → m.id < 2 ^ 16 → AreCodes m.opcode m.rcode → QuestionFits m.question → IfSome m.opt OptFits → AllByRecursion IsProper (take k (entries m)) → k < 65535 → Fits (cut m k)
-unfolding cut
-fits_cut m k id codes question opt records few = record {
+pub fits_truncated : (m : MessageData) (k : ℕ) → m.id < 2 ^ 16 → AreCodes m.opcode m.rcode → QuestionFits m.question → IfSome m.opt OptFits → AllByRecursion IsProper (take k (records_of m)) → k < 65535 → Fits (truncated m k)
+unfolding truncated
+fits_truncated m k id codes question opt records few = record {
   id = id;
   codes = codes;
   name = question.name;
   kind = question.kind;
   class = question.class;
   opt = opt;
-  records = subst (AllByRecursion IsProper) (sym (entries-cut m k)) records;
-  few = omega (arith, ap length (entries-cut m k), length-take k (entries m));
+  records = subst (AllByRecursion IsProper) (sym (records-truncated m k)) records;
+  few = omega (arith, ap length (records-truncated m k), length-take k (records_of m));
 }
 
 -- what is written of a message is spelt as far as it is kept
-pub longest_spelt : {m : MessageData} {limit : ℕ} {bytes : List ℕ} → (w : IsLongest m limit bytes) → Fits (cut m w.count) → Spells bytes (cut m (kept m limit))
+pub longest_spelt : {m : MessageData} {limit : ℕ} {bytes : List ℕ} → (w : IsLongest m limit bytes) → Fits (truncated m w.count) → Spells bytes (truncated m (kept m limit))
 longest_spelt {m} {limit} {bytes} w f =
-    subst (λ (n : ℕ). Spells bytes (cut m n)) (sym (kept_is w)) (subst (λ (b : List ℕ). Spells b (cut m w.count)) (sym w.text) (uncut_spelt (cut m w.count) f))
+    subst (λ (n : ℕ). Spells bytes (truncated m n)) (sym (kept_is w)) (subst (λ (b : List ℕ). Spells b (truncated m w.count)) (sym w.text) (untruncated_spelt (truncated m w.count) f))
 
 -- and whole where it fits
-pub whole_spelt : {m : MessageData} {limit : ℕ} {bytes : List ℕ} → (w : IsLongest m limit bytes) → Fits (cut m w.count) → length (uncut m) ≤ limit → Spells bytes m
-whole_spelt {m} {limit} {bytes} w f fits = subst (Spells bytes) (cut_all w fits) (subst (λ (b : List ℕ). Spells b (cut m w.count)) (sym w.text) (uncut_spelt (cut m w.count) f))
+pub whole_spelt : {m : MessageData} {limit : ℕ} {bytes : List ℕ} → (w : IsLongest m limit bytes) → Fits (truncated m w.count) → length (untruncated m) ≤ limit → Spells bytes m
+whole_spelt {m} {limit} {bytes} w f fits = subst (Spells bytes) (truncated_all w fits) (subst (λ (b : List ℕ). Spells b (truncated m w.count)) (sym w.text) (untruncated_spelt (truncated m w.count) f))

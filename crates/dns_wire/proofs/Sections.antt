@@ -4,7 +4,7 @@ use Rattle.std.proofs.Common.{◌≡◌, true, false, ◌<◌, ℕ, ◌+◌, Lis
 use Rattle.std.proofs.lemmas.List.{append-nil}
 use Rattle.dns_data.specs.Record.{RecordData}
 use Rattle.dns_data.specs.declared.message.Opt.{Opt}
-use Rattle.dns_wire.specs.Records.{RecordAt, OptAt, PartAt, SectionAt, no_more, entry, options}
+use Rattle.dns_wire.specs.Records.{RecordAt, OptAt, PartAt, SectionAt, no_more, rr, options}
 use Rattle.dns_wire.specs.declared.record.Part.{Part}
 use Rattle.dns_wire.specs.declared.record.Part.TheVariants as part
 use Rattle.dns_wire.proofs.Parts.{owned, part_end, parts_differ}
@@ -25,7 +25,7 @@ pub record Left (bytes : List ℕ) (left at : ℕ) (opt : Option Opt) (behind : 
   pub here : SectionAt bytes left at others later behind
   pub once : Once opt later
 
--- what was read up to a place is these records: whatever records follow complete them, and nothing else does
+-- what was read up to an offset is these records: whatever records follow complete them, and nothing else does
 pub record SectionSoFar (bytes : List ℕ) (count start left at : ℕ) (front : List RecordData) (opt : Option Opt) : Type 0 where
   pub sound : (others : List RecordData) (later : Option Opt) (behind : ℕ) → SectionAt bytes left at others later behind → Once opt later → SectionAt bytes count start (front ++ others) (first_of opt later) behind
   pub complete : (whole : List RecordData) (any : Option Opt) (behind : ℕ) → SectionAt bytes count start whole any behind → Left bytes left at opt behind
@@ -40,7 +40,7 @@ section_begins bytes count start = record {
 behind_record : {bytes : List ℕ} {left less at middle behind : ℕ} {r : RecordData} {whole : List RecordData} {any : Option Opt} → left ≡ less + 1 → RecordAt bytes at r middle → SectionAt bytes left at whole any behind
     → (others : List RecordData) × SectionAt bytes less middle others any behind
 behind_record more here (no_more none is) = absurd (omega arith)
-behind_record {bytes} {left} {less} {at} {middle} {behind} {r} {any = any} more here (entry {left = l} {middle = m} {first = s} {others = others} e there rest) =
+behind_record {bytes} {left} {less} {at} {middle} {behind} {r} {any = any} more here (rr {left = l} {middle = m} {first = s} {others = others} e there rest) =
     let size : l ≡ less = omega arith in
     let end : m ≡ middle = part_end (owned (part.Record s) there) (owned (part.Record r) here) in
     (others, subst (λ (n : ℕ). SectionAt bytes n middle others any behind) size (subst (λ (n : ℕ). SectionAt bytes l n others any behind) end rest))
@@ -50,7 +50,7 @@ behind_record {r = r} more here (options {found = o} e there rest) = absurd (par
 behind_opt : {bytes : List ℕ} {left less at middle behind : ℕ} {o : Opt} {whole : List RecordData} {any : Option Opt} → left ≡ less + 1 → OptAt bytes at o middle → SectionAt bytes left at whole any behind
     → (others : List RecordData) × SectionAt bytes less middle others None behind
 behind_opt more here (no_more none is) = absurd (omega arith)
-behind_opt {o = o} more here (entry {first = r} e there rest) = absurd (parts_differ r o there here)
+behind_opt {o = o} more here (rr {first = r} e there rest) = absurd (parts_differ r o there here)
 behind_opt {bytes} {left} {less} {at} {middle} {behind} {o} more here (options {left = l} {middle = m} {found = p} {others = others} e there rest) =
     let size : l ≡ less = omega arith in
     let end : m ≡ middle = part_end (owned (part.Opt p) there) (owned (part.Opt o) here) in
@@ -60,7 +60,7 @@ pub takes_record : {bytes : List ℕ} {count start left less at middle : ℕ} {f
     → RecordAt bytes at r middle → SectionSoFar bytes count start less middle (front ++ r ∷ []) opt
 takes_record {bytes} {count} {start} {left} {less} {at} {middle} {front} {opt} {r} so_far more here = record {
   sound = λ others later behind h once.
-      subst (λ (l : List RecordData). SectionAt bytes count start l (first_of opt later) behind) (sym (append_assoc front (r ∷ []) others)) (so_far.sound (r ∷ others) later behind (entry more here h) once);
+      subst (λ (l : List RecordData). SectionAt bytes count start l (first_of opt later) behind) (sym (append_assoc front (r ∷ []) others)) (so_far.sound (r ∷ others) later behind (rr more here h) once);
   complete = λ whole any behind h.
       let a = so_far.complete whole any behind h in
       let b = behind_record more here a.here in
@@ -81,7 +81,7 @@ takes_opt {bytes} {count} {start} {left} {less} {at} {middle} {front} {o} so_far
 -- where there was an OPT record, no second one follows
 no_second : {bytes : List ℕ} {left at middle behind : ℕ} {o : Opt} {whole : List RecordData} → 0 < left → OptAt bytes at o middle → SectionAt bytes left at whole None behind → ⊥
 no_second more here (no_more none is) = omega arith
-no_second {o = o} more here (entry {first = r} e there rest) = parts_differ r o there here
+no_second {o = o} more here (rr {first = r} e there rest) = parts_differ r o there here
 
 pub second_opt : {bytes : List ℕ} {count start left at middle : ℕ} {front : List RecordData} {p o : Opt} → SectionSoFar bytes count start left at front (Some p) → 0 < left
     → OptAt bytes at o middle → (whole : List RecordData) (any : Option Opt) (behind : ℕ) → SectionAt bytes count start whole any behind → ⊥
@@ -92,7 +92,7 @@ second_opt {bytes} {left} {at} so_far more here whole any behind h =
 -- where a record is left, one stands there
 first_part : {bytes : List ℕ} {left at behind : ℕ} {whole : List RecordData} {any : Option Opt} → 0 < left → SectionAt bytes left at whole any behind → (p : Part) × (middle : ℕ) × PartAt bytes at p middle
 first_part more (no_more none is) = absurd (omega arith)
-first_part more (entry {middle = m} {first = r} e here rest) = (part.Record r, m, here)
+first_part more (rr {middle = m} {first = r} e here rest) = (part.Record r, m, here)
 first_part more (options {middle = m} {found = o} e here rest) = (part.Opt o, m, here)
 
 pub next_part : {bytes : List ℕ} {count start left at : ℕ} {front : List RecordData} {opt : Option Opt} → SectionSoFar bytes count start left at front opt → 0 < left

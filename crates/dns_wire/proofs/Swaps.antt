@@ -4,17 +4,16 @@ use Rattle.std.proofs.lemmas.List.{append-nil, drop-append-le, drop_all, drop_at
 use Rattle.std.specs.Prelude.{nat_lt, if◌then◌else◌}
 use Rattle.std.specs.Int.{w16, w32, w128, to_be_bytes}
 use Rattle.dns_data.specs.Name.{spelled}
-use Rattle.dns_data.specs.Record.{RecordData, kind_of}
-use Rattle.dns_data.specs.declared.record.Soa.{Soa}
+use Rattle.dns_data.specs.Record.{RecordData, kind_of, fields_of, Field, Compressed, Uncompressed, U8, U16, U32, U128, CharString, NonEmpty, CharStrings, Remainder, Unknown}
 use Rattle.dns_data.specs.declared.record.Rdata.{Rdata}
 use Rattle.dns_data.specs.declared.record.Rdata.TheVariants as rdata
-use Rattle.dns_wire.specs.Written.{Draft, put, put_number, put_long, put_label, put_name, put_string, put_strings, put_soa, put_data, put_record, keep, earliest, with_length}
+use Rattle.dns_wire.specs.Written.{Draft, put, put_u16, put_u32, put_label, put_name, put_string, put_strings, put_field, put_fields, put_data, put_record, keep, earliest, with_length}
 use Rattle.dns_wire.proofs.Drafts.{grown-name, record_by_parts}
-use Rattle.dns_wire.proofs.Writing.{at_place, no_place, at_root}
+use Rattle.dns_wire.proofs.Writing.{at_offset, no_offset, at_root}
 
 -- other bytes in place of the first ones
 abbrev pub swap : List ℕ → Draft → Draft
-swap front d = record { bytes = front ++ drop (length front) d.bytes; places = d.places }
+swap front d = record { bytes = front ++ drop (length front) d.bytes; offsets = d.offsets }
 
 swap_size : (front : List ℕ) (d : Draft) → length front ≤ length d.bytes → length (front ++ drop (length front) d.bytes) ≡ length d.bytes
 swap_size front d inside = omega (arith, length-append front (drop (length front) d.bytes), length-drop (length front) d.bytes)
@@ -34,24 +33,24 @@ puts : (more : List ℕ) → Follows (λ d. put d more)
 puts more = record {
   grows = λ d. omega (arith, length-append d.bytes more);
   swaps = λ front d inside.
-      ap (λ (t : List ℕ). record { bytes = t; places = d.places }) (append_assoc front (drop (length front) d.bytes) more
+      ap (λ (t : List ℕ). record { bytes = t; offsets = d.offsets }) (append_assoc front (drop (length front) d.bytes) more
       ∙ ap (λ (t : List ℕ). front ++ t) (sym (drop-append-le (length front) d.bytes more inside)));
 }
 
 swap_keep : (front : List ℕ) (d : Draft) (suffix : List (List ℕ)) → length front ≤ length d.bytes → keep (swap front d) suffix ≡ swap front (keep d suffix)
 swap_keep front d suffix inside =
-    ap (λ (n : ℕ). record { bytes = front ++ drop (length front) d.bytes; places = if nat_lt (12 + n) 16384 then d.places ++ record { suffix = suffix; at = 12 + n } ∷ [] else d.places }) (swap_size front d inside)
+    ap (λ (n : ℕ). record { bytes = front ++ drop (length front) d.bytes; offsets = if nat_lt (12 + n) 16384 then d.offsets ++ record { suffix = suffix; at = 12 + n } ∷ [] else d.offsets }) (swap_size front d inside)
 
 swap_name : (name : List (List ℕ)) (front : List ℕ) (d : Draft) → length front ≤ length d.bytes → put_name (swap front d) name ≡ swap front (put_name d name)
 swap_name [] front d inside = at_root (swap front d) ∙ (puts (0 ∷ [])).swaps front d inside ∙ ap (swap front) (sym (at_root d))
 swap_name (l ∷ ls) front d inside =
-    elim (earliest d.places (l ∷ ls)) as (λ o. earliest d.places (l ∷ ls) ≡ o → put_name (swap front d) (l ∷ ls) ≡ swap front (put_name d (l ∷ ls))) [
-      | Some at ↦ λ is. at_place (swap front d) l ls at is ∙ (puts ((192 + at / 256) ∷ (at % 256) ∷ [])).swaps front d inside ∙ ap (swap front) (sym (at_place d l ls at is))
+    elim (earliest d.offsets (l ∷ ls)) as (λ o. earliest d.offsets (l ∷ ls) ≡ o → put_name (swap front d) (l ∷ ls) ≡ swap front (put_name d (l ∷ ls))) [
+      | Some at ↦ λ is. at_offset (swap front d) l ls at is ∙ (puts ((192 + at / 256) ∷ (at % 256) ∷ [])).swaps front d inside ∙ ap (swap front) (sym (at_offset d l ls at is))
       | None ↦ λ is.
           let after = put_label (keep d (l ∷ ls)) l in
           let kept : put_label (keep (swap front d) (l ∷ ls)) l ≡ swap front after =
           ap (λ (e : Draft). put_label e l) (swap_keep front d (l ∷ ls) inside) ∙ (puts (length l ∷ l)).swaps front (keep d (l ∷ ls)) inside in
-          no_place (swap front d) l ls is ∙ ap (λ (e : Draft). put_name e ls) kept ∙ swap_name ls front after (omega (arith, length-append d.bytes (length l ∷ l))) ∙ ap (swap front) (sym (no_place d l ls is))
+          no_offset (swap front d) l ls is ∙ ap (λ (e : Draft). put_name e ls) kept ∙ swap_name ls front after (omega (arith, length-append d.bytes (length l ∷ l))) ∙ ap (swap front) (sym (no_offset d l ls is))
     ] refl
 
 names : (name : List (List ℕ)) → Follows (λ d. put_name d name)
@@ -64,92 +63,82 @@ strings_follow : (strings : List (List ℕ)) → Follows (λ d. put_strings d st
 strings_follow [] = record { grows = λ d. omega arith; swaps = λ front d inside. refl }
 strings_follow (s ∷ ss) = both (λ d. put_string d s) (λ d. put_strings d ss) (puts (length s ∷ s)) (strings_follow ss)
 
-soa_follows : (soa : Soa) → Follows (λ d. put_soa d soa)
-unfolding put_soa
-soa_follows soa =
-    let a = both (λ d. put_name d soa.mname) (λ d. put_name d soa.rname) (names soa.mname) (names soa.rname) in
-    let b = both (λ d. put_name (put_name d soa.mname) soa.rname) (λ d. put_long d soa.serial) a (puts (to_be_bytes w32 soa.serial)) in
-    let c = both (λ d. put_long (put_name (put_name d soa.mname) soa.rname) soa.serial) (λ d. put_long d soa.refresh) b (puts (to_be_bytes w32 soa.refresh)) in
-    let e = both (λ d. put_long (put_long (put_name (put_name d soa.mname) soa.rname) soa.serial) soa.refresh) (λ d. put_long d soa.retry) c (puts (to_be_bytes w32 soa.retry)) in
-    let f = both (λ d. put_long (put_long (put_long (put_name (put_name d soa.mname) soa.rname) soa.serial) soa.refresh) soa.retry) (λ d. put_long d soa.expire) e (puts (to_be_bytes w32 soa.expire)) in
-    both (λ d. put_long (put_long (put_long (put_long (put_name (put_name d soa.mname) soa.rname) soa.serial) soa.refresh) soa.retry) soa.expire) (λ d. put_long d soa.minimum) f (puts (to_be_bytes w32 soa.minimum))
+field_follows : (f : Field) → Follows (λ d. put_field d f)
+field_follows (Compressed labels) = names labels
+field_follows (Uncompressed labels) = both (λ d. put d (spelled labels)) (λ d. put d (0 ∷ [])) (puts (spelled labels)) (puts (0 ∷ []))
+field_follows (U8 number) = puts (number ∷ [])
+field_follows (U16 number) = puts (to_be_bytes w16 number)
+field_follows (U32 number) = puts (to_be_bytes w32 number)
+field_follows (U128 number) = puts (to_be_bytes w128 number)
+field_follows (CharString text) = puts (length text ∷ text)
+field_follows (NonEmpty text) = puts (length text ∷ text)
+field_follows (CharStrings texts) = strings_follow texts
+field_follows (Remainder text) = puts text
+field_follows (Unknown kind text) = puts text
+
+fields_follow : (fs : List Field) → Follows (λ d. put_fields d fs)
+fields_follow [] = record { grows = λ d. omega arith; swaps = λ front d inside. refl }
+fields_follow (f ∷ fs) = both (λ d. put_field d f) (λ d. put_fields d fs) (field_follows f) (fields_follow fs)
 
 data_follows : (r : Rdata) → Follows (λ d. put_data d r)
 unfolding put_data
-data_follows (rdata.A addr) = puts (to_be_bytes w32 addr)
-data_follows (rdata.Ns name) = names name
-data_follows (rdata.Cname name) = names name
-data_follows (rdata.Soa soa) = soa_follows soa
-data_follows (rdata.Ptr name) = names name
-data_follows (rdata.Hinfo cpu os) = both (λ d. put_string d cpu) (λ d. put_string d os) (puts (length cpu ∷ cpu)) (puts (length os ∷ os))
-data_follows (rdata.Mx preference exchange) = both (λ d. put_number d preference) (λ d. put_name d exchange) (puts (to_be_bytes w16 preference)) (names exchange)
-data_follows (rdata.Txt strings) = strings_follow strings
-data_follows (rdata.Aaaa addr) = puts (to_be_bytes w128 addr)
-data_follows (rdata.Srv priority weight port target) =
-    let a = both (λ d. put_number d priority) (λ d. put_number d weight) (puts (to_be_bytes w16 priority)) (puts (to_be_bytes w16 weight)) in
-    let b = both (λ d. put_number (put_number d priority) weight) (λ d. put_number d port) a (puts (to_be_bytes w16 port)) in
-    let c = both (λ d. put_number (put_number (put_number d priority) weight) port) (λ d. put d (spelled target)) b (puts (spelled target)) in
-    both (λ d. put (put_number (put_number (put_number d priority) weight) port) (spelled target)) (λ d. put d (0 ∷ [])) c (puts (0 ∷ []))
-data_follows (rdata.Caa flags tag value) =
-    let a = both (λ d. put d (flags ∷ [])) (λ d. put_string d tag) (puts (flags ∷ [])) (puts (length tag ∷ tag)) in
-    both (λ d. put_string (put d (flags ∷ [])) tag) (λ d. put d value) a (puts value)
-data_follows (rdata.Opaque kind bytes) = puts bytes
+data_follows r = fields_follow (fields_of r)
 
 -- the data behind its own length
 abbrev pub data_size_of : Draft → Rdata → ℕ
-data_size_of head r = length (drop (length head.bytes + 2) (put_data (put_number head 0) r).bytes)
+data_size_of head r = length (drop (length head.bytes + 2) (put_data (put_u16 head 0) r).bytes)
 
-in_order : (head : Draft) (r : Rdata) → with_length head (put_data (put_number head 0) r) ≡ put_data (put_number head (data_size_of head r)) r
+in_order : (head : Draft) (r : Rdata) → with_length head (put_data (put_u16 head 0) r) ≡ put_data (put_u16 head (data_size_of head r)) r
 unfolding with_length
 in_order head r =
     let k = data_size_of head r in
     let front = head.bytes ++ to_be_bytes w16 k in
-    let whole = put_data (put_number head 0) r in
+    let whole = put_data (put_u16 head 0) r in
     let n : length front ≡ length head.bytes + 2 = length-append head.bytes (to_be_bytes w16 k) in
     let zeros : length (head.bytes ++ to_be_bytes w16 0) ≡ length head.bytes + 2 = length-append head.bytes (to_be_bytes w16 0) in
     let inside : length front ≤ length (head.bytes ++ to_be_bytes w16 0) = omega arith in
     let filled : with_length head whole ≡ swap front whole =
-    ap (λ (t : List ℕ). record { bytes = t; places = whole.places }) (sym (append_assoc head.bytes (to_be_bytes w16 k) (drop (length head.bytes + 2) whole.bytes)) ∙ ap (λ (m : ℕ). front ++ drop m whole.bytes) (sym n)) in
+    ap (λ (t : List ℕ). record { bytes = t; offsets = whole.offsets }) (sym (append_assoc head.bytes (to_be_bytes w16 k) (drop (length head.bytes + 2) whole.bytes)) ∙ ap (λ (m : ℕ). front ++ drop m whole.bytes) (sym n)) in
     let none : drop (length front) (head.bytes ++ to_be_bytes w16 0) ≡ [] = drop_all (length front) (head.bytes ++ to_be_bytes w16 0) (omega arith) in
-    let begun : swap front (put_number head 0) ≡ put_number head k = ap (λ (t : List ℕ). record { bytes = t; places = head.places }) (ap (λ (t : List ℕ). front ++ t) none ∙ append-nil front) in
-    filled ∙ sym ((data_follows r).swaps front (put_number head 0) inside) ∙ ap (λ (d : Draft). put_data d r) begun
+    let begun : swap front (put_u16 head 0) ≡ put_u16 head k = ap (λ (t : List ℕ). record { bytes = t; offsets = head.offsets }) (ap (λ (t : List ℕ). front ++ t) none ∙ append-nil front) in
+    filled ∙ sym ((data_follows r).swaps front (put_u16 head 0) inside) ∙ ap (λ (d : Draft). put_data d r) begun
 
 -- the length doesn't change how long the draft is
-pub length_in_order : (head : Draft) (r : Rdata) → length (put_data (put_number head (data_size_of head r)) r).bytes ≡ length head.bytes + 2 + data_size_of head r
+pub length_in_order : (head : Draft) (r : Rdata) → length (put_data (put_u16 head (data_size_of head r)) r).bytes ≡ length head.bytes + 2 + data_size_of head r
 unfolding with_length
 length_in_order head r =
-    let behind = drop (length head.bytes + 2) (put_data (put_number head 0) r).bytes in
+    let behind = drop (length head.bytes + 2) (put_data (put_u16 head 0) r).bytes in
     ap (λ (d : Draft). length d.bytes) (sym (in_order head r))
     ∙ omega (arith, length-append head.bytes (to_be_bytes w16 (length behind) ++ behind), length-append (to_be_bytes w16 (length behind)) behind)
 
 -- what stands before the length of a record's data
 abbrev pub head_of : Draft → RecordData → Draft
-head_of d r = put_long (put_number (put_number (put_name d r.owner) (kind_of r.rdata)) r.class) r.ttl
+head_of d r = put_u32 (put_u16 (put_u16 (put_name d r.owner) (kind_of r.rdata)) r.class) r.ttl
 
 -- a record, part after part
-pub record_in_order : (d : Draft) (r : RecordData) → put_record d r ≡ put_data (put_number (head_of d r) (data_size_of (head_of d r) r.rdata)) r.rdata
+pub record_in_order : (d : Draft) (r : RecordData) → put_record d r ≡ put_data (put_u16 (head_of d r) (data_size_of (head_of d r) r.rdata)) r.rdata
 record_in_order d r = sym (record_by_parts d r) ∙ in_order (head_of d r) r.rdata
 
 -- a record whose data is known, part after part
 abbrev pub head_by : Draft → RecordData → Rdata → Draft
-head_by d r x = put_long (put_number (put_number (put_name d r.owner) (kind_of x)) r.class) r.ttl
+head_by d r x = put_u32 (put_u16 (put_u16 (put_name d r.owner) (kind_of x)) r.class) r.ttl
 
-by_data : (d : Draft) (r : RecordData) (x : Rdata) → r.rdata ≡ x → put_record d r ≡ put_data (put_number (head_by d r x) (data_size_of (head_by d r x) x)) x
-by_data d r x e = record_in_order d r ∙ (λ i. put_data (put_number (head_by d r (e i)) (data_size_of (head_by d r (e i)) (e i))) (e i))
+by_data : (d : Draft) (r : RecordData) (x : Rdata) → r.rdata ≡ x → put_record d r ≡ put_data (put_u16 (head_by d r x) (data_size_of (head_by d r x) x)) x
+by_data d r x e = record_in_order d r ∙ (λ i. put_data (put_u16 (head_by d r (e i)) (data_size_of (head_by d r (e i)) (e i))) (e i))
 
-bytes_behind : (head : Draft) (bytes : List ℕ) → length (drop (length head.bytes + 2) (put (put_number head 0) bytes).bytes) ≡ length bytes
+bytes_behind : (head : Draft) (bytes : List ℕ) → length (drop (length head.bytes + 2) (put (put_u16 head 0) bytes).bytes) ≡ length bytes
 bytes_behind head bytes = ap length (drop_at (head.bytes ++ to_be_bytes w16 0) bytes (length head.bytes + 2) (length-append head.bytes (to_be_bytes w16 0)))
 
 -- the data of an A record has 4 bytes
-pub a_record : (d : Draft) (r : RecordData) (addr : ℕ) → r.rdata ≡ rdata.A addr → put_long (put_number (head_by d r (rdata.A addr)) 4) addr ≡ put_record d r
+pub a_record : (d : Draft) (r : RecordData) (addr : ℕ) → r.rdata ≡ rdata.A addr → put_u32 (put_u16 (head_by d r (rdata.A addr)) 4) addr ≡ put_record d r
 unfolding put_data
 a_record d r addr e =
     let head = head_by d r (rdata.A addr) in
-    ap (λ (k : ℕ). put_long (put_number head k) addr) (sym (bytes_behind head (to_be_bytes w32 addr))) ∙ sym (by_data d r (rdata.A addr) e)
+    ap (λ (k : ℕ). put_u32 (put_u16 head k) addr) (sym (bytes_behind head (to_be_bytes w32 addr))) ∙ sym (by_data d r (rdata.A addr) e)
 
 -- that of an AAAA record has 16
-pub aaaa_record : (d : Draft) (r : RecordData) (addr : ℕ) → r.rdata ≡ rdata.Aaaa addr → put (put_number (head_by d r (rdata.Aaaa addr)) 16) (to_be_bytes w128 addr) ≡ put_record d r
+pub aaaa_record : (d : Draft) (r : RecordData) (addr : ℕ) → r.rdata ≡ rdata.Aaaa addr → put (put_u16 (head_by d r (rdata.Aaaa addr)) 16) (to_be_bytes w128 addr) ≡ put_record d r
 unfolding put_data
 aaaa_record d r addr e =
     let head = head_by d r (rdata.Aaaa addr) in
-    ap (λ (k : ℕ). put (put_number head k) (to_be_bytes w128 addr)) (sym (bytes_behind head (to_be_bytes w128 addr))) ∙ sym (by_data d r (rdata.Aaaa addr) e)
+    ap (λ (k : ℕ). put (put_u16 head k) (to_be_bytes w128 addr)) (sym (bytes_behind head (to_be_bytes w128 addr))) ∙ sym (by_data d r (rdata.Aaaa addr) e)

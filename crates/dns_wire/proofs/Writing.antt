@@ -17,19 +17,19 @@ same_suffix r a b v w is =
     (slice_eq-Decides (λ a b. slice_eq-Decides Decides-eqb a b _ refl) (labels_of a) (labels_of b) _ refl)
 
 -- the equations of `put_name`
-pub at_place : (d : Draft) (label : List ℕ) (labels : List (List ℕ)) (at : ℕ) → earliest d.places (label ∷ labels) ≡ Some at → put_name d (label ∷ labels) ≡ put_pointer d at
+pub at_offset : (d : Draft) (label : List ℕ) (labels : List (List ℕ)) (at : ℕ) → earliest d.offsets (label ∷ labels) ≡ Some at → put_name d (label ∷ labels) ≡ put_pointer d at
 unfolding put_name
-at_place d label labels at found = ap (λ (o : Option ℕ). pointer_or d o (put_name (put_label (keep d (label ∷ labels)) label) labels)) found
+at_offset d label labels at found = ap (λ (o : Option ℕ). pointer_or d o (put_name (put_label (keep d (label ∷ labels)) label) labels)) found
 
-pub no_place : (d : Draft) (label : List ℕ) (labels : List (List ℕ)) → earliest d.places (label ∷ labels) ≡ None → put_name d (label ∷ labels) ≡ put_name (put_label (keep d (label ∷ labels)) label) labels
+pub no_offset : (d : Draft) (label : List ℕ) (labels : List (List ℕ)) → earliest d.offsets (label ∷ labels) ≡ None → put_name d (label ∷ labels) ≡ put_name (put_label (keep d (label ∷ labels)) label) labels
 unfolding put_name
-no_place d label labels none = ap (λ (o : Option ℕ). pointer_or d o (put_name (put_label (keep d (label ∷ labels)) label) labels)) none
+no_offset d label labels none = ap (λ (o : Option ℕ). pointer_or d o (put_name (put_label (keep d (label ∷ labels)) label) labels)) none
 
 pub at_root : (d : Draft) → put_name d [] ≡ put d (0 ∷ [])
 unfolding put_name
 at_root d = refl
 
--- the places know the name up to a place in its spelling, and its labels up to there are still to be put
+-- the offsets know the name up to an offset in its spelling, and its labels up to there are still to be put
 pub record WrittenTo (start draft : Draft) (name labels : List (List ℕ)) (at : ℕ) : Type 0 where
   pub inside : at ≤ length (spelled name)
   pub left : drop at (spelled name) ≡ spelled labels
@@ -49,13 +49,13 @@ suffix_of {labels} {at} wire e w =
     record { right = is_wire (take (length wire - at) (drop at wire)) labels is w.proper; view = view_of (take (length wire - at) (drop at wire)) labels is }
 
 -- a pointer ends the name
-pub points : {start draft : Draft} {name labels : List (List ℕ)} {label : List ℕ} {at : ℕ} → (place : ℕ) → WrittenTo start draft name (label ∷ labels) at → earliest draft.places (label ∷ labels) ≡ Some place
-    → put_pointer (put draft (take at (spelled name))) place ≡ put_name start name
-points {draft} {name} {labels} {label} {at} place w found = sym (at_place (put draft (take at (spelled name))) label labels place found) ∙ w.rest
+pub points : {start draft : Draft} {name labels : List (List ℕ)} {label : List ℕ} {at : ℕ} → (offset : ℕ) → WrittenTo start draft name (label ∷ labels) at → earliest draft.offsets (label ∷ labels) ≡ Some offset
+    → put_pointer (put draft (take at (spelled name))) offset ≡ put_name start name
+points {draft} {name} {labels} {label} {at} offset w found = sym (at_offset (put draft (take at (spelled name))) label labels offset found) ∙ w.rest
 
--- a label is passed, and its place is kept
-pub passes : {start draft : Draft} {name labels : List (List ℕ)} {label : List ℕ} {at : ℕ} → (new : Draft) → WrittenTo start draft name (label ∷ labels) at → earliest draft.places (label ∷ labels) ≡ None
-    → new ≡ record { bytes = draft.bytes; places = (keep (put draft (take at (spelled name))) (label ∷ labels)).places } → WrittenTo start new name labels (at + (length label + 1))
+-- a label is passed, and its offset is kept
+pub passes : {start draft : Draft} {name labels : List (List ℕ)} {label : List ℕ} {at : ℕ} → (new : Draft) → WrittenTo start draft name (label ∷ labels) at → earliest draft.offsets (label ∷ labels) ≡ None
+    → new ≡ record { bytes = draft.bytes; offsets = (keep (put draft (take at (spelled name))) (label ∷ labels)).offsets } → WrittenTo start new name labels (at + (length label + 1))
 passes {start} {draft} {name} {labels} {label} {at} new w none is =
     let wire = spelled name in
     let here = put draft (take at wire) in
@@ -65,12 +65,12 @@ passes {start} {draft} {name} {labels} {label} {at} new w none is =
     let bytes : draft.bytes ++ take (at + (length label + 1)) wire ≡ here.bytes ++ (length label ∷ label) =
     ap (λ (t : List ℕ). draft.bytes ++ t) more ∙ sym (append_assoc draft.bytes (take at wire) (length label ∷ label)) in
     let same : put new (take (at + (length label + 1)) wire) ≡ put_label (keep here (label ∷ labels)) label =
-    ap (λ (d : Draft). put d (take (at + (length label + 1)) wire)) is ∙ ap (λ (b : List ℕ). record { bytes = b; places = (keep here (label ∷ labels)).places }) bytes in
+    ap (λ (d : Draft). put d (take (at + (length label + 1)) wire)) is ∙ ap (λ (b : List ℕ). record { bytes = b; offsets = (keep here (label ∷ labels)).offsets }) bytes in
     record {
       inside = omega (arith, ap length w.left, length-drop at wire, length-append label (spelled labels));
       left = sym (drop-drop (length label + 1) at wire) ∙ ap (drop (length label + 1)) w.left ∙ drop_at (length label ∷ label) (spelled labels) (length label + 1) size;
       proper = IsName-drop 1 (label ∷ labels) w.proper;
-      rest = ap (λ (d : Draft). put_name d labels) same ∙ sym (no_place here label labels none) ∙ w.rest;
+      rest = ap (λ (d : Draft). put_name d labels) same ∙ sym (no_offset here label labels none) ∙ w.rest;
     }
 
 -- behind its last label a name has a zero byte
@@ -80,6 +80,6 @@ ends {start} {draft} {name} {at} w =
     ap (λ (t : List ℕ). put (put draft t) (0 ∷ [])) (sym all) ∙ sym (at_root (put draft (take at (spelled name)))) ∙ w.rest
 
 -- a pointer in place of the whole name
-pub points_at_once : (d : Draft) (name : List (List ℕ)) (at : ℕ) → 0 < length (spelled name) → earliest d.places name ≡ Some at → put_pointer d at ≡ put_name d name
+pub points_at_once : (d : Draft) (name : List (List ℕ)) (at : ℕ) → 0 < length (spelled name) → earliest d.offsets name ≡ Some at → put_pointer d at ≡ put_name d name
 points_at_once d [] at more found = absurd (omega arith)
-points_at_once d (l ∷ ls) at more found = sym (at_place d l ls at found)
+points_at_once d (l ∷ ls) at more found = sym (at_offset d l ls at found)

@@ -1,4 +1,5 @@
--- How far a message is written: what is known after one record, after the records of a section, and after all.
+-- How far a message is written: what is known after one record, after the records of a section, and
+-- after all.
 use Rattle.std.specs.Prelude.{◌≡◌, ◌≤◌, ◌<◌, ℕ, ◌+◌, ◌-◌, ◌^◌, Bool, true, false, List, length, take}
 use Rattle.std.specs.List.{AllByRecursion}
 use Rattle.dns_data.specs.Name.{IsName}
@@ -7,7 +8,7 @@ use Rattle.dns_data.specs.Message.{MessageData}
 use Rattle.dns_data.specs.declared.message.Question.{Question}
 use Rattle.dns_data.specs.declared.message.Opt.{Opt}
 use Rattle.dns_wire.specs.declared.write.Counts.{Counts}
-use Rattle.dns_wire.specs.Written.{Draft, size, put_record, put_records, entries}
+use Rattle.dns_wire.specs.Written.{Draft, size, put_record, put_records, records_of}
 
 -- the numbers of a question and of an OPT record have room in 16 bits
 pub record QuestionFits (q : Question) : Type 0 where
@@ -35,9 +36,11 @@ pub record PutLongest (old new : Draft) (rs : List RecordData) (room count : ℕ
 abbrev pub total : Counts → ℕ
 total k = k.answer + k.authority + k.additional
 
--- so many of a message's records were put, section after section, and one more would overrun the room
+-- so many of a message's records were put, section after section, and one more would overrun the
+-- room
 pub record AreKept (old new : Draft) (m : MessageData) (room : ℕ) (k : Counts) : Type 0 where
-  pub all : PutLongest old new (entries m) room (total k)
+  pub all : PutLongest old new (records_of m) room (total k)
   pub answer : k.answer ≡ length (take (total k) m.answer)
   pub authority : k.authority ≡ length (take (total k - length m.answer) m.authority)
-  pub additional : k.additional ≡ length (take (total k - length m.answer - length m.authority) m.additional)
+  pub additional : k.additional
+      ≡ length (take (total k - length m.answer - length m.authority) m.additional)

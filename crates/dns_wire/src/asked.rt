@@ -2,11 +2,12 @@ ghost use Rattle.std.specs.Prelude.{◌≤◌, length};
 ghost use Rattle.dns_wire.specs.Asked.{AsksThis, ReadsAsked};
 ghost use Rattle.dns_wire.specs.Reads.{Reads};
 
-use crate::message::{HEADER, opt_alone, read_question};
-use crate::number::{flag_at, number_at};
-use crate::query::head_at;
+use crate::header::{check_query, flags_at, head_at};
+use crate::message::{opt_alone, read_question};
+use crate::number::u16_at;
 use crate::section::read_sections;
-use crate::{QueryFault, ReplyFault};
+use crate::{QueryFault, WireFault};
+use dns_data::limit::HEADER_BYTES;
 use dns_data::{Opt, Question};
 use std::alloc::Global;
 
@@ -25,40 +26,35 @@ pub struct Asked {
 pub fn read_asked(alloc: Global, bytes: &[u8]) -> Result<Asked, QueryFault>
     ensures { ReadsAsked bytes.now result }
 {
-    if bytes.len() < HEADER {
-        return Err(QueryFault::Short);
-    }
-    if flag_at(bytes, 2, 7) {
-        return Err(QueryFault::Response);
-    }
-    if bytes[2] / 8 % 16 != 0 {
-        return Err(QueryFault::NotImp(head_at(bytes)));
+    if let Err(fault) = check_query(bytes) {
+        return Err(fault);
     }
     match asked_in(alloc, bytes) {
         Ok(asked) => Ok(asked),
-        Err(ReplyFault::Bad) => Err(QueryFault::FormErr(head_at(bytes))),
-        Err(ReplyFault::NoMemory) => Err(QueryFault::NoMemory),
+        Err(WireFault::Bad) => Err(QueryFault::FormErr(head_at(bytes))),
+        Err(WireFault::NoMemory) => Err(QueryFault::NoMemory),
     }
 }
 
 // What a message with one question asks, whatever its QR and its opcode are.
 #[inline]
-fn asked_in(alloc: Global, bytes: &[u8]) -> Result<Asked, ReplyFault>
+fn asked_in(alloc: Global, bytes: &[u8]) -> Result<Asked, WireFault>
     requires { 12 ≤ length bytes.now }
     ensures { Reads (AsksThis bytes.now) result }
 {
-    if number_at(bytes, 4) != 1 {
-        return Err(ReplyFault::Bad);
+    if u16_at(bytes, 4) != 1 {
+        return Err(WireFault::Bad);
     }
-    let (question, behind) = read_question(alloc, bytes, HEADER)?;
+    let (question, behind) = read_question(alloc, bytes, HEADER_BYTES)?;
     let opt = match opt_alone(bytes, behind) {
         Some(opt) => opt,
         None => read_sections(alloc, bytes, behind)?.opt,
     };
+    let flags = flags_at(bytes);
     Ok(Asked {
-        id: number_at(bytes, 0),
-        rd: flag_at(bytes, 2, 0),
-        cd: flag_at(bytes, 3, 4),
+        id: flags.id,
+        rd: flags.rd,
+        cd: flags.cd,
         question,
         opt,
     })

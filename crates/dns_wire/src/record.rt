@@ -2,15 +2,12 @@ ghost use Rattle.std.specs.Prelude.{◌≤◌, ◌<◌, ◌+◌, ℕ, length, If
 ghost use Rattle.dns_wire.specs.Records.{EndsAt, OptAt, OptFieldsAt, PartAt};
 ghost use Rattle.dns_wire.specs.Reads.{Reads};
 
-use crate::ReplyFault;
+use crate::WireFault;
 use crate::name::read_name;
-use crate::number::{flag_at, number_at, ttl_at};
+use crate::number::{flag_at, ttl_at, u16_at};
 use crate::rdata::read_data;
-use dns_data::{Opt, Record};
+use dns_data::{Opt, Record, kind};
 use std::alloc::Global;
-
-// The type of OPT records (RFC 6891, section 6.1.1).
-const OPT: u16 = 41;
 
 /// A record of a section: OPT or another.
 #[derive(Drop)]
@@ -19,8 +16,8 @@ pub enum Part {
     Opt(Opt),
 }
 
-/// Reads the record at a place, and gives the place behind it.
-pub fn read_part(alloc: Global, bytes: &[u8], at: usize) -> Result<(Part, usize), ReplyFault>
+/// Reads the record at an offset, and gives the offset behind it.
+pub fn read_part(alloc: Global, bytes: &[u8], at: usize) -> Result<(Part, usize), WireFault>
     requires { at ≤ length bytes.now }
     ensures spelt { Reads (λ found. PartAt bytes.now at found.0 found.1) result }
     ensures inside { IfOk result (λ found. found.1 ≤ length bytes.now) }
@@ -30,22 +27,23 @@ pub fn read_part(alloc: Global, bytes: &[u8], at: usize) -> Result<(Part, usize)
     }
     let (owner, middle) = read_name(alloc, bytes, at)?;
     let Some(behind) = end_of_part(bytes, middle) else {
-        return Err(ReplyFault::Bad);
+        return Err(WireFault::Bad);
     };
-    let kind = number_at(bytes, middle);
-    if kind == OPT {
+    let kind = u16_at(bytes, middle);
+    if kind == kind::OPT {
         if owner.wire_len() != 1 {
-            return Err(ReplyFault::Bad);
+            return Err(WireFault::Bad);
         }
         return Ok((Part::Opt(opt_at(bytes, middle)), behind));
     }
     let rdata = read_data(alloc, bytes, kind, middle + 10, behind)?;
-    let class = number_at(bytes, middle + 2);
+    let class = u16_at(bytes, middle + 2);
     let ttl = ttl_at(bytes, middle + 4);
     Ok((Part::Record(Record::new(owner, class, ttl, rdata)), behind))
 }
 
-/// The OPT record at a place, where its owner is a zero byte there, as it mostly is: no name is made for it.
+/// The OPT record at an offset, where its owner is a zero byte there, as it mostly is: no name is
+/// made for it.
 #[inline]
 pub fn plain_opt_at(bytes: &[u8], at: usize) -> Option<(Opt, usize)>
     requires { at ≤ length bytes.now }
@@ -56,13 +54,14 @@ pub fn plain_opt_at(bytes: &[u8], at: usize) -> Option<(Opt, usize)>
         return None;
     }
     let behind = end_of_part(bytes, at + 1)?;
-    if number_at(bytes, at + 1) != OPT {
+    if u16_at(bytes, at + 1) != kind::OPT {
         return None;
     }
     Some((opt_at(bytes, at + 1), behind))
 }
 
-// The place behind the record whose type stands at a place, where its data ends within the bytes.
+// The offset behind the record whose type stands at an offset, where its data ends within the
+// bytes.
 #[inline]
 fn end_of_part(bytes: &[u8], middle: usize) -> Option<usize>
     requires { middle ≤ length bytes.now }
@@ -72,7 +71,7 @@ fn end_of_part(bytes: &[u8], middle: usize) -> Option<usize>
     if bytes.len() - middle < 10 {
         return None;
     }
-    let behind = middle + 10 + number_at(bytes, middle + 8) as usize;
+    let behind = middle + 10 + u16_at(bytes, middle + 8) as usize;
     if bytes.len() < behind {
         return None;
     }
@@ -86,7 +85,7 @@ fn opt_at(bytes: &[u8], middle: usize) -> Opt
     ensures { OptFieldsAt bytes.now middle result }
 {
     Opt {
-        size: number_at(bytes, middle + 2),
+        size: u16_at(bytes, middle + 2),
         ext: bytes[middle + 4],
         version: bytes[middle + 5],
         dnssec: flag_at(bytes, middle + 6, 7),

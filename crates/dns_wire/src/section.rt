@@ -2,13 +2,13 @@ ghost use Rattle.std.specs.Prelude.{◌≤◌, length, None, IfOk};
 ghost use Rattle.dns_wire.specs.Records.{SectionAt, SectionsAt};
 ghost use Rattle.dns_wire.specs.Reads.{Reads};
 
-use crate::ReplyFault;
-use crate::number::number_at;
+use crate::WireFault;
+use crate::number::u16_at;
 use crate::record::{Part, read_part};
 use dns_data::{Opt, Records, Seq};
 use std::alloc::Global;
 
-// The records of a section, its OPT record apart, and the place behind them.
+// The records of a section, its OPT record apart, and the offset behind them.
 #[derive(Drop)]
 struct Section {
     records: Records,
@@ -25,20 +25,22 @@ pub struct Sections {
     pub opt: Option<Opt>,
 }
 
-/// Reads the three sections that a header counts. Stays a call, so that what reads a plain query is small.
+/// Reads the three sections that a header counts. Stays a call, so that what reads a plain query is
+/// small.
 #[inline(never)]
-pub fn read_sections(alloc: Global, bytes: &[u8], start: usize) -> Result<Sections, ReplyFault>
+pub fn read_sections(alloc: Global, bytes: &[u8], start: usize) -> Result<Sections, WireFault>
     requires long { 12 ≤ length bytes.now }
     requires inside { start ≤ length bytes.now }
-    ensures { Reads (λ s. SectionsAt bytes.now start s.answer s.authority s.additional s.opt) result }
+    ensures { Reads
+        (λ s. SectionsAt bytes.now start s.answer s.authority s.additional s.opt) result }
 {
-    let (answer, behind) = read_records(alloc, bytes, start, number_at(bytes, 6))?;
-    let (authority, behind) = read_records(alloc, bytes, behind, number_at(bytes, 8))?;
+    let (answer, behind) = read_records(alloc, bytes, start, u16_at(bytes, 6))?;
+    let (authority, behind) = read_records(alloc, bytes, behind, u16_at(bytes, 8))?;
     let Section {
         records: additional,
         opt,
         behind: _,
-    } = read_section(alloc, bytes, behind, number_at(bytes, 10))?;
+    } = read_section(alloc, bytes, behind, u16_at(bytes, 10))?;
     Ok(Sections {
         answer,
         authority,
@@ -49,14 +51,10 @@ pub fn read_sections(alloc: Global, bytes: &[u8], start: usize) -> Result<Sectio
 
 // Reads so many records, at most one OPT record among them.
 #[inline]
-fn read_section(
-    alloc: Global,
-    bytes: &[u8],
-    start: usize,
-    count: u16,
-) -> Result<Section, ReplyFault>
+fn read_section(alloc: Global, bytes: &[u8], start: usize, count: u16) -> Result<Section, WireFault>
     requires { start ≤ length bytes.now }
-    ensures spelt { Reads (λ found. SectionAt bytes.now count start found.records found.opt found.behind) result }
+    ensures spelt { Reads
+        (λ found. SectionAt bytes.now count start found.records found.opt found.behind) result }
     ensures inside { IfOk result (λ found. found.behind ≤ length bytes.now) }
 {
     if count == 0 {
@@ -69,11 +67,13 @@ fn read_section(
     read_parts(alloc, bytes, start, count)
 }
 
-// Reads so many records one after the other. Stays a call, so that an empty section costs next to nothing.
+// Reads so many records one after the other. Stays a call, so that an empty section costs next to
+// nothing.
 #[inline(never)]
-fn read_parts(alloc: Global, bytes: &[u8], start: usize, count: u16) -> Result<Section, ReplyFault>
+fn read_parts(alloc: Global, bytes: &[u8], start: usize, count: u16) -> Result<Section, WireFault>
     requires { start ≤ length bytes.now }
-    ensures spelt { Reads (λ found. SectionAt bytes.now count start found.records found.opt found.behind) result }
+    ensures spelt { Reads
+        (λ found. SectionAt bytes.now count start found.records found.opt found.behind) result }
     ensures inside { IfOk result (λ found. found.behind ≤ length bytes.now) }
 {
     let mut records: Records = Seq::new(alloc);
@@ -86,7 +86,7 @@ fn read_parts(alloc: Global, bytes: &[u8], start: usize, count: u16) -> Result<S
             Part::Record(record) => records.push(record)?,
             Part::Opt(found) => {
                 if opt.is_some() {
-                    return Err(ReplyFault::Bad);
+                    return Err(WireFault::Bad);
                 }
                 opt = Some(found);
             }
@@ -108,14 +108,14 @@ fn read_records(
     bytes: &[u8],
     start: usize,
     count: u16,
-) -> Result<(Records, usize), ReplyFault>
+) -> Result<(Records, usize), WireFault>
     requires { start ≤ length bytes.now }
     ensures spelt { Reads (λ found. SectionAt bytes.now count start found.0 None found.1) result }
     ensures inside { IfOk result (λ found. found.1 ≤ length bytes.now) }
 {
     let section = read_section(alloc, bytes, start, count)?;
     if section.opt.is_some() {
-        return Err(ReplyFault::Bad);
+        return Err(WireFault::Bad);
     }
     let Section {
         records,

@@ -1,19 +1,21 @@
 ghost use Rattle.std.specs.Prelude.{◌≡◌, ◌≤◌, ◌<◌, ◌+◌, ◌-◌, ◌^◌, [], ◌∷◌, length, take, vec_len, OnOk, IfOk, IfSome};
 ghost use Rattle.std.specs.Int.{w16, to_be_bytes};
 ghost use Rattle.dns_data.specs.Record.{IsProper};
-ghost use Rattle.dns_wire.specs.Spells.{Spells};
-ghost use Rattle.dns_wire.specs.Written.{size, put, put_question, opt_bytes, header, uncut, cut, kept, written, IsLongest};
+ghost use Rattle.dns_wire.specs.Writes.{Writes};
+ghost use Rattle.dns_wire.specs.Written.{size, put, put_question, opt_bytes, header, untruncated, truncated, kept, written, IsLongest};
 ghost use Rattle.dns_data.specs.Message.{AreCodes};
 ghost use Rattle.dns_wire.specs.Assembled.{message_of, high_byte, low_byte};
 ghost use Rattle.dns_wire.specs.Putting.{total, QuestionFits, OptFits, PutWithin, PutLongest, AreKept};
 
+use crate::Flags;
 use crate::write_record::put_record;
 use crate::writer::{Writer, begun};
-use dns_data::{Bytes, Message, Name, NoMemory, Opt, Record};
+use dns_data::limit::{MESSAGE_BYTES, UDP_BYTES};
+use dns_data::{Bytes, Message, Name, NoMemory, Opt, Record, kind};
 use std::alloc::Global;
 
-// The length of an OPT record without data (RFC 6891, section 6.1.2), whose type is 41.
-const OPT: usize = 11;
+// The length of an OPT record without data (RFC 6891, section 6.1.2).
+const OPT_BYTES: usize = 11;
 
 /// How many records of each section are written.
 #[derive(Clone, Copy)]
@@ -23,27 +25,11 @@ pub struct Counts {
     pub additional: usize,
 }
 
-/// What the header of a message says beside its counts (RFC 1035, section 4.1.1; AD and CD by RFC 4035, section 3).
-#[derive(Clone, Copy, Debug, PartialEq, Eq)]
-pub struct Header {
-    pub id: u16,
-    pub qr: bool,
-    /// Below 16.
-    pub opcode: u8,
-    pub aa: bool,
-    pub tc: bool,
-    pub rd: bool,
-    pub ra: bool,
-    pub ad: bool,
-    pub cd: bool,
-    /// Below 16.
-    pub rcode: u8,
-}
-
-/// A message whose parts stand where they are: a question of this name, type and class, and the records.
+/// A message whose parts stand where they are: a question of this name, type and class, and the
+/// records.
 #[derive(Drop)]
 pub struct MessageParts<'a> {
-    pub header: Header,
+    pub flags: Flags,
     pub name: &'a Name,
     pub kind: u16,
     pub class: u16,
@@ -53,15 +39,13 @@ pub struct MessageParts<'a> {
     pub opt: Option<Opt>,
 }
 
-/// Writes a message in the one form, with the longest prefix of its records with which it stays within a limit in bytes.
-/// TC is set where a record of answer or authority is left out (RFC 2181, section 9). The question's name, owner names and
-/// names in NS, CNAME, SOA, PTR and MX data are compressed, and targets of SRV records aren't (RFC 2782).
+/// Writes a message in the one form, with the longest prefix of its records with which it stays
+/// within a limit in bytes. TC is set where a record of answer or authority is left out (RFC 2181,
+/// section 9). The question's name, owner names and names in NS, CNAME, SOA, PTR and MX data are
+/// compressed, and targets of SRV records aren't (RFC 2782).
 pub fn write_message(alloc: Global, message: &Message, limit: u32) -> Result<Bytes, NoMemory>
-    requires limit { (512 ≤ limit) × (limit ≤ 65535) }
-    ensures text { IfOk result (λ bytes. bytes ≡ written message.now limit) }
-    ensures longest { IfOk result (λ bytes. IsLongest message.now limit bytes) }
-    ensures spelt { IfOk result (λ bytes. Spells bytes (cut message.now (kept message.now limit))) }
-    ensures whole { length (uncut message.now) ≤ limit → IfOk result (λ bytes. Spells bytes message.now) }
+    requires limit { (UDP_BYTES ≤ limit) × (limit ≤ MESSAGE_BYTES) }
+    ensures { IfOk result (Writes message.now limit) }
 {
     let parts = parts_of(message);
     write_parts(alloc, Bytes::new(alloc), &parts, limit)
@@ -69,10 +53,10 @@ pub fn write_message(alloc: Global, message: &Message, limit: u32) -> Result<Byt
 
 fn parts_of(message: &Message) -> MessageParts<'_>
     ensures message { message_of result ≡ message.now }
-    ensures codes { AreCodes result.header.opcode result.header.rcode }
+    ensures codes { AreCodes result.flags.opcode result.flags.rcode }
 {
     MessageParts {
-        header: Header {
+        flags: Flags {
             id: message.id,
             qr: message.qr,
             opcode: message.opcode,
@@ -102,18 +86,16 @@ pub fn write_parts(
     parts: &MessageParts<'_>,
     limit: u32,
 ) -> Result<Bytes, NoMemory>
-    requires limit { (512 ≤ limit) × (limit ≤ 65535) }
-    requires codes { AreCodes parts.now.header.opcode parts.now.header.rcode }
-    ensures text { IfOk result (λ bytes. bytes ≡ written (message_of parts.now) limit) }
-    ensures longest { IfOk result (λ bytes. IsLongest (message_of parts.now) limit bytes) }
-    ensures spelt { IfOk result (λ bytes. Spells bytes (cut (message_of parts.now) (kept (message_of parts.now) limit))) }
-    ensures whole { length (uncut (message_of parts.now)) ≤ limit → IfOk result (λ bytes. Spells bytes (message_of parts.now)) }
+    requires limit { (UDP_BYTES ≤ limit) × (limit ≤ MESSAGE_BYTES) }
+    requires codes { AreCodes parts.now.flags.opcode parts.now.flags.rcode }
+    ensures { IfOk result (Writes (message_of parts.now) limit) }
 {
     let out = begun(room)?;
     write_behind(alloc, out, parts, limit)
 }
 
-// Writes a message behind and into a header of zero bytes. It is a function of its own so that the writer is made in one go.
+// Writes a message behind and into a header of zero bytes. It is a function of its own so that the
+// writer is made in one go.
 #[inline(always)]
 fn write_behind(
     alloc: Global,
@@ -122,12 +104,9 @@ fn write_behind(
     limit: u32,
 ) -> Result<Bytes, NoMemory>
     requires begun { vec_len out ≡ 12 }
-    requires limit { (512 ≤ limit) × (limit ≤ 65535) }
-    requires codes { AreCodes parts.now.header.opcode parts.now.header.rcode }
-    ensures text { IfOk result (λ bytes. bytes ≡ written (message_of parts.now) limit) }
-    ensures longest { IfOk result (λ bytes. IsLongest (message_of parts.now) limit bytes) }
-    ensures spelt { IfOk result (λ bytes. Spells bytes (cut (message_of parts.now) (kept (message_of parts.now) limit))) }
-    ensures whole { length (uncut (message_of parts.now)) ≤ limit → IfOk result (λ bytes. Spells bytes (message_of parts.now)) }
+    requires limit { (UDP_BYTES ≤ limit) × (limit ≤ MESSAGE_BYTES) }
+    requires codes { AreCodes parts.now.flags.opcode parts.now.flags.rcode }
+    ensures { IfOk result (Writes (message_of parts.now) limit) }
 {
     let mut writer = Writer::over(alloc, out);
     let room_for_records = room_for_records(limit as usize, &parts.opt);
@@ -145,15 +124,16 @@ fn room_for_records(limit: usize, opt: &Option<Opt>) -> usize
     ensures most { limit ≤ result + 11 }
 {
     match opt {
-        Some(_) => limit - OPT,
+        Some(_) => limit - OPT_BYTES,
         None => limit,
     }
 }
 
 #[tactic(auto, unfolding(crate::specs::Written::put_question))]
 fn put_question<'a>(writer: &mut Writer<'a>, parts: &MessageParts<'a>) -> Result<(), NoMemory>
-    requires { writer.old.places ≡ [] }
-    ensures text { OnOk result (writer.new ≡ put_question writer.old (message_of parts.now).question) }
+    requires { writer.old.offsets ≡ [] }
+    ensures text { OnOk result
+        (writer.new ≡ put_question writer.old (message_of parts.now).question) }
     ensures fits { OnOk result (QuestionFits (message_of parts.now).question) }
 {
     let kind = parts.kind.to_be_bytes();
@@ -201,32 +181,32 @@ fn put_sections<'a>(
 #[inline]
 fn put_records<'a>(
     writer: &mut Writer<'a>,
-    entries: &'a [Record],
+    records: &'a [Record],
     room: usize,
 ) -> Result<usize, NoMemory>
     requires room { room ≤ 65535 }
     requires fits { size writer.old ≤ room }
-    ensures { IfOk result (λ count. PutLongest writer.old writer.new entries.now room count) }
+    ensures { IfOk result (λ count. PutLongest writer.old writer.new records.now room count) }
 {
-    if entries.len() == 0 {
+    if records.len() == 0 {
         return Ok(0);
     }
-    put_each(writer, entries, room)
+    put_each(writer, records, room)
 }
 
 // Puts records until one doesn't fit, and gives how many were put.
 fn put_each<'a>(
     writer: &mut Writer<'a>,
-    entries: &'a [Record],
+    records: &'a [Record],
     room: usize,
 ) -> Result<usize, NoMemory>
     requires room { room ≤ 65535 }
     requires fits { size writer.old ≤ room }
-    ensures { IfOk result (λ count. PutLongest writer.old writer.new entries.now room count) }
+    ensures { IfOk result (λ count. PutLongest writer.old writer.new records.now room count) }
 {
     let mut count = 0;
-    for entry in entries {
-        if !put_within(writer, entry, room)? {
+    for rr in records {
+        if !put_within(writer, rr, room)? {
             return Ok(count);
         }
         count += 1;
@@ -235,13 +215,13 @@ fn put_each<'a>(
 }
 
 // Puts a record where it fits, and takes it back where it doesn't.
-fn put_within<'a>(writer: &mut Writer<'a>, entry: &'a Record, room: usize) -> Result<bool, NoMemory>
+fn put_within<'a>(writer: &mut Writer<'a>, rr: &'a Record, room: usize) -> Result<bool, NoMemory>
     requires { size writer.old ≤ room }
-    ensures text { IfOk result (λ fits. PutWithin writer.old writer.new entry.now room fits) }
-    ensures proper { IsProper entry.now }
+    ensures text { IfOk result (λ fits. PutWithin writer.old writer.new rr.now room fits) }
+    ensures proper { IsProper rr.now }
 {
     let mark = writer.mark();
-    put_record(writer, entry)?;
+    put_record(writer, rr)?;
     if writer.len() <= room {
         return Ok(true);
     }
@@ -257,12 +237,13 @@ fn put_opt(writer: &mut Writer<'_>, opt: &Option<Opt>) -> Result<(), NoMemory>
     match opt {
         None => Ok(()),
         Some(opt) => {
+            let kind = kind::OPT.to_be_bytes();
             let size = opt.size.to_be_bytes();
             let flags = 128 * opt.dnssec as u8;
             writer.put(&[
                 0,
-                0,
-                41,
+                kind[0],
+                kind[1],
                 size[0],
                 size[1],
                 opt.ext,
@@ -287,34 +268,37 @@ fn id_bytes(id: u16) -> [u8; 2]
 
 // The two bytes of flags and codes in a header.
 #[inline]
-fn flag_bytes(header: Header, is_cut: bool) -> [u8; 2]
-    requires { AreCodes header.opcode header.rcode }
-    ensures { result ≡ high_byte header is_cut ∷ low_byte header ∷ [] }
+fn flag_bytes(flags: Flags, is_truncated: bool) -> [u8; 2]
+    requires { AreCodes flags.opcode flags.rcode }
+    ensures { result ≡ high_byte flags is_truncated ∷ low_byte flags ∷ [] }
 {
-    let high = 128 * header.qr as u8
-        + 8 * header.opcode
-        + 4 * header.aa as u8
-        + 2 * (header.tc || is_cut) as u8
-        + header.rd as u8;
-    let low = 128 * header.ra as u8 + 32 * header.ad as u8 + 16 * header.cd as u8 + header.rcode;
+    let high = 128 * flags.qr as u8
+        + 8 * flags.opcode
+        + 4 * flags.aa as u8
+        + 2 * (flags.tc || is_truncated) as u8
+        + flags.rd as u8;
+    let low = 128 * flags.ra as u8 + 32 * flags.ad as u8 + 16 * flags.cd as u8 + flags.rcode;
     [high, low]
 }
 
 // The header of a message of which so many records are written.
 #[inline]
-#[tactic(auto, unfolding(crate::specs::Written::header, crate::specs::Written::cut))]
+#[tactic(auto, unfolding(crate::specs::Written::header, crate::specs::Written::truncated))]
 fn header_bytes(parts: &MessageParts<'_>, kept: Counts) -> [u8; 12]
-    requires codes { AreCodes parts.now.header.opcode parts.now.header.rcode }
+    requires codes { AreCodes parts.now.flags.opcode parts.now.flags.rcode }
     requires few { total kept < 2 ^ 16 - 1 }
     requires answer { kept.answer ≡ length (take (total kept) parts.now.answer.now) }
-    requires authority { kept.authority ≡ length (take (total kept - length parts.now.answer.now) parts.now.authority.now) }
-    requires additional { kept.additional ≡ length (take (total kept - length parts.now.answer.now - length parts.now.authority.now) parts.now.additional.now) }
-    ensures text { result ≡ header (cut (message_of parts.now) (total kept)) }
-    ensures fits { parts.now.header.id < 2 ^ 16 }
+    requires authority { kept.authority
+        ≡ length (take (total kept - length parts.now.answer.now) parts.now.authority.now) }
+    requires additional { kept.additional
+        ≡ length (take (total kept - length parts.now.answer.now - length parts.now.authority.now)
+        parts.now.additional.now) }
+    ensures text { result ≡ header (truncated (message_of parts.now) (total kept)) }
+    ensures fits { parts.now.flags.id < 2 ^ 16 }
 {
-    let is_cut = kept.answer < parts.answer.len() || kept.authority < parts.authority.len();
-    let id = id_bytes(parts.header.id);
-    let flags = flag_bytes(parts.header, is_cut);
+    let is_truncated = kept.answer < parts.answer.len() || kept.authority < parts.authority.len();
+    let id = id_bytes(parts.flags.id);
+    let flags = flag_bytes(parts.flags, is_truncated);
     let answer = (kept.answer as u16).to_be_bytes();
     let authority = (kept.authority as u16).to_be_bytes();
     let additional = (kept.additional as u16 + parts.opt.is_some() as u16).to_be_bytes();

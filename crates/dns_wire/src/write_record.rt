@@ -1,22 +1,23 @@
 ghost use Rattle.std.specs.Prelude.{◌≡◌, OnOk};
 ghost use Rattle.std.specs.List.{AllByRecursion};
-ghost use Rattle.dns_data.specs.Record.{IsFormed, IsProper, IsString};
-ghost use Rattle.dns_wire.specs.Written.{put_number, put_long, put_string, put_strings, put_soa, put_data, put_record};
+ghost use Rattle.dns_data.specs.Record.{IsFormed, IsProper, IsCharacterString, fields_of};
+ghost use Rattle.dns_data.specs.declared.record.Rdata.TheVariants as rdata;
+ghost use Rattle.dns_wire.specs.Written.{put_u16, put_u32, put_string, put_strings, put_fields, put_data, put_record};
 
 use crate::writer::Writer;
 use dns_data::{Bytes, NoMemory, Rdata, Record, Soa};
 
 /// Puts a record, at whatever length.
-pub fn put_record<'a>(writer: &mut Writer<'a>, entry: &'a Record) -> Result<(), NoMemory>
-    ensures text { OnOk result (writer.new ≡ put_record writer.old entry.now) }
-    ensures proper { IsProper entry.now }
+pub fn put_record<'a>(writer: &mut Writer<'a>, rr: &'a Record) -> Result<(), NoMemory>
+    ensures text { OnOk result (writer.new ≡ put_record writer.old rr.now) }
+    ensures proper { IsProper rr.now }
 {
-    writer.put_name(&entry.owner)?;
-    let (kind, class, ttl) = (entry.rdata.kind(), entry.class, entry.ttl);
-    match &entry.rdata {
+    writer.put_name(&rr.owner)?;
+    let (kind, class, ttl) = (rr.rdata.kind(), rr.class, rr.ttl);
+    match &rr.rdata {
         Rdata::A(addr) => {
             put_head(writer, kind, class, ttl, 4)?;
-            put_long(writer, *addr)
+            put_u32(writer, *addr)
         }
         Rdata::Aaaa(addr) => {
             put_head(writer, kind, class, ttl, 16)?;
@@ -32,7 +33,8 @@ pub fn put_record<'a>(writer: &mut Writer<'a>, entry: &'a Record) -> Result<(), 
     }
 }
 
-// Type, class and TTL, and the length of the data. Where that isn't known before the data it is 0 as yet.
+// Type, class and TTL, and the length of the data. Where that isn't known before the data it is 0
+// as yet.
 #[inline]
 fn put_head(
     writer: &mut Writer<'_>,
@@ -41,7 +43,8 @@ fn put_head(
     ttl: u32,
     length: u16,
 ) -> Result<(), NoMemory>
-    ensures { OnOk result (writer.new ≡ put_number (put_long (put_number (put_number writer.old kind) class) ttl) length) }
+    ensures { OnOk result
+        (writer.new ≡ put_u16 (put_u32 (put_u16 (put_u16 writer.old kind) class) ttl) length) }
 {
     let kind = kind.to_be_bytes();
     let class = class.to_be_bytes();
@@ -59,7 +62,7 @@ fn put_data<'a>(writer: &mut Writer<'a>, rdata: &'a Rdata) -> Result<(), NoMemor
     ensures { OnOk result (writer.new ≡ put_data writer.old rdata.now) }
 {
     match rdata {
-        Rdata::A(addr) => put_long(writer, *addr),
+        Rdata::A(addr) => put_u32(writer, *addr),
         Rdata::Ns(name) => writer.put_name(name),
         Rdata::Cname(name) => writer.put_name(name),
         Rdata::Soa(soa) => put_soa(writer, soa),
@@ -69,7 +72,7 @@ fn put_data<'a>(writer: &mut Writer<'a>, rdata: &'a Rdata) -> Result<(), NoMemor
             put_string(writer, os)
         }
         Rdata::Mx(preference, exchange) => {
-            writer.put_number(*preference)?;
+            writer.put_u16(*preference)?;
             writer.put_name(exchange)
         }
         Rdata::Txt(strings) => put_strings(writer, strings.as_slice()),
@@ -87,17 +90,16 @@ fn put_data<'a>(writer: &mut Writer<'a>, rdata: &'a Rdata) -> Result<(), NoMemor
     }
 }
 
-#[tactic(auto, unfolding(crate::specs::Written::put_soa))]
 fn put_soa<'a>(writer: &mut Writer<'a>, soa: &'a Soa) -> Result<(), NoMemory>
-    ensures { OnOk result (writer.new ≡ put_soa writer.old soa.now) }
+    ensures { OnOk result (writer.new ≡ put_fields writer.old (fields_of (rdata.Soa soa.now))) }
 {
     writer.put_name(&soa.mname)?;
     writer.put_name(&soa.rname)?;
-    put_long(writer, soa.serial)?;
-    put_long(writer, soa.refresh)?;
-    put_long(writer, soa.retry)?;
-    put_long(writer, soa.expire)?;
-    put_long(writer, soa.minimum)
+    put_u32(writer, soa.serial)?;
+    put_u32(writer, soa.refresh)?;
+    put_u32(writer, soa.retry)?;
+    put_u32(writer, soa.expire)?;
+    put_u32(writer, soa.minimum)
 }
 
 // What stands before the target of an SRV record.
@@ -107,7 +109,8 @@ fn put_service(
     weight: u16,
     port: u16,
 ) -> Result<(), NoMemory>
-    ensures { OnOk result (writer.new ≡ put_number (put_number (put_number writer.old priority) weight) port) }
+    ensures { OnOk result
+        (writer.new ≡ put_u16 (put_u16 (put_u16 writer.old priority) weight) port) }
 {
     let priority = priority.to_be_bytes();
     let weight = weight.to_be_bytes();
@@ -123,15 +126,15 @@ fn put_service(
 }
 
 // A number of 32 bits.
-fn put_long(writer: &mut Writer<'_>, number: u32) -> Result<(), NoMemory>
-    ensures { OnOk result (writer.new ≡ put_long writer.old number) }
+fn put_u32(writer: &mut Writer<'_>, number: u32) -> Result<(), NoMemory>
+    ensures { OnOk result (writer.new ≡ put_u32 writer.old number) }
 {
     writer.put(&number.to_be_bytes())
 }
 
-// A string behind its length.
+// A character-string behind its length.
 fn put_string(writer: &mut Writer<'_>, string: &Bytes) -> Result<(), NoMemory>
-    requires { IsString string.now }
+    requires { IsCharacterString string.now }
     ensures { OnOk result (writer.new ≡ put_string writer.old string.now) }
 {
     writer.put(&[string.len() as u8])?;
@@ -139,7 +142,7 @@ fn put_string(writer: &mut Writer<'_>, string: &Bytes) -> Result<(), NoMemory>
 }
 
 fn put_strings(writer: &mut Writer<'_>, strings: &[Bytes]) -> Result<(), NoMemory>
-    requires { AllByRecursion IsString strings.now }
+    requires { AllByRecursion IsCharacterString strings.now }
     ensures { OnOk result (writer.new ≡ put_strings writer.old strings.now) }
 {
     for string in strings {

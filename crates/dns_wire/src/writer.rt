@@ -1,10 +1,10 @@
 ghost use Rattle.std.specs.Prelude.{◌≡◌, ◌<◌, ◌≤◌, ◌+◌, ◌-◌, ◌^◌, ◌++◌, [], length, take, drop, vec_len, OnOk, IfOk};
 ghost use Rattle.std.specs.Int.{w16, to_be_bytes};
 ghost use Rattle.dns_data.specs.Name.{IsName, IsWire, labels_of};
-ghost use Rattle.dns_wire.specs.Written.{size, put, put_number, put_name, put_pointer, put_whole, keep};
+ghost use Rattle.dns_wire.specs.Written.{size, put, put_u16, put_name, put_pointer, put_whole, keep};
 
-use crate::message::HEADER;
-use crate::places::{MOST, Places};
+use crate::offsets::Offsets;
+use dns_data::limit::{HEADER_BYTES, POINTER_END};
 use dns_data::{Bytes, Name, NoMemory};
 use std::alloc::Global;
 use std::marker::Model;
@@ -16,15 +16,15 @@ const ROOM: usize = 512;
 #[derive(Clone, Copy)]
 pub struct Mark {
     pub bytes: usize,
-    pub places: usize,
+    pub offsets: usize,
 }
 
-/// The bytes of a message so far, and where suffixes of its names stand in them. The names are borrowed. Contracts see
-/// what stands behind the header, which comes last.
+/// The bytes of a message so far, and where suffixes of its names stand in them. The names are
+/// borrowed. Contracts see what stands behind the header, which comes last.
 #[derive(Drop)]
 pub struct Writer<'a> {
     out: Vec<u8>,
-    places: Places<'a>,
+    offsets: Offsets<'a>,
 }
 
 impl<'a> Model for Writer<'a> {
@@ -33,7 +33,7 @@ impl<'a> Model for Writer<'a> {
 
     ghost Value = { Draft };
 
-    ghost view = { λ w. record { bytes = drop 12 w.out.items; places = w.places } };
+    ghost view = { λ w. record { bytes = drop 12 w.out.items; offsets = w.offsets } };
 
     ghost invariant = { λ w. 12 ≤ vec_len w.out };
 }
@@ -43,11 +43,11 @@ impl<'a> Writer<'a> {
     #[inline]
     pub fn over(alloc: Global, out: Vec<u8>) -> Writer<'a>
         requires { vec_len out ≡ 12 }
-        ensures { result ≡ record { bytes = []; places = [] } }
+        ensures { result ≡ record { bytes = []; offsets = [] } }
     {
         Writer {
             out,
-            places: Places::new(alloc),
+            offsets: Offsets::new(alloc),
         }
     }
 
@@ -56,7 +56,10 @@ impl<'a> Writer<'a> {
     pub fn into_bytes(self, header: &[u8; 12]) -> Bytes
         ensures { result ≡ header.now ++ self.entry.bytes }
     {
-        let Writer { mut out, places: _ } = self;
+        let Writer {
+            mut out,
+            offsets: _,
+        } = self;
         overwrite(&mut out, 0, header);
         Bytes::of(out)
     }
@@ -70,21 +73,26 @@ impl<'a> Writer<'a> {
 
     pub fn mark(&self) -> Mark
         ensures bytes { result.bytes ≡ size self.now }
-        ensures places { result.places ≡ length self.now.places }
+        ensures offsets { result.offsets ≡ length self.now.offsets }
     {
         Mark {
             bytes: self.out.len(),
-            places: self.places.len(),
+            offsets: self.offsets.len(),
         }
     }
 
     /// Takes back what was written since the mark.
     pub fn back_to(&mut self, mark: Mark)
         requires header { 12 ≤ mark.bytes }
-        ensures { self.new ≡ record { bytes = take (mark.bytes - 12) self.old.bytes; places = take mark.places self.old.places } }
+        ensures { self.new
+            ≡ record {
+              bytes = take
+                  (mark.bytes - 12) self.old.bytes;
+              offsets = take mark.offsets self.old.offsets;
+            } }
     {
         self.out.truncate(mark.bytes);
-        self.places.truncate(mark.places);
+        self.offsets.truncate(mark.offsets);
     }
 
     pub fn put(&mut self, bytes: &[u8]) -> Result<(), NoMemory>
@@ -94,20 +102,21 @@ impl<'a> Writer<'a> {
         Ok(())
     }
 
-    pub fn put_number(&mut self, number: u16) -> Result<(), NoMemory>
-        ensures { OnOk result (self.new ≡ put_number self.old number) }
+    pub fn put_u16(&mut self, number: u16) -> Result<(), NoMemory>
+        ensures { OnOk result (self.new ≡ put_u16 self.old number) }
     {
         self.put(&number.to_be_bytes())
     }
 
-    /// Puts the length of what stands from a place on into the two bytes before that place.
+    /// Puts the length of what stands from an offset on into the two bytes before that offset.
     pub fn fill_length(&mut self, at: usize)
         requires behind { 14 ≤ at }
         requires inside { at ≤ size self.old }
         requires small { size self.old - at < 2 ^ 16 }
         ensures { self.new ≡ record {
-          bytes = take (at - 14) self.old.bytes ++ (to_be_bytes w16 (size self.old - at) ++ drop (at - 12) self.old.bytes);
-          places = self.old.places;
+          bytes = take (at - 14) self.old.bytes
+              ++ (to_be_bytes w16 (size self.old - at) ++ drop (at - 12) self.old.bytes);
+          offsets = self.old.offsets;
         } }
     {
         let length = (self.out.len() - at) as u16;
@@ -120,12 +129,12 @@ impl<'a> Writer<'a> {
         requires { IsWire suffix.now }
         ensures { OnOk result (self.new ≡ record {
           bytes = self.old.bytes;
-          places = (keep (put self.old ahead.now) (labels_of suffix.now)).places;
+          offsets = (keep (put self.old ahead.now) (labels_of suffix.now)).offsets;
         }) }
     {
         let at = self.out.len() + ahead.len();
-        if at < MOST {
-            self.places.push(suffix, at)?;
+        if at < POINTER_END {
+            self.offsets.push(suffix, at)?;
         }
         Ok(())
     }
@@ -143,7 +152,7 @@ impl<'a> Writer<'a> {
 
     #[inline]
     fn put_pointer(&mut self, at: usize) -> Result<(), NoMemory>
-        requires { at < 16384 }
+        requires { at < POINTER_END }
         ensures { OnOk result (self.new ≡ put_pointer self.old at) }
     {
         self.put(&[192 + (at / 256) as u8, (at % 256) as u8])
@@ -157,16 +166,17 @@ impl<'a> Writer<'a> {
     {
         let wire = name.as_wire();
         if 0 < wire.len() {
-            if let Some(place) = self.places.first(wire) {
-                return self.put_pointer(place);
+            if let Some(offset) = self.offsets.first(wire) {
+                return self.put_pointer(offset);
             }
         }
         self.put_suffixes(name)
     }
 
-    /// Writes a name as `put_name` does, where none was written before: no suffix of it can stand there.
+    /// Writes a name as `put_name` does, where none was written before: no suffix of it can stand
+    /// there.
     pub fn put_first_name(&mut self, name: &'a Name) -> Result<(), NoMemory>
-        requires { self.old.places ≡ [] }
+        requires { self.old.offsets ≡ [] }
         ensures text { OnOk result (self.new ≡ put_name self.old name.now) }
         ensures proper { IsName name.now }
     {
@@ -181,8 +191,8 @@ impl<'a> Writer<'a> {
         self.put(&[0])
     }
 
-    // Writes a name label by label, up to a pointer or the zero byte. Stays a call, so that a name which stood before is
-    // written by few steps.
+    // Writes a name label by label, up to a pointer or the zero byte. Stays a call, so that a name
+    // which stood before is written by few steps.
     #[inline(never)]
     fn put_suffixes(&mut self, name: &'a Name) -> Result<(), NoMemory>
         ensures text { OnOk result (self.new ≡ put_name self.old name.now) }
@@ -193,9 +203,9 @@ impl<'a> Writer<'a> {
         let mut suffix = wire;
         while let Some(_label) = labels.next() {
             let ahead = &wire[..wire.len() - suffix.len()];
-            if let Some(place) = self.places.find(suffix) {
+            if let Some(offset) = self.offsets.find(suffix) {
                 self.put_labels(ahead)?;
-                return self.put_pointer(place);
+                return self.put_pointer(offset);
             }
             self.keep(ahead, suffix)?;
             suffix = labels.as_wire();
@@ -223,15 +233,16 @@ pub fn begun(room: Bytes) -> Result<Vec<u8>, NoMemory>
     if out.capacity() < ROOM {
         out.reserve(ROOM)?;
     }
-    out.extend_from_slice(&[0; HEADER])?;
+    out.extend_from_slice(&[0; HEADER_BYTES])?;
     Ok(out)
 }
 
-// Puts bytes in place of those that stand from a place on.
+// Puts bytes in place of those that stand from an offset on.
 #[inline]
 fn overwrite(out: &mut Vec<u8>, at: usize, bytes: &[u8])
     requires { at + length bytes.now ≤ vec_len out.old }
-    ensures { out.new.items ≡ take at out.old.items ++ (bytes.now ++ drop (at + length bytes.now) out.old.items) }
+    ensures { out.new.items ≡ take at out.old.items
+        ++ (bytes.now ++ drop (at + length bytes.now) out.old.items) }
 {
     out[at..at + bytes.len()].copy_from_slice(bytes);
 }

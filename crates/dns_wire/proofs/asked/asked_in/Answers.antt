@@ -15,8 +15,8 @@ returns-in_err-opt-in-None c =
 
 pub returns : goal.returns
 returns c =
-    let one = sym c.number_at.ensures ∙ c.if-number_at-ne1.false in
+    let one = sym c.u16_at.ensures ∙ c.if-u16_at-ne1.false in
     elim c.match-opt_alone.branch [
-      | in-Some w ↦ rw w.opt-is (asks_this _ _ _ c.requires one c.in_ok-question.ensures.spelt w.in-Some.ensures c.number_at-2.ensures c.flag_at.ensures c.flag_at-2.ensures)
-      | in-None+in_ok-opt-in-None w ↦ rw w.opt-is (asks_this _ _ _ c.requires one c.in_ok-question.ensures.spelt w.in_ok-opt-in-None.ensures c.number_at-2.ensures c.flag_at.ensures c.flag_at-2.ensures)
+      | in-Some w ↦ rw w.opt-is (asks_this _ _ _ c.requires one c.in_ok-question.ensures.spelt w.in-Some.ensures c.flags_at-flags.ensures.id c.flags_at-flags.ensures.rd c.flags_at-flags.ensures.cd)
+      | in-None+in_ok-opt-in-None w ↦ rw w.opt-is (asks_this _ _ _ c.requires one c.in_ok-question.ensures.spelt w.in_ok-opt-in-None.ensures c.flags_at-flags.ensures.id c.flags_at-flags.ensures.rd c.flags_at-flags.ensures.cd)
     ]

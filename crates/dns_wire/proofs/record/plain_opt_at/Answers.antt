@@ -7,6 +7,6 @@ returns-clause-spelt c = record {
   middle = c.args.at + 1;
   owner = root_at c.args.bytes.now c.args.at (record { inside = omega arith; is = c.if-bytes-at-ne0.false });
   ends = c.in_ok-behind.ensures.found;
-  kind = sym c.number_at.ensures ∙ c.if-number_at-ne-OPT.false;
+  kind = sym c.u16_at.ensures ∙ c.if-u16_at-ne-OPT.false;
   fields = c.opt_at.ensures;
 }

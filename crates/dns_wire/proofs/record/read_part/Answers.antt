@@ -14,7 +14,7 @@ returns-in_default-end_of_part-clause-spelt c = λ found h. c.in_default-end_of_
 
 pub returns-then-wire_len-ne1-clause-spelt : goal.returns-then-wire_len-ne1-clause-spelt
 returns-then-wire_len-ne1-clause-spelt c = λ found h.
-    let root = opt_owner found.0 found.1 h c.in_ok-owner.ensures.spelt (sym c.number_at-kind.ensures ∙ c.if-kind-eq-OPT.true) in
+    let root = opt_owner found.0 found.1 h c.in_ok-owner.ensures.spelt (sym c.u16_at-kind.ensures ∙ c.if-kind-eq-OPT.true) in
     c.if-wire_len-ne1.true (c.wire_len.ensures.value ∙ ap wire_length root)
 
 pub returns-then-kind-eq-OPT-clause-spelt : goal.returns-then-kind-eq-OPT-clause-spelt
@@ -24,11 +24,11 @@ returns-then-kind-eq-OPT-clause-spelt c =
       middle = c.in_ok-owner.middle;
       owner = subst (λ name. WholeNameAt c.args.bytes.now c.args.at name c.in_ok-owner.middle) root c.in_ok-owner.ensures.spelt;
       ends = c.in-Some-end_of_part.ensures.found;
-      kind = sym c.number_at-kind.ensures ∙ c.if-kind-eq-OPT.true;
+      kind = sym c.u16_at-kind.ensures ∙ c.if-kind-eq-OPT.true;
       fields = c.opt_at.ensures;
     }
 
 pub returns-in_err-rdata-clause-spelt : goal.returns-in_err-rdata-clause-spelt
 returns-in_err-rdata-clause-spelt c =
     fails c.in_err-rdata.field-0.0 c.in_err-rdata.ensures.spelt c.from_residual-in_err-rdata.result c.from_residual-in_err-rdata.ensures.1
-    (λ found h. rw c.number_at-kind.ensures (data_here found.0 found.1 h c.in_ok-owner.ensures.spelt c.in-Some-end_of_part.ensures.found (λ is. c.if-kind-eq-OPT.false (c.number_at-kind.ensures ∙ is))))
+    (λ found h. rw c.u16_at-kind.ensures (data_here found.0 found.1 h c.in_ok-owner.ensures.spelt c.in-Some-end_of_part.ensures.found (λ is. c.if-kind-eq-OPT.false (c.u16_at-kind.ensures ∙ is))))

@@ -1,9 +1,10 @@
 use Rattle.std.proofs.Common.{◌≡◌, ◌≤◌, ◌++◌, ap, ◌∙◌, arith}
-use Rattle.dns_wire.specs.Written.{Draft, empty, size, put_question, header, cut, opt_bytes, IsLongest}
+use Rattle.dns_wire.specs.Written.{Draft, empty, size, put_question, header, truncated, opt_bytes, IsLongest}
 use Rattle.dns_wire.specs.Assembled.{message_of}
 use Rattle.dns_wire.specs.Putting.{total}
-use Rattle.dns_wire.proofs.RespeltMessage.{Fits, fits_cut, longest_spelt, whole_spelt}
-use Rattle.dns_wire.proofs.Cutting.{is_longest, is_written, few, question_most}
+use Rattle.dns_wire.proofs.RespeltMessage.{Fits, fits_truncated, longest_spelt, whole_spelt}
+use Rattle.dns_wire.proofs.Compressing.{all_compressed}
+use Rattle.dns_wire.proofs.Truncating.{is_longest, is_written, few, question_most}
 use Rattle.dns_wire.proofs.write.write_behind.Goals as goal
 
 pub put_sections-requires-clause-fits : goal.put_sections-requires-clause-fits
@@ -21,25 +22,21 @@ unfoldable longest : (c : goal.After-into_bytes) → IsLongest (message_of c.arg
 longest c =
     let m = message_of c.args.parts.now in
     let text : c.put_question.new.writer ≡ put_question empty m.question = c.in_ok-put_question.ensures.text ∙ ap (λ (d : Draft). put_question d m.question) c.over-writer.ensures in
-    let whole : c.into_bytes.result ≡ header (cut m (total c.in_ok-kept.kept)) ++ (c.put_sections.new.writer.bytes ++ opt_bytes m.opt) =
+    let whole : c.into_bytes.result ≡ header (truncated m (total c.in_ok-kept.kept)) ++ (c.put_sections.new.writer.bytes ++ opt_bytes m.opt) =
     c.into_bytes.ensures ∙ (λ i. c.header_bytes.ensures.text i ++ (c.in_ok-put_opt.ensures.text i).bytes) in
     is_longest {k = c.in_ok-kept.kept} c.into_bytes.result c.in_ok-kept.ensures text c.room_for_records-room_for_records.ensures.sum whole
 
-pub returns-clause-text : goal.returns-clause-text
-returns-clause-text c = is_written (longest c)
-
-pub returns-clause-longest : goal.returns-clause-longest
-returns-clause-longest c = longest c
-
-fits : (c : goal.After-into_bytes) → Fits (cut (message_of c.args.parts.now) (total c.in_ok-kept.kept))
+fits : (c : goal.After-into_bytes) → Fits (truncated (message_of c.args.parts.now) (total c.in_ok-kept.kept))
 fits c =
     let small : c.room_for_records-room_for_records.result ≤ 65535 = omega (arith, c.requires.limit.1, c.room_for_records-room_for_records.ensures.sum) in
-    fits_cut (message_of c.args.parts.now) (total c.in_ok-kept.kept) c.header_bytes.ensures.fits c.requires.codes c.in_ok-put_question.ensures.fits c.in_ok-put_opt.ensures.fits c.in_ok-kept.ensures.all.proper (omega (arith, few c.in_ok-kept.ensures small))
+    fits_truncated (message_of c.args.parts.now) (total c.in_ok-kept.kept) c.header_bytes.ensures.fits c.requires.codes c.in_ok-put_question.ensures.fits c.in_ok-put_opt.ensures.fits c.in_ok-kept.ensures.all.proper (omega (arith, few c.in_ok-kept.ensures small))
 
-pub returns-clause-spelt : goal.returns-clause-spelt
+pub returns : goal.returns
 unfolding longest is_longest
-returns-clause-spelt c = longest_spelt (longest c) (fits c)
-
-pub returns-clause-whole : goal.returns-clause-whole
-unfolding longest is_longest
-returns-clause-whole c = λ inside. whole_spelt (longest c) (fits c) inside
+returns c = record {
+  text = is_written (longest c);
+  longest = longest c;
+  spelt = longest_spelt (longest c) (fits c);
+  whole = λ inside. whole_spelt (longest c) (fits c) inside;
+  compressed = all_compressed;
+}

@@ -16,5 +16,5 @@ returns c =
     fills out c.overwrite.new.out.items c.to_be_bytes.result c.args.at c.requires.behind inside (ap length text) c.overwrite.ensures in
     let bytes : drop 12 c.overwrite.new.out.items ≡ take (c.args.at - 14) c.args.self.now.bytes ++ (to_be_bytes w16 (size c.args.self.now - c.args.at) ++ drop (c.args.at - 12) c.args.self.now.bytes) =
     same ∙ (λ i. take (c.args.at - 14) (view i) ++ (text i ++ drop (c.args.at - 12) (view i))) in
-    let places : c.self.inside.places ≡ c.args.self.now.places = ap (λ (d : Draft). d.places) c.self.view_is in
-    λ i. record { bytes = bytes i; places = places i }
+    let offsets : c.self.inside.offsets ≡ c.args.self.now.offsets = ap (λ (d : Draft). d.offsets) c.self.view_is in
+    λ i. record { bytes = bytes i; offsets = offsets i }

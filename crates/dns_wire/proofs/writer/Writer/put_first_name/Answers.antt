@@ -5,7 +5,7 @@ use Rattle.dns_data.specs.Name.{spelled}
 use Rattle.dns_data.specs.NameLaws.{is_wire, view_of}
 use Rattle.dns_wire.specs.Written.{Draft, put}
 use Rattle.dns_wire.proofs.Writing.{WrittenTo, passes, ends}
-use Rattle.dns_wire.proofs.Placing.{none_longer, kept_longer}
+use Rattle.dns_wire.proofs.Searching.{none_longer, kept_longer}
 use Rattle.dns_wire.proofs.writer.Writer.put_first_name.Goals as goal
 
 pub keep-requires : goal.keep-requires
@@ -18,7 +18,7 @@ loop-label-preserved c =
     let w = rw c.in-Some.ensures.value at c.loop-label.invariant.to in
     let longer = rw c.in-Some.ensures.value at c.loop-label.invariant.longer in
     let view = view_of suffix c.loop-label.labels c.loop-label.invariant.suffix ∙ c.in-Some.ensures.value in
-    let none = none_longer (c.in-Some._label.now ∷ c.next.new.self) draft.places longer in
+    let none = none_longer (c.in-Some._label.now ∷ c.next.new.self) draft.offsets longer in
     let kept = rw (view, c.as_wire-wire.ensures.value) at c.in_ok-keep.ensures in
     let passed = passes c.keep.new.self w none kept in
     let wire = spelled c.args.name.now in
@@ -28,7 +28,7 @@ loop-label-preserved c =
     record {
       suffix = c.as_wire-suffix.ensures.value;
       to = subst (λ (k : ℕ). WrittenTo c.args.self.now c.keep.new.self c.args.name.now c.next.new.self k) next passed;
-      longer = subst (λ (d : Draft). AllByRecursion (λ p. length c.next.new.self < length p.suffix) d.places) (sym kept) (kept_longer (put draft (take (length wire - length suffix) wire)) c.in-Some._label.now c.next.new.self longer);
+      longer = subst (λ (d : Draft). AllByRecursion (λ p. length c.next.new.self < length p.suffix) d.offsets) (sym kept) (kept_longer (put draft (take (length wire - length suffix) wire)) c.in-Some._label.now c.next.new.self longer);
     }
 
 pub returns-clause-text : goal.returns-clause-text

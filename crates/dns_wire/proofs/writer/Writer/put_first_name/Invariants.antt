@@ -8,7 +8,7 @@ abbrev pub invariant-loop-label : goal.invariant-loop-label
 invariant-loop-label l = record {
   suffix : l.suffix ≡ spelled l.labels;
   to : WrittenTo l.fn.self l.self l.name l.labels (length (spelled l.name) - length l.suffix);
-  longer : AllByRecursion (λ p. length l.labels < length p.suffix) l.self.places;
+  longer : AllByRecursion (λ p. length l.labels < length p.suffix) l.self.offsets;
 }
 
 abbrev pub decreases-loop-label : goal.decreases-loop-label

@@ -13,6 +13,6 @@ pub returns-in-Some-clause-text : goal.returns-in-Some-clause-text
 returns-in-Some-clause-text c =
     let wire = c.as_wire-wire.result.now in
     let view = view_of wire c.args.name.now c.as_wire-wire.ensures.value in
-    let found = sym (ap (earliest c.args.self.now.places) view) ∙ sym (ap (λ (d : Draft). earliest d.places (labels_of wire)) c.self.view_is) ∙ c.in-Some.ensures.1 in
+    let found = sym (ap (earliest c.args.self.now.offsets) view) ∙ sym (ap (λ (d : Draft). earliest d.offsets (labels_of wire)) c.self.view_is) ∙ c.in-Some.ensures.1 in
     let more : 0 < length (spelled c.args.name.now) = omega (arith, ap length c.as_wire-wire.ensures.value, c.if-wire-gt0.true) in
-    on_ok_weaker c.put_pointer.result (λ (p : c.put_pointer.new.self ≡ put_pointer c.args.self.now c.in-Some.place). p ∙ points_at_once c.args.self.now c.args.name.now c.in-Some.place more found) c.put_pointer.ensures
+    on_ok_weaker c.put_pointer.result (λ (p : c.put_pointer.new.self ≡ put_pointer c.args.self.now c.in-Some.offset). p ∙ points_at_once c.args.self.now c.args.name.now c.in-Some.offset more found) c.put_pointer.ensures

@@ -19,10 +19,10 @@ returns-in-Some-find-clause-text c =
     let wire = c.as_wire-wire.result.now in
     let w = rw c.in-Some.ensures.value at c.loop-label.invariant.to in
     let view = view_of suffix c.loop-label.labels c.loop-label.invariant.suffix ∙ c.in-Some.ensures.value in
-    let found = sym (c.in-Some-find.ensures.value ∙ ap (λ (d : Draft). earliest d.places (labels_of suffix)) c.self.view_is ∙ ap (earliest draft.places) view) in
+    let found = sym (c.in-Some-find.ensures.value ∙ ap (λ (d : Draft). earliest d.offsets (labels_of suffix)) c.self.view_is ∙ ap (earliest draft.offsets) view) in
     let here : put draft (take (length wire - length suffix) wire) ≡ put draft (take (length (spelled c.args.name.now) - length suffix) (spelled c.args.name.now)) =
     ap (λ (t : List ℕ). put draft (take (length t - length suffix) t)) c.as_wire-wire.ensures.value in
-    on_ok_weaker c.put_pointer.result (λ (p : c.put_pointer.new.self ≡ put_pointer c.put_labels.new.self c.in-Some-find.place). p ∙ ap (λ (d : Draft). put_pointer d c.in-Some-find.place) (c.in_ok-put_labels.ensures ∙ here) ∙ points c.in-Some-find.place w found) c.put_pointer.ensures
+    on_ok_weaker c.put_pointer.result (λ (p : c.put_pointer.new.self ≡ put_pointer c.put_labels.new.self c.in-Some-find.offset). p ∙ ap (λ (d : Draft). put_pointer d c.in-Some-find.offset) (c.in_ok-put_labels.ensures ∙ here) ∙ points c.in-Some-find.offset w found) c.put_pointer.ensures
 
 pub loop-label-preserved : goal.loop-label-preserved
 loop-label-preserved c =
@@ -30,7 +30,7 @@ loop-label-preserved c =
     let suffix = c.loop-label.suffix.now in
     let w = rw c.in-Some.ensures.value at c.loop-label.invariant.to in
     let view = view_of suffix c.loop-label.labels c.loop-label.invariant.suffix ∙ c.in-Some.ensures.value in
-    let none = sym (c.in_default-find.ensures.value ∙ ap (λ (d : Draft). earliest d.places (labels_of suffix)) c.self.view_is ∙ ap (earliest draft.places) view) in
+    let none = sym (c.in_default-find.ensures.value ∙ ap (λ (d : Draft). earliest d.offsets (labels_of suffix)) c.self.view_is ∙ ap (earliest draft.offsets) view) in
     let kept = rw (view, c.as_wire-wire.ensures.value) at c.in_ok-keep.ensures in
     let passed = passes c.keep.new.self w none kept in
     let wire = spelled c.args.name.now in

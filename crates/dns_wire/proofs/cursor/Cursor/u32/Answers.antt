@@ -1,0 +1,7 @@
+use Rattle.std.proofs.Common.{refl, arith}
+use Rattle.dns_data.specs.Record.{U32}
+use Rattle.dns_wire.proofs.Cursors.{number_missed}
+use Rattle.dns_wire.proofs.cursor.Cursor.u32.Goals as goal
+
+pub returns-in_default : goal.returns-in_default
+returns-in_default c = number_missed {f = U32 0} c.in_default.ensures (omega arith) (omega arith) refl

@@ -2,3 +2,5 @@ pub mod Lines
 pub mod Variables
 pub mod Words
 pub mod BadBytes
+-- what public clauses cite
+pub use Rattle.corefile_words.specs.Words.{ReadsWords, words_of}

@@ -32,6 +32,7 @@ abbrev pub cut : List ℕ → List (List ℕ)
 cut [] = []
 cut (byte ∷ bytes) = if is_line_end byte then [] ∷ cut bytes else with_first byte (cut bytes)
 
--- the lines of a text: each ends in LF or where the text ends, and a CR before a LF belongs to no line
+-- the lines of a text: each ends in LF or where the text ends, and a CR before a LF belongs to no
+-- line
 unfoldable pub lines_of : List ℕ → List (List ℕ)
 lines_of text = cut (without_before 13 10 text)

@@ -1,4 +1,5 @@
--- The variables of a word, `{$NAME}`, and what the environment puts in their place. Bytes by number: 36 `$`, 95 `_`, 123 `{`, 125 `}`.
+-- The variables of a word, `{$NAME}`, and what the environment puts in their place. Bytes by
+-- number: 36 `$`, 95 `_`, 123 `{`, 125 `}`.
 use Rattle.std.specs.Prelude.{◌≡◌, ℕ, zero, suc, ◌+◌, ◌<◌, ◌==◌, nat_eq, nat_lt, Bool, ◌&&◌, not, List, [], ◌∷◌, ◌++◌, length, drop, slice_index, Option, Some, None, if◌then◌else◌}
 use Rattle.std.specs.Char.{is_ascii_alphanumeric}
 use Rattle.std.specs.Cmp.Lexicographic.{pointwise}
@@ -31,17 +32,21 @@ pub record IsClosedAt (bytes : List ℕ) (at : ℕ) : Type 0 where
 -- the value of the first pair of this name, or nothing
 abbrev pub value_of : List Pair → List ℕ → List ℕ
 value_of [] name = []
-value_of (pair ∷ env) name = if pointwise nat_eq pair.name name then pair.value else value_of env name
+value_of (pair ∷ env) name =
+    if pointwise nat_eq pair.name name then pair.value else value_of env name
 
--- the value of a variable and what comes behind it, or, without a variable, the byte and what comes behind that
+-- the value of a variable and what comes behind it, or, without a variable, the byte and what comes
+-- behind that
 abbrev pub put : List Pair → ℕ → Option (List ℕ) → (ℕ → List ℕ) → List ℕ
 put env byte None behind = byte ∷ behind 0
 put env byte (Some name) behind = value_of env name ++ behind (length name + 2)
 
--- the bytes behind the first `skip`, which belong to a variable that was read, with values for variables
+-- the bytes behind the first `skip`, which belong to a variable that was read, with values for
+-- variables
 abbrev pub filled_from : List Pair → ℕ → List ℕ → List ℕ
 filled_from env skip [] = []
-filled_from env zero (byte ∷ bytes) = put env byte (variable_at (byte ∷ bytes)) (λ skip. filled_from env skip bytes)
+filled_from env zero (byte ∷ bytes) =
+    put env byte (variable_at (byte ∷ bytes)) (λ skip. filled_from env skip bytes)
 filled_from env (suc skip) (byte ∷ bytes) = filled_from env skip bytes
 
 -- a word with the environment's values in place of its variables, from left to right

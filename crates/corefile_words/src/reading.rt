@@ -10,8 +10,8 @@ use crate::{Pair, WordLine, WordLines, WordsFault};
 use dns_data::Seq;
 use std::alloc::Global;
 
-/// The lines of words of a Corefile, or the fault of the first line that has one. Lines without words
-/// are left out, and the others keep their numbers.
+/// The lines of words of a Corefile, or the fault of the first line that has one. Lines without
+/// words are left out, and the others keep their numbers.
 pub fn read_words(alloc: Global, bytes: &[u8], env: &[Pair]) -> Result<WordLines, WordsFault>
     requires { length bytes.now < 2 ^ 32 }
     ensures reads { ReadsWords bytes.now env.now result }

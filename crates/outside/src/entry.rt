@@ -11,7 +11,8 @@ pub enum Class {
     Servfail,
 }
 
-/// Under what a cache keeps an answer: the name in small letters, the type, and the client's DO and CD bits.
+/// Under what a cache keeps an answer: the name in small letters, the type, and the client's DO and
+/// CD bits.
 #[derive(Debug, Drop)]
 pub struct Key {
     pub name: Name,
@@ -31,8 +32,8 @@ impl Copies for Key {
     }
 }
 
-/// What the plugins behind a cache took from the outside: a random word, an ask with its outcome, or a look for a
-/// further datagram of the last ask.
+/// What the plugins behind a cache took from the outside: a random word, an ask with its outcome,
+/// or a look for a further datagram of the last ask.
 #[derive(Debug, Drop)]
 pub enum InnerMark {
     Word(u64),

@@ -1,5 +1,6 @@
-//! The outside of the server as traits: what a worker, a watcher and a host ask of it, the marks by which it may tell what
-//! it did, the counts of its failing calls, and the scripts that an outside in memory follows.
+//! The outside of the server as traits: what a worker, a watcher and a host ask of it, the marks by
+//! which it may tell what it did, the counts of its failing calls, and the scripts that an outside
+//! in memory follows.
 #![tactic(auto)]
 
 mod datagram;

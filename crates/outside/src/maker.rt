@@ -1,14 +1,15 @@
-ghost use Rattle.std.specs.Prelude.{◌≡◌, ℕ};
+ghost use Rattle.std.specs.Prelude.{◌≡◌};
 ghost use Rattle.outside.specs.Patterns.{Makes};
-ghost use Rattle.outside.specs.WatchMarks.{WatchState, no_watch};
+ghost use Rattle.outside.specs.States.{WatchState, maker_alone, with_refusals};
 
 use dns_data::Text;
 use pattern::Pattern;
 use regex::{Error, Regex};
 use std::alloc::Global;
 
-/// What became of a pattern's text: the compiled pattern; NotPattern where the text is none of the grammar of `regex` or
-/// nests deeper than 250; Refused where it is a pattern, but too large to compile.
+/// What became of a pattern's text: the compiled pattern; NotPattern where the text is none of the
+/// grammar of `regex` or nests deeper than 250; Refused where it is a pattern, but too large to
+/// compile.
 #[derive(Debug, Drop)]
 pub enum Made {
     Pattern(Pattern),
@@ -19,15 +20,12 @@ pub enum Made {
 
 /// Every pattern of a configuration is made by a maker, which counts what it refuses.
 pub trait PatternMaker {
-    /// How many patterns were refused.
-    ghost refusals: { Self → ℕ };
-
-    /// What it tells where it is a watch.
+    /// How many patterns were refused, and what it tells and counts besides where it is a watch.
     ghost state: { Self → WatchState };
 
     fn make(&mut self, alloc: Global, text: &Text) -> Made
-        ensures made { Makes text.now (refusals self.old) result (refusals self.new) }
-        ensures state { state self.new ≡ state self.old };
+        ensures made { Makes text.now (state self.old).refusals result (state self.new).refusals }
+        ensures rest { state self.new ≡ with_refusals (state self.old) (state self.new).refusals };
 }
 
 /// The maker over `regex`, with its default options.
@@ -52,9 +50,7 @@ impl RegexMaker {
 }
 
 impl PatternMaker for RegexMaker {
-    ghost refusals = { λ m. m.refused };
-
-    ghost state = { λ _. no_watch };
+    ghost state = { λ m. maker_alone m.refused };
 
     fn make(&mut self, alloc: Global, text: &Text) -> Made {
         match Regex::new(alloc, text.as_str()) {

@@ -7,3 +7,7 @@ pub mod WatchFeed
 pub mod WatchTold
 pub mod Unused
 pub mod Supply
+-- what public clauses cite
+pub use Rattle.outside_mem.specs.Supply.{as_made, host_state}
+pub use Rattle.outside_mem.specs.Unused.{IsUnusedSide, IsUnusedWatch, side_script, side_state}
+pub use Rattle.outside_mem.specs.Unused.{watch_script, watch_state}

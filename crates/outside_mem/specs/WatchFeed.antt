@@ -11,7 +11,8 @@ use Rattle.outside_mem.specs.declared.watch_feed.WatchFeed.{WatchFeed}
 
 -- the script that is used
 abbrev pub watch_script_of : WatchFeed → WatchScriptData
-watch_script_of feed = record { looks = feed.looks.items; fail_read = feed.read.fails; fail_note = feed.note.fails }
+watch_script_of feed =
+    record { looks = feed.looks.items; fail_read = feed.read.fails; fail_note = feed.note.fails }
 
 -- nothing is used up
 pub record IsUnusedWatchFeed (feed : WatchFeed) : Type 0 where
@@ -21,7 +22,8 @@ pub record IsUnusedWatchFeed (feed : WatchFeed) : Type 0 where
 
 -- a look goes on where there is a set behind the present one
 abbrev pub GivesLook : WatchFeed → WatchFeed → declared_look.Look → Type 0
-GivesLook old new look.Look = (old.passed + 1 < length old.looks.items) × (new ≡ record old { passed = old.passed + 1 })
+GivesLook old new look.Look =
+    (old.passed + 1 < length old.looks.items) × (new ≡ record old { passed = old.passed + 1 })
 GivesLook old new look.End = (length old.looks.items ≤ old.passed + 1) × (new ≡ old)
 
 -- what a read gives of the bytes of a file, or of a missing one
@@ -33,4 +35,5 @@ out_of None = readout.Missing
 abbrev pub GivesRead : WatchFeed → WatchFeed → List ℕ → ReadOut → Type 0
 GivesRead old new name readout.NoMemory = new ≡ old
 GivesRead old new name out =
-    (out ≡ read_answer (watch_script_of old) old.passed old.read.counted name) × (new ≡ record old { read = counted old.read })
+    (out ≡ read_answer (watch_script_of old) old.passed old.read.counted name)
+    × (new ≡ record old { read = counted old.read })

@@ -4,8 +4,8 @@ ghost use Rattle.outside_mem.specs.Calls.{counted};
 
 use std::marker::Model;
 
-/// The calls of one kind: the numbers, from 0, of those that are to fail, and how many were counted so far. The count stays
-/// at the last value of u64.
+/// The calls of one kind: the numbers, from 0, of those that are to fail, and how many were counted
+/// so far. The count stays at the last value of u64.
 #[derive(Drop)]
 pub(crate) struct Calls {
     fails: Vec<u64>,

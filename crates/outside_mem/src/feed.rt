@@ -77,8 +77,10 @@ impl SideFeed {
 
 // The outcome at an index, or silence behind the last one. Only a datagram takes memory.
 fn outcome_at(alloc: Global, asks: &[Outcome], index: usize) -> Result<Outcome, NoMemory>
-    ensures given { IfOk result (λ outcome. outcome ≡ outcome_or_silence (slice_get asks.now index)) }
-    ensures starved { OnErr result (is_want (outcome_or_silence (slice_get asks.now index)) ≡ false) }
+    ensures given { IfOk result
+        (λ outcome. outcome ≡ outcome_or_silence (slice_get asks.now index)) }
+    ensures starved { OnErr result
+        (is_want (outcome_or_silence (slice_get asks.now index)) ≡ false) }
 {
     match asks.get(index) {
         Some(Outcome::Got(bytes)) => Ok(Outcome::Got(bytes.copy(alloc)?)),

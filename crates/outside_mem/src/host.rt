@@ -1,22 +1,20 @@
-ghost use Rattle.std.specs.Prelude.{◌≡◌, [], ◌∷◌, Some, IfSome, option_map};
+ghost use Rattle.std.specs.Prelude.{◌≡◌, Some, option_map};
 ghost use Rattle.std.specs.List.{All};
 ghost use Rattle.std.specs.Vec.Iter.{into_iter_items};
-ghost use Rattle.outside.specs.Causes.{no_side_faults, no_watch_faults};
 ghost use Rattle.outside_mem.specs.declared.watch.MemWatch.{MemWatch};
-ghost use Rattle.outside_mem.specs.Unused.{IsUnusedSide, IsUnusedWatch, side_counts, watch_counts};
-ghost use Rattle.outside_mem.specs.Supply.{supply_of};
+ghost use Rattle.outside_mem.specs.Unused.{IsNewSide, IsNewWatch, IsUnusedSide, IsUnusedWatch};
 
 use crate::faults::count;
 use crate::side::MemSide;
-use crate::told::{OpenedSide, Told, ToldLine, tell_line, tell_opened};
+use crate::told::{OpenedSide, Told, ToldLine, tell_line, tell_opened, tell_watch};
 use crate::watch::MemWatch;
 use dns_data::Transport;
 use outside::{Host, OpenFault, Wrote};
 use std::alloc::Global;
 use std::vec::IntoIter;
 
-/// A host in memory. It gives its sides in the order of the calls, and its watch once; further calls fail. It tells its
-/// lines and opened sides, until memory runs out for them.
+/// A host in memory. It gives its sides in the order of the calls, and its watch once; further
+/// calls fail. It tells its lines and opened sides, until memory runs out for them.
 #[derive(Drop)]
 pub struct MemHost {
     alloc: Global,
@@ -24,20 +22,19 @@ pub struct MemHost {
     watch: Option<MemWatch>,
     told: Option<Told>,
     open_faults: u64,
-    ghost side_untold: { All (λ s. s.journal ≡ Some []) (into_iter_items sides) },
-    ghost side_sound: { All (λ s. side_counts s ≡ no_side_faults) (into_iter_items sides) },
-    ghost watch_untold: { (w : MemWatch) → watch ≡ Some w → w.journal ≡ Some [] },
-    ghost watch_sound: { (w : MemWatch) → watch ≡ Some w → watch_counts w ≡ no_watch_faults },
+    ghost sides_new: { All IsNewSide (into_iter_items sides) },
+    ghost watch_new: { (w : MemWatch) → watch ≡ Some w → IsNewWatch w },
 }
 
 impl MemHost {
-    /// The sides and the watch are as they were made: nothing is told of them, and none of their calls was made.
+    ghost use Rattle.outside_mem.specs.Supply.{as_made, host_state};
+
+    /// The sides and the watch are as they were made: nothing is told of them, and none of their
+    /// calls was made.
     pub fn new(alloc: Global, sides: Vec<MemSide>, watch: MemWatch) -> MemHost
         requires sides { All IsUnusedSide sides.items }
         requires watch { IsUnusedWatch watch }
-        ensures told { result.told ≡ Some (record { lines = []; opens = [] }) }
-        ensures no_fault { result.open_faults ≡ 0 }
-        ensures supply { supply_of (into_iter_items result.sides) result.watch ≡ supply_of sides.items (Some watch) }
+        ensures { host_state result ≡ as_made sides.items watch }
     {
         MemHost {
             alloc,
@@ -74,19 +71,16 @@ impl Host for MemHost {
 
     type Watch = MemWatch;
 
-    ghost use Rattle.std.specs.Prelude.{Some};
-    ghost use Rattle.std.specs.Vec.Iter.{into_iter_items};
-    ghost use Rattle.outside_mem.specs.Supply.{supply_of};
+    ghost use Rattle.outside_mem.specs.Supply.{host_state};
 
-    ghost told = { λ h. h.told };
-
-    ghost counts = { λ h. record { opens = h.open_faults; tells = 0 } };
-
-    ghost supply = { λ h. Some (supply_of (into_iter_items h.sides) h.watch) };
+    ghost state = { host_state };
 
     fn open_watch(&mut self) -> Result<MemWatch, OpenFault> {
         match self.watch.take() {
-            Some(watch) => Ok(watch),
+            Some(watch) => {
+                tell_watch(&mut self.told);
+                Ok(watch)
+            }
             None => {
                 count(&mut self.open_faults);
                 Err(OpenFault::Failed)

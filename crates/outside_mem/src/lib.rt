@@ -1,4 +1,5 @@
-//! An outside in memory: sides, a watch and a host that follow their scripts, and tell what they did.
+//! An outside in memory: sides, a watch and a host that follow their scripts, and tell what they
+//! did.
 #![tactic(auto)]
 
 mod calls;

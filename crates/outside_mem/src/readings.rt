@@ -2,8 +2,8 @@ ghost use Rattle.std.specs.Prelude.{◌≡◌};
 ghost use Rattle.outside.specs.Script.{reading};
 ghost use Rattle.outside_mem.specs.Feed.{read_on};
 
-/// Numbers that are given in order. The last one is repeated, and without one it is 0. The count of the readings stays at
-/// the last value of usize.
+/// Numbers that are given in order. The last one is repeated, and without one it is 0. The count of
+/// the readings stays at the last value of usize.
 #[derive(Drop)]
 pub(crate) struct Readings {
     items: Vec<u64>,

@@ -1,6 +1,5 @@
 ghost use Rattle.std.specs.Prelude.{◌≡◌, [], ◌≢◌, ℕ, Some, IfOk, option_map, slice_get};
 ghost use Rattle.outside.specs.declared.datagram.Outcome.TheVariants as outcome;
-ghost use Rattle.outside_mem.specs.Feed.{script_of};
 ghost use Rattle.outside_mem.specs.SideTold.{Tells, Tells-prop};
 
 use crate::faults::{count, count_outcome, hand_out};
@@ -11,7 +10,8 @@ use dns_data::{NoMemory, Seq, Transport};
 use outside::{InnerMark, Mark, Outcome, Received, Seen, Side, SideScript, Upstream, Wrote};
 use std::alloc::Global;
 
-/// A side in memory. It follows its script and tells what it did, until memory runs out for its journal.
+/// A side in memory. It follows its script and tells what it did, until memory runs out for its
+/// journal.
 #[derive(Drop)]
 pub struct MemSide {
     alloc: Global,
@@ -22,11 +22,15 @@ pub struct MemSide {
     ask_faults: u64,
     silences: u64,
     note_faults: u64,
+    // How often it was told that its worker has ended.
+    left: u64,
     ghost tells: { Tells feed journal } by { Tells-prop feed journal },
     ghost quiet_recv: { feed.recv.fails ≡ [] → recv_faults ≡ 0 },
     ghost quiet_send: { feed.send.fails ≡ [] → send_faults ≡ 0 },
     ghost quiet_note: { feed.note.fails ≡ [] → note_faults ≡ 0 },
-    ghost quiet_ask: { feed.ask.fails ≡ [] → ((call : ℕ) → slice_get feed.asks.items call ≢ Some outcome.Failed) → ask_faults ≡ 0 },
+    ghost quiet_ask: { feed.ask.fails ≡ []
+        → ((call : ℕ) → slice_get feed.asks.items call ≢ Some outcome.Failed)
+        → ask_faults ≡ 0 },
 }
 
 impl MemSide {
@@ -45,6 +49,7 @@ impl MemSide {
             ask_faults: 0,
             silences: 0,
             note_faults: 0,
+            left: 0,
         })
     }
 
@@ -60,17 +65,17 @@ impl MemSide {
 }
 
 impl Side for MemSide {
-    ghost use Rattle.std.specs.Prelude.{Some};
-    ghost use Rattle.outside_mem.specs.Feed.{script_of};
     ghost use Rattle.outside_mem.specs.SideTold.{answered};
+    ghost use Rattle.outside_mem.specs.Unused.{side_state};
 
-    ghost journal = { λ s. s.journal };
+    ghost state = { side_state };
 
-    ghost counts = { λ s. record { recv = s.recv_faults; send = s.send_faults; ask = s.ask_faults; silences = s.silences; note = s.note_faults } };
-
-    ghost script = { λ s. Some (script_of s.feed) };
-
-    ghost quiet = { λ s. record { recv = s.quiet_recv; send = s.quiet_send; note = s.quiet_note; ask = s.quiet_ask } };
+    ghost quiet = { λ s. record {
+      recv = s.quiet_recv;
+      send = s.quiet_send;
+      note = s.quiet_note;
+      ask = s.quiet_ask;
+    } };
 
     ghost answered = { λ s. answered s.feed s.journal s.tells };
 
@@ -141,5 +146,7 @@ impl Side for MemSide {
         tell(&mut self.journal, mark);
     }
 
-    fn leave(&mut self) {}
+    fn leave(&mut self) {
+        count(&mut self.left);
+    }
 }

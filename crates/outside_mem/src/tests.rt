@@ -151,7 +151,8 @@ fn a_host_gives_its_sides_in_order(rt: HostRuntime) -> Result<(), Fail> {
     assert!(rt;
         matches!(
             host.opens(),
-            Some([one, other]) if (one.port, one.by, one.number) == (53, Transport::Udp, 0) && other.number == 1
+            Some([one, other])
+                if (one.port, one.by) == (53, Transport::Udp) && (one.number, other.number) == (0, 1)
         )
     );
     Ok(())

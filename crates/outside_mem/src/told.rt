@@ -1,5 +1,7 @@
-ghost use Rattle.std.specs.Prelude.{◌≡◌, [], ◌∷◌, ◌++◌, OnOk, true};
-ghost use Rattle.outside.specs.Hosts.{AddsHost};
+ghost use Rattle.std.specs.Prelude.{◌≡◌, OnOk};
+ghost use Rattle.outside.specs.declared.datagram.Wrote.TheVariants as wrote;
+ghost use Rattle.outside.specs.Hosts.{all_told, no_telling, told_line, told_side, told_watch};
+ghost use Rattle.outside_mem.specs.Telling.{TellsMore};
 
 use dns_data::{Bytes, NoMemory, Seq, Transport};
 use std::alloc::Global;
@@ -20,7 +22,8 @@ impl Model for ToldLine {
     ghost view = { λ l. record { line = l.line; out = l.out } };
 }
 
-/// A side that a host opened: its port, its transport and the number of its worker on that endpoint.
+/// A side that a host opened: its port, its transport and the number of its worker on that
+/// endpoint.
 #[derive(Debug, Drop)]
 pub struct OpenedSide {
     pub port: u16,
@@ -41,6 +44,8 @@ impl Model for OpenedSide {
 pub(crate) struct Told {
     lines: Seq<ToldLine>,
     opens: Seq<OpenedSide>,
+    // How many watches.
+    watches: u64,
 }
 
 impl Model for Told {
@@ -48,16 +53,17 @@ impl Model for Told {
 
     ghost Value = { HostTold };
 
-    ghost view = { λ t. record { lines = t.lines; opens = t.opens } };
+    ghost view = { λ t. record { lines = t.lines; opens = t.opens; watches = t.watches } };
 }
 
 impl Told {
     pub fn new(alloc: Global) -> Told
-        ensures { result ≡ record { lines = []; opens = [] } }
+        ensures { result ≡ no_telling }
     {
         Told {
             lines: Seq::new(alloc),
             opens: Seq::new(alloc),
+            watches: 0,
         }
     }
 
@@ -74,7 +80,7 @@ impl Told {
     }
 
     fn line(&mut self, alloc: Global, line: &[u8]) -> Result<(), NoMemory>
-        ensures { OnOk result (self.new ≡ record { lines = self.old.lines ++ record { line = line.now; out = true } ∷ []; opens = self.old.opens }) }
+        ensures { OnOk result (self.new ≡ all_told self.old (told_line line.now wrote.Ok)) }
     {
         self.lines.push(ToldLine {
             line: Bytes::from_slice(alloc, line)?,
@@ -83,7 +89,7 @@ impl Told {
     }
 
     fn opened(&mut self, side: OpenedSide) -> Result<(), NoMemory>
-        ensures { OnOk result (self.new ≡ record { lines = self.old.lines; opens = self.old.opens ++ side ∷ [] }) }
+        ensures { OnOk result (self.new ≡ all_told self.old (told_side side)) }
     {
         self.opens.push(side)
     }
@@ -91,7 +97,7 @@ impl Told {
 
 /// Tells a line that went out. Where memory ran out for it, nothing is told any more.
 pub(crate) fn tell_line(told: &mut Option<Told>, alloc: Global, line: &[u8])
-    ensures { AddsHost told.old told.new (record { line = line.now; out = true } ∷ []) [] }
+    ensures { TellsMore told.old told.new (told_line line.now wrote.Ok) }
 {
     if let Some(list) = &mut *told {
         if list.line(alloc, line).is_ok() {
@@ -103,10 +109,23 @@ pub(crate) fn tell_line(told: &mut Option<Told>, alloc: Global, line: &[u8])
 
 /// Tells a side that was opened. Where memory ran out for it, nothing is told any more.
 pub(crate) fn tell_opened(told: &mut Option<Told>, side: OpenedSide)
-    ensures { AddsHost told.old told.new [] (side ∷ []) }
+    ensures { TellsMore told.old told.new (told_side side) }
 {
     if let Some(list) = &mut *told {
         if list.opened(side).is_ok() {
+            return;
+        }
+    }
+    *told = None;
+}
+
+/// Tells that the watch was opened. A count that can grow no more ends the telling.
+pub(crate) fn tell_watch(told: &mut Option<Told>)
+    ensures { TellsMore told.old told.new told_watch }
+{
+    if let Some(list) = &mut *told {
+        if list.watches < u64::MAX {
+            list.watches += 1;
             return;
         }
     }

@@ -11,7 +11,8 @@ use outside::{
 };
 use std::alloc::Global;
 
-/// A watch in memory. It follows its script and tells what it did, until memory runs out for its journal.
+/// A watch in memory. It follows its script and tells what it did, until memory runs out for its
+/// journal.
 #[derive(Drop)]
 pub struct MemWatch {
     alloc: Global,
@@ -54,12 +55,9 @@ impl MemWatch {
 }
 
 impl PatternMaker for MemWatch {
-    ghost use Rattle.std.specs.Prelude.{Some};
-    ghost use Rattle.outside_mem.specs.WatchFeed.{watch_script_of};
+    ghost use Rattle.outside_mem.specs.Unused.{watch_state};
 
-    ghost refusals = { λ w. ⟦<RegexMaker as PatternMaker>⟧.refusals w.maker };
-
-    ghost state = { λ w. record { journal = w.journal; counts = record { reads = w.read_faults; notes = w.note_faults }; script = Some (watch_script_of w.feed) } };
+    ghost state = { watch_state };
 
     fn make(&mut self, alloc: Global, text: &Text) -> Made {
         self.maker.make(alloc, text)

@@ -104,7 +104,8 @@ fn file_in<'a>(set: &'a FileSet, name: &Text) -> Option<&'a Bytes>
 }
 
 fn file_named<'a>(files: &'a [FileText], name: &Text) -> Option<&'a FileText>
-    ensures { option_map (λ file. file.now) result ≡ find (λ file. pointwise nat_eq file.name name.now) files.now }
+    ensures { option_map (λ file. file.now) result
+        ≡ find (λ file. pointwise nat_eq file.name name.now) files.now }
 {
     files.iter().find(|file| is_named(file, name))
 }

@@ -44,7 +44,8 @@ impl Model for Pattern {
     ghost also_shares = { λ _ _ _. ftrue };
 }
 
-// SAFETY: no part of a `Regex` belongs to one thread; proved field by field in proofs/Crossings.antt.
+// SAFETY: no part of a `Regex` belongs to one thread; proved field by field in
+// proofs/Crossings.antt.
 unsafe impl Send for Pattern {}
 
 // SAFETY: nothing changes behind a `&` to a `Regex`; proved field by field in proofs/Sharings.antt.

@@ -8,7 +8,7 @@ use Rattle.corefile_words.specs.Words.{words_of, ReadsWords}
 use Rattle.dns_server.specs.declared.block.BodyLine.TheVariants as body
 use Rattle.dns_server.specs.declared.corefile.Block.{Block}
 use Rattle.dns_server.specs.declared.corefile.CorefileFault.TheVariants.{Words}
-use Rattle.dns_server.specs.declared.report.Refusal.TheVariants as refusal
+use Rattle.dns_server.specs.declared.refusal.Refusal.TheVariants as refusal
 use Rattle.dns_server.specs.Number.{IsNumber, decimal}
 use Rattle.dns_server.specs.Corefile.{port_of, header_port, body_line, body_says, block_says, with_block, lines_say, words_say, corefile_of, IsRefusedText}
 use Rattle.dns_server.proofs.Numbers.{number_yes, number_no}

@@ -11,10 +11,10 @@ use Rattle.outside.specs.declared.mark.WatchMark.{WatchMark}
 use Rattle.outside.specs.declared.mark.WatchMark.TheVariants.{End}
 use Rattle.outside.specs.declared.watch.ReadOut.{ReadOut}
 use Rattle.outside.specs.declared.watch.ReadOut.TheVariants as readout
-use Rattle.outside.specs.Causes.{SideCounts, Rose}
+use Rattle.outside.specs.Causes.{Rose, raised}
 use Rattle.outside.specs.Journals.{watch-adds-then}
-use Rattle.outside.specs.Marks.{Grows}
-use Rattle.outside.specs.WatchMarks.{WatchState, AddsWatch}
+use Rattle.outside.specs.States.{SideState, WatchState}
+use Rattle.outside.specs.WatchMarks.{AddsWatch}
 use Rattle.dns_server.specs.declared.corefile.Bundle.{Bundle}
 use Rattle.dns_server.specs.declared.looking.Looking.{Looking}
 use Rattle.dns_server.specs.declared.looking.Looking.TheVariants as looking
@@ -28,8 +28,9 @@ use Rattle.dns_server.specs.declared.worker.WorkEnd.TheVariants as ends
 use Rattle.dns_server.specs.Corefile.{IsCorefile}
 use Rattle.dns_server.specs.Generation.{GenerationsData}
 use Rattle.dns_server.specs.Look.{LooksOnce, ServesRead}
-use Rattle.dns_server.specs.Rounds.{WorksUnlessEnded, LooksUnlessEnded, EndsWatch, ServedRounds, end_of}
+use Rattle.dns_server.specs.Rounds.{WorksUnlessEnded, LooksUnlessEnded, EndsWatch, ServedRounds, end_of, left_by}
 use Rattle.dns_server.specs.Serve.{IsChain}
+use Rattle.dns_server.specs.States.{RunSetup, WorkerState, LookState, RoundState, TurnState, turn_of, look_of}
 use Rattle.dns_server.specs.Tally.{TurnEnds, IsIdle, tallied}
 use Rattle.dns_server.specs.Turn.{Turn, failed, replied, silenced, starved, IsLawful, IsPublished}
 use Rattle.dns_server.specs.WatchTurn.{WatchTurn, published_by, bundles_of}
@@ -67,29 +68,29 @@ turns_more {bundles} {p} {taken} {starving} {turns} more are = record {
   lawful = all_lawful_more bundles more p turns are.lawful;
   in_order = are.in_order;
   datagrams_are = are.datagrams_are;
-  wants_at_most = are.wants_at_most;
+  starved_at_most = are.starved_at_most;
 }
 
 -- what a worker did, or how it ended, in so many rounds
-abbrev pub SidePart : List Bundle → List WatchTurn → ℕ → ℕ → ℕ → Option (List Mark) → Option (List Mark) → Tally → Option WorkEnd → Type 0
-SidePart bundles looks p most rounds a c t None = HasWorked bundles looks p rounds a c t
-SidePart bundles looks p most rounds a c t (Some end) = Stopped bundles looks p most rounds a c t end
+abbrev pub SidePart : RunSetup → List Bundle → List WatchTurn → ℕ → SideState → WorkerState → Option WorkEnd → Type 0
+SidePart setup bundles looks rounds a w None = HasWorked bundles looks setup.default_port rounds a w.side w.tally
+SidePart setup bundles looks rounds a w (Some end) = Stopped setup bundles looks rounds a w.side w.tally end
 
 -- with a further look
-side_more : (bundles more : List Bundle) (looks : List WatchTurn) (look : WatchTurn) (p most rounds : ℕ) (a c : Option (List Mark)) (t : Tally) (worked : Option WorkEnd)
-    → SidePart bundles looks p most rounds a c t worked → rounds ≤ length looks + 1 → SidePart (bundles ++ more) (looks ++ look ∷ []) p most rounds a c t worked
-side_more bundles more looks look p most rounds a c t None w few = record {
-  turns = w.turns;
-  told = w.told;
-  are = turns_more more w.are;
-  seen = w.seen;
-  no_row = w.no_row;
-  row = w.row;
-  whole = w.whole;
-  pace = pace-look 0 looks look w.turns w.pace (omega (arith, w.few, few));
-  few = w.few;
+side_more : (setup : RunSetup) (bundles more : List Bundle) (looks : List WatchTurn) (look : WatchTurn) (rounds : ℕ) (a : SideState) (w : WorkerState) (worked : Option WorkEnd)
+    → SidePart setup bundles looks rounds a w worked → rounds ≤ length looks + 1 → SidePart setup (bundles ++ more) (looks ++ look ∷ []) rounds a w worked
+side_more setup bundles more looks look rounds a w None had few = record {
+  turns = had.turns;
+  told = had.told;
+  are = turns_more more had.are;
+  seen = had.seen;
+  no_row = had.no_row;
+  row = had.row;
+  whole = had.whole;
+  pace = pace-look 0 looks look had.turns had.pace (omega (arith, had.few, few));
+  few = had.few;
 }
-side_more bundles more looks look p most rounds a c t (Some end) s few =
+side_more setup bundles more looks look rounds a w (Some end) s few =
     let run = s.run.are in
     record {
       run = record {
@@ -109,17 +110,26 @@ side_more bundles more looks look p most rounds a c t (Some end) s few =
       few = s.few;
     }
 
--- the looks of a watcher that has ended
-pub record WatchStopped (conf : List ℕ) (p : ℕ) (first : Bundle) (looks : List WatchTurn) (a c : WatchState) (g : GenerationsData) (starving : ℕ) : Type 0 where
-  pub mid : WatchState
-  pub watched : HasWatched conf p first looks a mid g starving
-  pub ending : List WatchMark
-  pub told : AddsWatch mid c ending
-  pub ends : EndsWatch p (bundles_of first looks) ending
+-- a side that was told of its worker's end tells the same
+left_part : (setup : RunSetup) (bundles : List Bundle) (looks : List WatchTurn) (rounds : ℕ) (a : SideState) (w : WorkerState) (result : Option WorkEnd)
+    → SidePart setup bundles looks rounds a w result → SidePart setup bundles looks rounds a (record w { side = left_by result w.side }) result
+left_part setup bundles looks rounds a w None part = part
+left_part setup bundles looks rounds a w (Some end) part = record {
+  run = record { marks = part.run.marks; told = record { told = part.run.told.told }; are = part.run.are };
+  few = part.few;
+}
 
-abbrev pub WatchPart : List ℕ → ℕ → Bundle → List WatchTurn → WatchState → WatchState → GenerationsData → ℕ → Option WatchEnd → Type 0
-WatchPart conf p first looks a c g starving None = HasWatched conf p first looks a c g starving
-WatchPart conf p first looks a c g starving (Some end) = WatchStopped conf p first looks a c g starving
+-- the looks of a watcher that has ended
+pub record WatchStopped (setup : RunSetup) (first : Bundle) (looks : List WatchTurn) (a : WatchState) (was : ℕ) (now : LookState) : Type 0 where
+  pub mid : WatchState
+  pub watched : HasWatched setup.conf setup.default_port first looks a mid now.serving was now.watcher.starved
+  pub ending : List WatchMark
+  pub told : AddsWatch mid now.watcher.watch ending
+  pub ends : EndsWatch setup.default_port (bundles_of first looks) ending
+
+abbrev pub WatchPart : RunSetup → Bundle → List WatchTurn → WatchState → ℕ → LookState → Option WatchEnd → Type 0
+WatchPart setup first looks a was now None = HasWatched setup.conf setup.default_port first looks a now.watcher.watch now.serving was now.watcher.starved
+WatchPart setup first looks a was now (Some end) = WatchStopped setup first looks a was now
 
 -- what is known of what serves, whether the watcher has ended or not
 pub record Serving (p : ℕ) (first : Bundle) (looks : List WatchTurn) (g : GenerationsData) : Type 0 where
@@ -129,20 +139,27 @@ pub record Serving (p : ℕ) (first : Bundle) (looks : List WatchTurn) (g : Gene
   pub port : g.chain.default_port ≡ p
   pub is : IsChain g.chain
 
-pub serving_of : (conf : List ℕ) (p : ℕ) (first : Bundle) (looks : List WatchTurn) (a c : WatchState) (g : GenerationsData) (starving : ℕ) (watched : Option WatchEnd)
-    → WatchPart conf p first looks a c g starving watched → Serving p first looks g
-serving_of conf p first looks a c g starving None w = record { count = w.count; earlier = w.earlier; last = w.last; port = w.port; is = w.is }
-serving_of conf p first looks a c g starving (Some end) w =
+serving_of : (setup : RunSetup) (first : Bundle) (looks : List WatchTurn) (a : WatchState) (was : ℕ) (now : LookState) (watched : Option WatchEnd)
+    → WatchPart setup first looks a was now watched → Serving setup.default_port first looks now.serving
+serving_of setup first looks a was now None w = record { count = w.count; earlier = w.earlier; last = w.last; port = w.port; is = w.is }
+serving_of setup first looks a was now (Some end) w =
     record { count = w.watched.count; earlier = w.watched.earlier; last = w.watched.last; port = w.watched.port; is = w.watched.is }
 
+-- how often a side was told of its worker's end
+abbrev pub left_count : Option WorkEnd → ℕ → ℕ
+left_count None left = left
+left_count (Some end) left = raised left
+
 -- a run so far: at most so many rounds more than looks
-pub record HasServed (behind : ℕ) (conf : List ℕ) (p most : ℕ) (first : Bundle) (side_before side_now : Option (List Mark)) (before now : WatchState) (g : GenerationsData) (t : Tally) (starving : ℕ) (worked : Option WorkEnd) (watched : Option WatchEnd) : Type 0 where
+pub record HasServed (behind : ℕ) (setup : RunSetup) (start now : RoundState) (worked : Option WorkEnd) (watched : Option WatchEnd) : Type 0 where
   pub looks : List WatchTurn
   pub rounds : ℕ
-  pub side : SidePart (bundles_of first looks) looks p most rounds side_before side_now t worked
-  pub watch : WatchPart conf p first looks before now g starving watched
+  pub side : SidePart setup (bundles_of start.serving.chain.bundle looks) looks rounds start.worker.side now.worker worked
+  pub watch : WatchPart setup start.serving.chain.bundle looks start.watcher.watch start.watcher.starved (look_of now) watched
   pub in_step : watched ≡ None → rounds ≤ length looks + behind
-  pub seen : t.seen < g.published
+  pub seen : now.worker.tally.seen < now.serving.published
+  pub left : now.worker.side.left ≡ left_count worked start.worker.side.left
+  pub script : now.worker.side.script ≡ start.worker.side.script
 
 published_count : (looks : List WatchTurn) → length (flat_map published_by looks) ≡ count_published looks
 published_count [] = refl
@@ -161,17 +178,18 @@ serves_ahead {p} {first} {looks} {g} s =
     let count : length (flat_map published_by looks) + 1 ≡ g.published = let c = s.count in omega (arith, c) in
     omega (arith, count, published_count looks)
 
-seen_by : (s : ℕ) (what : Turned) (t : Tally) (published : ℕ) → t.seen < published → s < published → (tallied s what t).seen < published
-seen_by s turned.Answered t published was is = is
-seen_by s turned.Starved t published was is = is
-seen_by s turned.RecvFailed t published was is = was
-seen_by s turned.RecvStarved t published was is = was
-seen_by s turned.RecvEnd t published was is = was
+-- a turn pins no serial above the last published one
+seen_by : (g : GenerationsData) (what : Turned) (marks : List Mark) (t : Tally) → AddsTurn g what marks → t.seen < g.published → (tallied what t).seen < g.published
+seen_by g (turned.Answered s) marks t adds was = let last = adds.last in omega (arith, last)
+seen_by g (turned.Starved s) marks t adds was = let last = adds.last in omega (arith, last)
+seen_by g turned.RecvFailed marks t adds was = was
+seen_by g turned.RecvStarved marks t adds was = was
+seen_by g turned.RecvEnd marks t adds was = was
 
 -- the same generation serves, whatever was pinned
-watch_same : (conf : List ℕ) (p : ℕ) (first : Bundle) (looks : List WatchTurn) (a c : WatchState) (g h : GenerationsData) (starving pins : ℕ) (watched : Option WatchEnd)
-    → WatchPart conf p first looks a c g starving watched → Pins g pins h → WatchPart conf p first looks a c h starving watched
-watch_same conf p first looks a c g h starving pins None w same = rw same.is (record {
+watch_same : (setup : RunSetup) (first : Bundle) (looks : List WatchTurn) (a : WatchState) (was : ℕ) (now : LookState) (h : GenerationsData) (pins : ℕ) (watched : Option WatchEnd)
+    → WatchPart setup first looks a was now watched → Pins now.serving pins h → WatchPart setup first looks a was (record now { serving = h }) watched
+watch_same setup first looks a was now h pins None w same = rw same.is (record {
   told = w.told;
   are = w.are;
   count = w.count;
@@ -179,9 +197,9 @@ watch_same conf p first looks a c g h starving pins None w same = rw same.is (re
   last = w.last;
   port = w.port;
   is = w.is;
-  wants = w.wants;
+  starved = w.starved;
 })
-watch_same conf p first looks a c g h starving pins (Some end) w same = rw same.is (record {
+watch_same setup first looks a was now h pins (Some end) w same = rw same.is (record {
   mid = w.mid;
   watched = record {
     told = w.watched.told;
@@ -191,93 +209,118 @@ watch_same conf p first looks a c g h starving pins (Some end) w same = rw same.
     last = w.watched.last;
     port = w.watched.port;
     is = w.watched.is;
-    wants = w.watched.wants;
+    starved = w.watched.starved;
   };
   ending = w.ending;
   told = w.told;
   ends = w.ends;
 })
 
-side_by : (bundles : List Bundle) (looks : List WatchTurn) (p most rounds : ℕ) (a b c : Option (List Mark)) (g : GenerationsData) (before now : SideCounts) (t u : Tally) (result : Option WorkEnd)
-    → HasWorked bundles looks p rounds a b t → TakesTurn g most b c before now t u result → slice_get bundles (g.published - 1) ≡ Some g.chain.bundle → g.chain.default_port ≡ p
-    → t.seen ≤ g.published - 1 → count_published looks ≤ g.published - 1 → t.pins < most → SidePart bundles looks p most (rounds + 1) a c u result
-side_by bundles looks p most rounds a b c g before now t u None w takes at port rises ahead more =
-    let told = subst (λ (q : ℕ). Grows b c (AddsTurn g.chain.bundle q (g.published - 1) takes.what)) port takes.told in
-    let ends = subst (λ (x : Tally). TurnEnds most takes.what x None) takes.tally takes.ends in
-    subst (λ (x : Tally). HasWorked bundles looks p (rounds + 1) a c x) (sym takes.tally) (goes_on most takes.what at rises ahead w told ends)
-side_by bundles looks p most rounds a b c g before now t u (Some end) w takes at port rises ahead more =
-    let told = subst (λ (q : ℕ). Grows b c (AddsTurn g.chain.bundle q (g.published - 1) takes.what)) port takes.told in
-    let ends = subst (λ (x : Tally). TurnEnds most takes.what x (Some end)) takes.tally takes.ends in
-    subst (λ (x : Tally). Stopped bundles looks p most (rounds + 1) a c x end) (sym takes.tally) (stops most takes.what end at rises ahead more w told ends)
+side_by : (setup : RunSetup) (bundles : List Bundle) (looks : List WatchTurn) (rounds : ℕ) (a : SideState) (before after : TurnState) (result : Option WorkEnd)
+    → HasWorked bundles looks setup.default_port rounds a before.worker.side before.worker.tally → TakesTurn setup.most before after result
+    → slice_get bundles (before.serving.published - 1) ≡ Some before.serving.chain.bundle → before.serving.chain.default_port ≡ setup.default_port
+    → before.worker.tally.seen ≤ before.serving.published - 1 → count_published looks ≤ before.serving.published - 1 → before.worker.tally.pins < setup.most
+    → SidePart setup bundles looks (rounds + 1) a after.worker result
+side_by setup bundles looks rounds a before after None w takes at port rises ahead more =
+    let ends = subst (λ (x : Tally). TurnEnds setup.most takes.what x None) takes.tally takes.ends in
+    subst (λ (x : Tally). HasWorked bundles looks setup.default_port (rounds + 1) a after.worker.side x) (sym takes.tally) (goes_on setup before.serving takes.what at port rises ahead w takes.told ends)
+side_by setup bundles looks rounds a before after (Some end) w takes at port rises ahead more =
+    let ends = subst (λ (x : Tally). TurnEnds setup.most takes.what x (Some end)) takes.tally takes.ends in
+    subst (λ (x : Tally). Stopped setup bundles looks (rounds + 1) a after.worker.side x end) (sym takes.tally) (stops setup before.serving takes.what end at port rises ahead more w takes.told ends)
+
+left_after : (result : Option WorkEnd) (behind : SideState) (left : ℕ) → behind.left ≡ left → (left_by result behind).left ≡ left_count result left
+left_after None behind left is = is
+left_after (Some end) behind left is = ap raised is
+
+script_after : (result : Option WorkEnd) (behind : SideState) → (left_by result behind).script ≡ behind.script
+script_after None behind = refl
+script_after (Some end) behind = refl
 
 -- a turn of the side
-pub turn_on : (conf : List ℕ) (p most : ℕ) (first : Bundle) (a b c : Option (List Mark)) (w0 w : WatchState) (g h : GenerationsData) (before now : SideCounts) (t u : Tally) (starving : ℕ) (worked result : Option WorkEnd) (watched : Option WatchEnd)
-    → HasServed 0 conf p most first a b w0 w g t starving worked watched → WorksUnlessEnded g h most b c before now t u worked result → IfNone worked (t.pins < most)
-    → HasServed 1 conf p most first a c w0 w h u starving result watched
-turn_on conf p most first a b c w0 w g h before now t u starving None result watched has works more =
-    let s = serving_of conf p first has.looks w0 w g starving watched has.watch in
-    let takes = works.0 in
+pub turn_on : (setup : RunSetup) (start before : RoundState) (after : TurnState) (worked result : Option WorkEnd) (watched : Option WatchEnd)
+    → HasServed 0 setup start before worked watched → WorksUnlessEnded setup.most (turn_of before) after worked result → IfNone worked (before.worker.tally.pins < setup.most)
+    → HasServed 1 setup start (record before { worker = after.worker; serving = after.serving }) result watched
+turn_on setup start before after None result watched has works more =
+    let first = start.serving.chain.bundle in
+    let g = before.serving in
+    let s = serving_of setup first has.looks start.watcher.watch start.watcher.starved (look_of before) watched has.watch in
+    let takes = works.takes in
     let seen = has.seen in
-    let below : g.published - 1 < g.published = omega (arith, seen) in
-    let published : h.published ≡ g.published = ap (λ (x : GenerationsData). x.published) works.1.is in
-    let last : u.seen < g.published = subst (λ (x : Tally). x.seen < g.published) (sym takes.tally) (seen_by (g.published - 1) takes.what t g.published seen below) in
+    let published : after.serving.published ≡ g.published = ap (λ (x : GenerationsData). x.published) takes.pins.is in
+    let last : after.worker.tally.seen < g.published = subst (λ (x : Tally). x.seen < g.published) (sym takes.tally) (seen_by g takes.what takes.told.marks before.worker.tally takes.told.are seen) in
+    let part = side_by setup (bundles_of first has.looks) has.looks has.rounds start.worker.side (turn_of before) (record after { worker = record after.worker { side = works.behind } }) result
+    has.side takes (serves_at s) s.port (omega (arith, seen)) (serves_ahead s) more in
+    let stood : works.behind.left ≡ start.worker.side.left = takes.stays.left ∙ has.left in
     record {
       looks = has.looks;
       rounds = has.rounds + 1;
-      side = side_by (bundles_of first has.looks) has.looks p most has.rounds a b c g before now t u result has.side takes (serves_at s) s.port (omega (arith, seen)) (serves_ahead s) more;
-      watch = watch_same conf p first has.looks w0 w g h starving u.pins watched has.watch works.1;
+      side = subst (λ (x : SideState). SidePart setup (bundles_of first has.looks) has.looks (has.rounds + 1) start.worker.side (record after.worker { side = x }) result) (sym works.leaves)
+          (left_part setup (bundles_of first has.looks) has.looks (has.rounds + 1) start.worker.side (record after.worker { side = works.behind }) result part);
+      watch = watch_same setup first has.looks start.watcher.watch start.watcher.starved (look_of before) after.serving after.worker.tally.pins watched has.watch takes.pins;
       in_step = λ e. let few = has.in_step e in omega (arith, few);
       seen = omega (arith, last, published);
+      left = ap (λ (x : SideState). x.left) works.leaves ∙ left_after result works.behind start.worker.side.left stood;
+      script = ap (λ (x : SideState). x.script) works.leaves ∙ script_after result works.behind ∙ takes.stays.script ∙ has.script;
     }
-turn_on conf p most first a b c w0 w g h before now t u starving (Some end) result watched has works more =
-    rw (works.0, works.1, works.2, works.3) (record {
-      looks = has.looks;
-      rounds = has.rounds;
-      side = has.side;
-      watch = has.watch;
-      in_step = λ e. let few = has.in_step e in omega (arith, few);
-      seen = has.seen;
-    })
-
--- a look was made
-look_made : (conf : List ℕ) (p most : ℕ) (first : Bundle) (a c : Option (List Mark)) (w0 v : WatchState) (h k : GenerationsData) (t : Tally) (less : ℕ) (worked : Option WorkEnd) (looks : List WatchTurn) (rounds : ℕ)
-    → SidePart (bundles_of first looks) looks p most rounds a c t worked → length (bundles_of first looks) ≡ h.published → rounds ≤ length looks + 1 → t.seen < h.published → Again conf p first looks w0 v k less
-    → HasServed 0 conf p most first a c w0 v k t less worked None
-look_made conf p most first a c w0 v h k t less worked looks rounds side was few seen again =
-    let more : bundles_of first (looks ++ again.look ∷ []) ≡ bundles_of first looks ++ published_by again.look = bundles-push first looks again.look in
-    let long : length (looks ++ again.look ∷ []) ≡ length looks + 1 = length-append looks (again.look ∷ []) in
-    let count : length (bundles_of first looks) + length (published_by again.look) ≡ k.published =
-    sym (length-append (bundles_of first looks) (published_by again.look)) ∙ ap length (sym more) ∙ again.watched.count in
-    record {
-      looks = looks ++ again.look ∷ [];
-      rounds = rounds;
-      side = subst (λ (l : List Bundle). SidePart l (looks ++ again.look ∷ []) p most rounds a c t worked) (sym more)
-          (side_more (bundles_of first looks) (published_by again.look) looks again.look p most rounds a c t worked side few);
-      watch = again.watched;
-      in_step = λ e. omega (arith, few, long);
-      seen = omega (arith, seen, was, count);
-    }
-
--- a look
-pub look_on : (conf : List ℕ) (p most : ℕ) (first : Bundle) (a c : Option (List Mark)) (w0 w v : WatchState) (h k : GenerationsData) (t : Tally) (starving less : ℕ) (worked : Option WorkEnd) (watched result : Option WatchEnd)
-    → HasServed 1 conf p most first a c w0 w h t starving worked watched → LooksUnlessEnded conf h k w v starving less watched result
-    → HasServed 0 conf p most first a c w0 v k t less worked result
-look_on conf p most first a c w0 w v h k t starving less worked None None has looks =
-    look_made conf p most first a c w0 v h k t less worked has.looks has.rounds has.side has.watch.count (has.in_step refl) has.seen (looks_on has.watch looks)
-look_on conf p most first a c w0 w v h k t starving less worked None (Some watchend.End) has looks = rw (looks.same, looks.no_want) (record {
+turn_on setup start before after (Some end) result watched has works more = rw (works.0, works.1) (record {
   looks = has.looks;
   rounds = has.rounds;
   side = has.side;
-  watch = record { mid = w; watched = has.watch; ending = End ∷ []; told = looks.told; ends = inl refl };
+  watch = has.watch;
+  in_step = λ e. let few = has.in_step e in omega (arith, few);
+  seen = has.seen;
+  left = has.left;
+  script = has.script;
+})
+
+-- a look was made
+look_made : (setup : RunSetup) (start before : RoundState) (after : LookState) (worked : Option WorkEnd) → (has : HasServed 1 setup start before worked None)
+    → Again setup.conf setup.default_port start.serving.chain.bundle has.looks start.watcher.watch after.watcher.watch after.serving start.watcher.starved after.watcher.starved
+    → HasServed 0 setup start (record before { watcher = after.watcher; serving = after.serving }) worked None
+look_made setup start before after worked has again =
+    let first = start.serving.chain.bundle in
+    let looks = has.looks in
+    let few = has.in_step refl in
+    let seen = has.seen in
+    let was = has.watch.count in
+    let more : bundles_of first (looks ++ again.look ∷ []) ≡ bundles_of first looks ++ published_by again.look = bundles-push first looks again.look in
+    let long : length (looks ++ again.look ∷ []) ≡ length looks + 1 = length-append looks (again.look ∷ []) in
+    let count : length (bundles_of first looks) + length (published_by again.look) ≡ after.serving.published =
+    sym (length-append (bundles_of first looks) (published_by again.look)) ∙ ap length (sym more) ∙ again.watched.count in
+    record {
+      looks = looks ++ again.look ∷ [];
+      rounds = has.rounds;
+      side = subst (λ (l : List Bundle). SidePart setup l (looks ++ again.look ∷ []) has.rounds start.worker.side before.worker worked) (sym more)
+          (side_more setup (bundles_of first looks) (published_by again.look) looks again.look has.rounds start.worker.side before.worker worked has.side few);
+      watch = again.watched;
+      in_step = λ e. omega (arith, few, long);
+      seen = omega (arith, seen, was, count);
+      left = has.left;
+      script = has.script;
+    }
+
+-- a look
+pub look_on : (setup : RunSetup) (start before : RoundState) (after : LookState) (worked : Option WorkEnd) (watched result : Option WatchEnd)
+    → HasServed 1 setup start before worked watched → LooksUnlessEnded setup.conf (look_of before) after watched result
+    → HasServed 0 setup start (record before { watcher = after.watcher; serving = after.serving }) worked result
+look_on setup start before after worked None None has looks =
+    look_made setup start before after worked has (looks_on (look_of before) after has.watch looks)
+look_on setup start before after worked None (Some watchend.End) has looks = rw (looks.stays.serving, looks.stays.starved) (record {
+  looks = has.looks;
+  rounds = has.rounds;
+  side = has.side;
+  watch = record { mid = before.watcher.watch; watched = has.watch; ending = End ∷ []; told = looks.told; ends = inl refl };
   in_step = λ e. absurd cc;
   seen = has.seen;
+  left = has.left;
+  script = has.script;
 })
-look_on conf p most first a c w0 w v h k t starving less worked None (Some watchend.NoReload) has looks = rw (looks.same, looks.no_want) (record {
+look_on setup start before after worked None (Some watchend.NoReload) has looks = rw (looks.stays.serving, looks.stays.starved) (record {
   looks = has.looks;
   rounds = has.rounds;
   side = has.side;
   watch = record {
-    mid = w;
+    mid = before.watcher.watch;
     watched = has.watch;
     ending = [];
     told = looks.told;
@@ -285,108 +328,117 @@ look_on conf p most first a c w0 w v h k t starving less worked None (Some watch
       refl,
       record {
         before = has.watch.earlier;
-        last = h.chain.bundle;
+        last = before.serving.chain.bundle;
         last_is = has.watch.last;
-        corefile = h.chain.corefile;
-        accepted = subst (λ (q : ℕ). IsCorefile q h.chain.bundle.conf h.chain.corefile) has.watch.port has.watch.is;
+        corefile = before.serving.chain.corefile;
+        accepted = subst (λ (q : ℕ). IsCorefile q before.serving.chain.bundle.conf before.serving.chain.corefile) has.watch.port has.watch.is;
         no_reload = looks.no_reload;
       },
     );
   };
   in_step = λ e. absurd cc;
   seen = has.seen;
+  left = has.left;
+  script = has.script;
 })
-look_on conf p most first a c w0 w v h k t starving less worked (Some end) result has looks = rw (looks.0, looks.1, looks.2, looks.3) (record {
+look_on setup start before after worked (Some end) result has looks = rw (looks.0, looks.1) (record {
   looks = has.looks;
   rounds = has.rounds;
   side = has.side;
   watch = has.watch;
   in_step = λ e. absurd cc;
   seen = has.seen;
+  left = has.left;
+  script = has.script;
 })
 
 -- nothing was served yet
-pub nothing_served : (conf : List ℕ) (most : ℕ) (a : Option (List Mark)) (state : WatchState) (g : GenerationsData) (t : Tally) (starving : ℕ) → IsChain g.chain → g.published ≡ 1 → IsIdle t
-    → HasServed 0 conf g.chain.default_port most g.chain.bundle a a state state g t starving None None
-nothing_served conf most a state g t starving is one idle = record {
+pub nothing_served : (conf : List ℕ) (most : ℕ) (start : RoundState) → IsChain start.serving.chain → start.serving.published ≡ 1 → IsIdle start.worker.tally
+    → HasServed 0 (record { conf = conf; default_port = start.serving.chain.default_port; most = most }) start start None None
+nothing_served conf most start is one idle = record {
   looks = [];
   rounds = 0;
-  side = starts a t idle;
-  watch = watches state g starving is one;
+  side = starts start.worker.side start.worker.tally idle;
+  watch = watches start.watcher.watch start.serving start.watcher.starved is one;
   in_step = λ e. omega arith;
   seen = let none = ap (λ (x : Tally). x.seen) idle in omega (arith, none, one);
+  left = refl;
+  script = refl;
 }
 
 -- both have ended
-pub all_served : (conf : List ℕ) (p most : ℕ) (first : Bundle) (a c : Option (List Mark)) (w0 w : WatchState) (g : GenerationsData) (t : Tally) (starving : ℕ) (worked : Option WorkEnd) (watched : Option WatchEnd) (end : WorkEnd)
-    → HasServed 0 conf p most first a c w0 w g t starving worked watched → end_of worked watched ≡ Some end → ServedRounds conf p most first a c w0 w g.published starving end t.pins t.seen t.starved
-all_served conf p most first a c w0 w g t starving worked None end has is = absurd cc
-all_served conf p most first a c w0 w g t starving None (Some watched) end has is = absurd cc
-all_served conf p most first a c w0 w g t starving (Some other) (Some watched) end has is =
+pub all_served : (setup : RunSetup) (start now : RoundState) (worked : Option WorkEnd) (watched : Option WatchEnd) (end : WorkEnd)
+    → HasServed 0 setup start now worked watched → end_of worked watched ≡ Some end → ServedRounds setup start now end
+all_served setup start now worked None end has is = absurd cc
+all_served setup start now None (Some watched) end has is = absurd cc
+all_served setup start now (Some other) (Some watched) end has is =
     let same : other ≡ end = cc in
-    subst (λ (e : WorkEnd). ServedRounds conf p most first a c w0 w g.published starving e t.pins t.seen t.starved) same (record {
+    subst (λ (e : WorkEnd). ServedRounds setup start now e) same (record {
       looks = has.looks;
+      bundles = bundles_of start.serving.chain.bundle has.looks;
+      bundles_are = refl;
       ending = has.watch.ending;
       told = watch-adds-then has.watch.watched.told has.watch.told;
       are = has.watch.watched.are;
       ends = has.watch.ends;
       count = has.watch.watched.count;
-      wants = has.watch.watched.wants;
+      starved = has.watch.watched.starved;
       run = has.side.run;
       last = has.seen;
+      left = has.left;
     })
 
 -- what a worker counted, beside how often its side's `recv` failed
 pub record IsTallied (first now : ℕ) (t : Tally) : Type 0 where
   pub since : first ≤ now
   pub starved : t.starved ≤ 65 * t.pins + t.failures
-  pub rose : t.has_want ≡ false → min (first + t.failures) (2 ^ 64 - 1) ≤ now
-  pub has_want : t.has_want ≡ true → 0 < t.starved
+  pub rose : t.has_starved ≡ false → min (first + t.failures) (2 ^ 64 - 1) ≤ now
+  pub has_starved : t.has_starved ≡ true → 0 < t.starved
 
 -- how a worker stands: it goes on below its bounds, or has ended at them
 abbrev pub StandsAt : ℕ → Tally → Option WorkEnd → Type 0
 StandsAt most t None = (t.pins < most) × (t.failures < 64)
 StandsAt most t (Some ends.End) = Unit {0}
-StandsAt most t (Some ends.RecvFailed) = (t.failures ≡ 64) × (t.has_want ≡ false)
-StandsAt most t (Some ends.NoMemory) = t.has_want ≡ true
+StandsAt most t (Some ends.RecvFailed) = (t.failures ≡ 64) × (t.has_starved ≡ false)
+StandsAt most t (Some ends.NoMemory) = t.has_starved ≡ true
 
-tallied_by : (what : Turned) (s first now next : ℕ) (t : Tally) → IsTallied first now t → t.failures < 64 → now ≤ next → (what ≡ turned.RecvFailed → Rose now next) → IsTallied first next (tallied s what t)
-tallied_by turned.Answered s first now next t is few later rose =
-    record { since = omega (arith, is.since, later); starved = omega (arith, is.starved, few); rose = λ e. omega (arith, is.since, later); has_want = λ e. absurd cc }
-tallied_by turned.Starved s first now next t is few later rose =
-    record { since = omega (arith, is.since, later); starved = omega (arith, is.starved, few); rose = λ e. omega (arith, is.since, later); has_want = λ e. absurd cc }
-tallied_by turned.RecvFailed s first now next t is few later rose = record {
+tallied_by : (what : Turned) (first now next : ℕ) (t : Tally) → IsTallied first now t → t.failures < 64 → now ≤ next → (what ≡ turned.RecvFailed → Rose now next) → IsTallied first next (tallied what t)
+tallied_by (turned.Answered s) first now next t is few later rose =
+    record { since = omega (arith, is.since, later); starved = omega (arith, is.starved, few); rose = λ e. omega (arith, is.since, later); has_starved = λ e. absurd cc }
+tallied_by (turned.Starved s) first now next t is few later rose =
+    record { since = omega (arith, is.since, later); starved = omega (arith, is.starved, few); rose = λ e. omega (arith, is.since, later); has_starved = λ e. absurd cc }
+tallied_by turned.RecvFailed first now next t is few later rose = record {
   since = omega (arith, is.since, later);
   starved = omega (arith, is.starved);
   rose = λ e. let r = rose refl in let was = is.rose e in omega (arith, r, was);
-  has_want = is.has_want;
+  has_starved = is.has_starved;
 }
-tallied_by turned.RecvStarved s first now next t is few later rose =
-    record { since = omega (arith, is.since, later); starved = omega (arith, is.starved); rose = λ e. absurd cc; has_want = λ e. omega arith }
-tallied_by turned.RecvEnd s first now next t is few later rose =
-    record { since = omega (arith, is.since, later); starved = is.starved; rose = λ e. let was = is.rose e in omega (arith, was, later); has_want = is.has_want }
+tallied_by turned.RecvStarved first now next t is few later rose =
+    record { since = omega (arith, is.since, later); starved = omega (arith, is.starved); rose = λ e. absurd cc; has_starved = λ e. omega arith }
+tallied_by turned.RecvEnd first now next t is few later rose =
+    record { since = omega (arith, is.since, later); starved = is.starved; rose = λ e. let was = is.rose e in omega (arith, was, later); has_starved = is.has_starved }
 
-stands_by : (what : Turned) (s most : ℕ) (t : Tally) (result : Option WorkEnd) → t.pins < most → TurnEnds most what (tallied s what t) result → StandsAt most (tallied s what t) result
-stands_by turned.Answered s most t None more ends = (ends, omega arith)
-stands_by turned.Answered s most t (Some ends.End) more ends = tt
-stands_by turned.Answered s most t (Some ends.RecvFailed) more ends = absurd ends
-stands_by turned.Answered s most t (Some ends.NoMemory) more ends = absurd ends
-stands_by turned.Starved s most t None more ends = (ends, omega arith)
-stands_by turned.Starved s most t (Some ends.End) more ends = tt
-stands_by turned.Starved s most t (Some ends.RecvFailed) more ends = absurd ends
-stands_by turned.Starved s most t (Some ends.NoMemory) more ends = absurd ends
-stands_by turned.RecvFailed s most t None more ends = (more, ends)
-stands_by turned.RecvFailed s most t (Some ends.End) more ends = tt
-stands_by turned.RecvFailed s most t (Some ends.RecvFailed) more ends = ends
-stands_by turned.RecvFailed s most t (Some ends.NoMemory) more ends = ends.1
-stands_by turned.RecvStarved s most t None more ends = (more, ends)
-stands_by turned.RecvStarved s most t (Some ends.End) more ends = tt
-stands_by turned.RecvStarved s most t (Some ends.RecvFailed) more ends = ends
-stands_by turned.RecvStarved s most t (Some ends.NoMemory) more ends = refl
-stands_by turned.RecvEnd s most t None more ends = absurd cc
-stands_by turned.RecvEnd s most t (Some ends.End) more ends = tt
-stands_by turned.RecvEnd s most t (Some ends.RecvFailed) more ends = absurd cc
-stands_by turned.RecvEnd s most t (Some ends.NoMemory) more ends = absurd cc
+stands_by : (what : Turned) (most : ℕ) (t : Tally) (result : Option WorkEnd) → t.pins < most → TurnEnds most what (tallied what t) result → StandsAt most (tallied what t) result
+stands_by (turned.Answered s) most t None more ends = (ends, omega arith)
+stands_by (turned.Answered s) most t (Some ends.End) more ends = tt
+stands_by (turned.Answered s) most t (Some ends.RecvFailed) more ends = absurd ends
+stands_by (turned.Answered s) most t (Some ends.NoMemory) more ends = absurd ends
+stands_by (turned.Starved s) most t None more ends = (ends, omega arith)
+stands_by (turned.Starved s) most t (Some ends.End) more ends = tt
+stands_by (turned.Starved s) most t (Some ends.RecvFailed) more ends = absurd ends
+stands_by (turned.Starved s) most t (Some ends.NoMemory) more ends = absurd ends
+stands_by turned.RecvFailed most t None more ends = (more, ends)
+stands_by turned.RecvFailed most t (Some ends.End) more ends = tt
+stands_by turned.RecvFailed most t (Some ends.RecvFailed) more ends = ends
+stands_by turned.RecvFailed most t (Some ends.NoMemory) more ends = ends.1
+stands_by turned.RecvStarved most t None more ends = (more, ends)
+stands_by turned.RecvStarved most t (Some ends.End) more ends = tt
+stands_by turned.RecvStarved most t (Some ends.RecvFailed) more ends = ends
+stands_by turned.RecvStarved most t (Some ends.NoMemory) more ends = refl
+stands_by turned.RecvEnd most t None more ends = absurd cc
+stands_by turned.RecvEnd most t (Some ends.End) more ends = tt
+stands_by turned.RecvEnd most t (Some ends.RecvFailed) more ends = absurd cc
+stands_by turned.RecvEnd most t (Some ends.NoMemory) more ends = absurd cc
 
 -- the tally behind a turn
 pub record Tallied (first next most : ℕ) (u : Tally) (h : GenerationsData) (result : Option WorkEnd) : Type 0 where
@@ -395,24 +447,27 @@ pub record Tallied (first next most : ℕ) (u : Tally) (h : GenerationsData) (re
   pub pins : h.pins ≡ u.pins
   pub idle : h.pinned ≡ false
 
-pub tally_on : (first most : ℕ) (b c : Option (List Mark)) (g h : GenerationsData) (before now : SideCounts) (t u : Tally) (worked result : Option WorkEnd)
-    → Tallied first before.recv most t g worked → before.recv ≤ now.recv → WorksUnlessEnded g h most b c before now t u worked result → Tallied first now.recv most u h result
-tally_on first most b c g h before now t u None result was later works =
-    let takes = works.0 in
+counts_after : (result : Option WorkEnd) (behind : SideState) → (left_by result behind).counts.recv ≡ behind.counts.recv
+counts_after None behind = refl
+counts_after (Some end) behind = refl
+
+pub tally_on : (first most : ℕ) (before after : TurnState) (worked result : Option WorkEnd)
+    → Tallied first before.worker.side.counts.recv most before.worker.tally before.serving worked → WorksUnlessEnded most before after worked result
+    → Tallied first after.worker.side.counts.recv most after.worker.tally after.serving result
+tally_on first most before after None result was works =
+    let takes = works.takes in
     let few = was.stands.1 in
     let ends = subst (λ (x : Tally). TurnEnds most takes.what x result) takes.tally takes.ends in
+    let same : after.worker.side.counts.recv ≡ works.behind.counts.recv = ap (λ (x : SideState). x.counts.recv) works.leaves ∙ counts_after result works.behind in
+    let is : IsTallied first works.behind.counts.recv after.worker.tally =
+    subst (IsTallied first works.behind.counts.recv) (sym takes.tally) (tallied_by takes.what first before.worker.side.counts.recv works.behind.counts.recv before.worker.tally was.is few takes.stays.later.recv takes.failed) in
     record {
-      is = subst (IsTallied first now.recv) (sym takes.tally) (tallied_by takes.what (g.published - 1) first before.recv now.recv t was.is few later takes.failed);
-      stands = subst (λ (x : Tally). StandsAt most x result) (sym takes.tally) (stands_by takes.what (g.published - 1) most t result was.stands.0 ends);
-      pins = ap (λ (x : GenerationsData). x.pins) works.1.is;
-      idle = ap (λ (x : GenerationsData). x.pinned) works.1.is;
+      is = subst (λ (n : ℕ). IsTallied first n after.worker.tally) (sym same) is;
+      stands = subst (λ (x : Tally). StandsAt most x result) (sym takes.tally) (stands_by takes.what most before.worker.tally result was.stands.0 ends);
+      pins = ap (λ (x : GenerationsData). x.pins) takes.pins.is;
+      idle = ap (λ (x : GenerationsData). x.pinned) takes.pins.is;
     }
-tally_on first most b c g h before now t u (Some end) result was later works = rw (works.0, works.2, works.3) (record {
-  is = record { since = omega (arith, was.is.since, later); starved = was.is.starved; rose = λ e. let r = was.is.rose e in omega (arith, r, later); has_want = was.is.has_want };
-  stands = was.stands;
-  pins = was.pins;
-  idle = was.idle;
-})
+tally_on first most before after (Some end) result was works = rw (works.0, works.1) was
 
 -- a look leaves the worker's pins as they are
 pub record KeepsPins (h k : GenerationsData) : Type 0 where
@@ -438,17 +493,17 @@ once_pins conf h k w v looking.SerialsSpent looks = same_pins looks.behind
 once_pins conf h k w v (looking.Published serial) looks = read_pins looks.out looks.behind
 once_pins conf h k w v looking.NoMemory looks = same_pins looks.same
 
-look_pins : (conf : List ℕ) (h k : GenerationsData) (w v : WatchState) (had has : ℕ) (watched result : Option WatchEnd) → LooksUnlessEnded conf h k w v had has watched result → KeepsPins h k
-look_pins conf h k w v had has None None looks = once_pins conf h k looks.mid v looks.answer looks.looks
-look_pins conf h k w v had has None (Some watchend.End) looks = same_pins looks.same
-look_pins conf h k w v had has None (Some watchend.NoReload) looks = same_pins looks.same
-look_pins conf h k w v had has (Some end) result looks = same_pins looks.3
+look_pins : (conf : List ℕ) (before after : LookState) (watched result : Option WatchEnd) → LooksUnlessEnded conf before after watched result → KeepsPins before.serving after.serving
+look_pins conf before after None None looks = once_pins conf before.serving after.serving looks.waited after.watcher.watch looks.answer looks.looks
+look_pins conf before after None (Some watchend.End) looks = same_pins looks.stays.serving
+look_pins conf before after None (Some watchend.NoReload) looks = same_pins looks.stays.serving
+look_pins conf before after (Some end) result looks = same_pins (ap (λ (x : LookState). x.serving) looks.1)
 
 -- the tally behind a look
-pub tally_looks : (first next most : ℕ) (u : Tally) (conf : List ℕ) (h k : GenerationsData) (w v : WatchState) (had has : ℕ) (worked : Option WorkEnd) (watched result : Option WatchEnd)
-    → Tallied first next most u h worked → LooksUnlessEnded conf h k w v had has watched result → Tallied first next most u k worked
-tally_looks first next most u conf h k w v had has worked watched result t looks =
-    let keeps = look_pins conf h k w v had has watched result looks in
+pub tally_looks : (first next most : ℕ) (u : Tally) (conf : List ℕ) (before after : LookState) (worked : Option WorkEnd) (watched result : Option WatchEnd)
+    → Tallied first next most u before.serving worked → LooksUnlessEnded conf before after watched result → Tallied first next most u after.serving worked
+tally_looks first next most u conf before after worked watched result t looks =
+    let keeps = look_pins conf before after watched result looks in
     record { is = t.is; stands = t.stands; pins = keeps.pins ∙ t.pins; idle = keeps.idle ∙ t.idle }
 
 -- whether a worker goes on below its bound
@@ -462,9 +517,9 @@ tallied_first count most t g idle none free some =
     let pins = ap (λ (x : Tally). x.pins) idle in
     let starved = ap (λ (x : Tally). x.starved) idle in
     let failures = ap (λ (x : Tally). x.failures) idle in
-    let has_want = ap (λ (x : Tally). x.has_want) idle in
+    let has_starved = ap (λ (x : Tally). x.has_starved) idle in
     record {
-      is = record { since = omega arith; starved = omega (arith, starved); rose = λ e. omega (arith, failures); has_want = λ e. absurd cc };
+      is = record { since = omega arith; starved = omega (arith, starved); rose = λ e. omega (arith, failures); has_starved = λ e. absurd cc };
       stands = (omega (arith, pins, some), omega (arith, failures));
       pins = omega (arith, pins, none);
       idle = free;

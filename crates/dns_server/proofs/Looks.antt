@@ -5,21 +5,22 @@ use Rattle.outside.specs.declared.mark.WatchMark.TheVariants.{Read, Published}
 use Rattle.outside.specs.declared.watch.ReadOut.{ReadOut}
 use Rattle.outside.specs.declared.watch.ReadOut.TheVariants as readout
 use Rattle.outside.specs.Journals.{watch-adds-then}
-use Rattle.outside.specs.WatchMarks.{WatchState, AddsWatch, read_marks}
+use Rattle.outside.specs.States.{WatchState}
+use Rattle.outside.specs.WatchMarks.{AddsWatch, read_marks}
 use Rattle.dns_server.specs.declared.chain.Chain.{Chain}
 use Rattle.dns_server.specs.declared.looking.Looking.{Looking}
 use Rattle.dns_server.specs.declared.looking.Looking.TheVariants as looking
 use Rattle.dns_server.specs.Corefile.{IsCorefile}
 use Rattle.dns_server.specs.Generation.{GenerationsData}
-use Rattle.dns_server.specs.Look.{reloads, AnswersLook, note_marks, publication, ServesBehind, ServesRead, LooksOver, Starves, LooksOnce, AnswersKept, IsNext, IsNoted, NotesLook, PublishesNext}
+use Rattle.dns_server.specs.Look.{reloads, AnswersLook, standing_of, note_marks, publication, ServesBehind, ServesRead, LooksOver, Starves, LooksOnce, AnswersKept, IsNext, IsNoted, NotesLook, PublishesNext}
 use Rattle.dns_server.specs.Messages.{look_text}
 use Rattle.dns_server.specs.Opening.{Refuses}
-use Rattle.dns_server.specs.declared.report.Refusal.{Refusal}
+use Rattle.dns_server.specs.declared.refusal.Refusal.{Refusal}
 
 -- a look that publishes nothing
 over : {conf : List ℕ} {old : GenerationsData} {before mid after : WatchState} (out : ReadOut) (answer : Looking) → read_marks conf out ≡ Read conf out ∷ [] → publication answer ≡ []
     → reloads old.chain.corefile ≡ true → AddsWatch before mid (read_marks conf out) → IsNoted mid after answer
-    → AnswersLook conf old.chain.default_port old.chain.bundle.conf old.chain.corefile old.published out answer → ServesBehind old old out answer
+    → AnswersLook conf (standing_of old.chain old.published) out answer → ServesBehind old old out answer
     → LooksOver conf old old before after answer
 over {conf} {old} {before} {mid} {after} out answer was_read quiet again read noted answers behind =
     let all = watch-adds-then read noted.told in

@@ -1,5 +1,5 @@
 -- How a run opens and ends.
-use Rattle.std.proofs.Common.{◌≡◌, ◌≢◌, ◌⊎◌, ℕ, List, [], ◌∷◌, ◌++◌, length, Option, Some, None, Err, refl, sym, ap, subst, inl, inr, arith}
+use Rattle.std.proofs.Common.{◌≡◌, ◌≢◌, ◌⊎◌, ℕ, List, [], ◌∷◌, ◌++◌, length, Option, Some, None, Err, refl, sym, ap, subst, ◌∙◌, inl, inr, arith}
 use Rattle.std.specs.Prelude.{IfSome}
 use Rattle.std.specs.List.{flat_map, AllByRecursion}
 use Rattle.std.proofs.lemmas.List.Concat.{flat_map-cons}
@@ -8,10 +8,12 @@ use Rattle.outside.specs.declared.watch.ReadOut.{ReadOut}
 use Rattle.outside.specs.declared.watch.ReadOut.TheVariants as readout
 use Rattle.outside.specs.declared.mark.WatchMark.{WatchMark}
 use Rattle.outside.specs.declared.mark.WatchMark.TheVariants.{Read, Published}
-use Rattle.outside.specs.Causes.{Rose, HostCounts, HostNoneFell, WatchCounts}
-use Rattle.outside.specs.Hosts.{HostTold, AddsHost, IsFreshWatch}
+use Rattle.outside.specs.Causes.{Rose, RoseJust, HostCounts, WatchCounts}
+use Rattle.outside.specs.Hosts.{HostState, OpenedSide, SupplyData, AddsHost, IsFreshWatch, OpensOneSide, OpensTheWatch, TakesSide, TakesWatch, all_told, no_telling, told_watch}
 use Rattle.outside.specs.Journals.{host-adds-nothing, host-adds-then, watch-adds-then, watch_tells_since}
-use Rattle.outside.specs.WatchMarks.{WatchState, AddsWatch}
+use Rattle.outside.specs.Script.{SideScriptData}
+use Rattle.outside.specs.States.{SideState, WatchState}
+use Rattle.outside.specs.WatchMarks.{AddsWatch}
 use Rattle.dns_server.specs.declared.chain.Chain.{Chain}
 use Rattle.dns_server.specs.declared.corefile.Block.{Block}
 use Rattle.dns_server.specs.declared.corefile.Bundle.{Bundle}
@@ -20,17 +22,17 @@ use Rattle.dns_server.specs.declared.first.FirstFault.{FirstFault}
 use Rattle.dns_server.specs.declared.first.FirstFault.TheVariants as fault
 use Rattle.dns_server.specs.declared.looking.Looking.{Looking}
 use Rattle.dns_server.specs.declared.looking.Looking.TheVariants as looking
-use Rattle.dns_server.specs.declared.report.Status.{Status}
-use Rattle.dns_server.specs.declared.report.Status.TheVariants as status
-use Rattle.dns_server.specs.Command.{CommandData}
+use Rattle.dns_server.specs.declared.status.Status.{Status}
+use Rattle.dns_server.specs.declared.status.Status.TheVariants as status
 use Rattle.dns_server.specs.Corefile.{IsCorefile}
-use Rattle.dns_server.specs.Look.{AnswersLook}
+use Rattle.dns_server.specs.Look.{AnswersLook, Standing}
 use Rattle.dns_server.specs.Opening.{IsOneRead, ReadsFirst, ReadsChain, endpoints_of}
-use Rattle.dns_server.specs.Report.{RunData, SideRun, CauseOf, Finishes, IsEndStatus, IsFirstStatus, IsServed, RunsCommand, stopped_run}
+use Rattle.dns_server.specs.Report.{RunData, CauseOf, Finishes, IsEndStatus, IsFirstStatus, IsServed, RunsBehind, RunsCommand, Supplies, SuppliesOnlySides, SuppliesSides, TellsRun, opened_by, stopped_run}
+use Rattle.dns_server.specs.States.{LookState, RunSetup, SideRun}
 use Rattle.dns_server.specs.Rounds.{EndsWatch}
 use Rattle.dns_server.specs.Serve.{IsChain}
 use Rattle.dns_server.specs.WatchRun.{Tells, TellsLooks, ReadsAtMostOnce}
-use Rattle.dns_server.specs.WatchTurn.{WatchTurn, looked, starved, watch_marks, read_bundle, published_as, published_by, bundles_of, AreLooks, IsLook}
+use Rattle.dns_server.specs.WatchTurn.{WatchTurn, looked, starved, watch_marks, read_bundle, published_as, published_by, bundles_of, all_starved, AreLooks, IsLook}
 
 -- at most one read was told, and nothing was published
 pub opens_nothing : (conf : List ℕ) (journal : Option (List WatchMark)) (marks : List WatchMark) → IfSome journal (λ told. told ≡ marks) → (marks ≡ []) ⊎ IsOneRead conf marks
@@ -41,27 +43,50 @@ opens_nothing conf (Some journal) marks told are = subst (ReadsAtMostOnce conf) 
 pub one_read : (conf : List ℕ) (out : ReadOut) → (Read conf out ∷ [] ≡ []) ⊎ IsOneRead conf (Read conf out ∷ [])
 one_read conf out = inr (record { out = out; is = refl })
 
--- a run that stopped before it served
-pub stops : {command : CommandData} {default_port : ℕ} {told_before told_after : Option HostTold} {before after : HostCounts} (how : Status) (watch : Option WatchState)
-    → Tells watch (ReadsAtMostOnce command.conf) → AddsHost told_before told_after [] [] → CauseOf how command default_port (stopped_run how watch) before after
-    → RunsCommand command default_port (stopped_run how watch) told_before told_after before after
-stops how watch opening told cause = record {
-  served = record { bundles = []; count = refl; accepted = tt; watch = λ some. absurd (some refl); looks = []; watched = (refl, opening); endpoints = []; opened = refl; told = told; one_each = refl; sides = tt };
+-- nothing was taken from the supply
+nothing_taken : (before after : Option SupplyData) → after ≡ before → SuppliesOnlySides before after []
+nothing_taken None after same = same
+nothing_taken (Some before) None same = absurd cc
+nothing_taken (Some before) (Some after) same =
+    let is : after ≡ before = cc in
+    (ap (λ (x : SupplyData). x.watch) is, record { taken = []; before_is = sym (ap (λ (x : SupplyData). x.sides) is); scripts = refl })
+
+-- a run that stopped before it served, behind the opening of its watch
+pub stops : {setup : RunSetup} {before after : HostState} (how : Status) (watch back : WatchState) → back.script ≡ watch.script → Tells (Some back) (ReadsAtMostOnce setup.conf)
+    → AddsHost before after no_telling → after.supply ≡ before.supply → CauseOf how setup (stopped_run how (Some back)) before.counts after.counts
+    → RunsBehind setup (stopped_run how (Some back)) watch before after
+stops {setup} {before} {after} how watch back script opening told supply cause = record {
+  served = record {
+    bundles = [];
+    count = refl;
+    accepted = tt;
+    back = back;
+    watch_is = refl;
+    script = script;
+    looks = [];
+    watched = (refl, refl, opening);
+    endpoints = [];
+    opened = refl;
+    told = told;
+    supplied = nothing_taken before.supply after.supply supply;
+    one_each = refl;
+    sides = tt;
+  };
   cause = cause;
 }
 
-end_cause : (command : CommandData) (default_port : ℕ) (before after : HostCounts) (watch : Option WatchState) (side : SideRun) (published starving : ℕ) (how : Status) → published ≢ 0 → IsEndStatus side.end side.starved starving how
-    → CauseOf how command default_port (record { status = how; sides = side ∷ []; watch = watch; published = published; starved = starving }) before after
-end_cause command default_port before after watch side published starving status.Usage some is = absurd is
-end_cause command default_port before after watch side published starving (status.ReadFailed name) some is = absurd is
-end_cause command default_port before after watch side published starving status.OpenFailed some is = absurd is
-end_cause command default_port before after watch side published starving status.TellFailed some is = absurd is
-end_cause command default_port before after watch side published starving (status.Refused refusal) some is = absurd is
-end_cause command default_port before after watch side published starving status.NoMemory some is = tt
-end_cause command default_port before after watch side published starving status.WorkerFailed some is =
-    record { sides = (record { end = inr is.0; no_want = is.1 }, tt); no_want = is.2; some = inl is.0 }
-end_cause command default_port before after watch side published starving status.Ended some is =
-    record { sides = (record { end = is.0; no_want = is.1 }, tt); no_want = is.2; nothing = λ e. absurd (some e) }
+end_cause : (setup : RunSetup) (before after : HostCounts) (watch : Option WatchState) (side : SideRun) (published starving : ℕ) (how : Status) → published ≢ 0 → IsEndStatus side.worked.end side.worked.starved starving how
+    → CauseOf how setup (record { status = how; sides = side ∷ []; watch = watch; published = published; starved = starving }) before after
+end_cause setup before after watch side published starving status.Usage some is = absurd is
+end_cause setup before after watch side published starving (status.ReadFailed name) some is = absurd is
+end_cause setup before after watch side published starving status.OpenFailed some is = absurd is
+end_cause setup before after watch side published starving status.TellFailed some is = absurd is
+end_cause setup before after watch side published starving (status.Refused refusal) some is = absurd is
+end_cause setup before after watch side published starving status.NoMemory some is = tt
+end_cause setup before after watch side published starving status.WorkerFailed some is =
+    record { sides = (record { end = inr is.0; none_starved = is.1 }, tt); none_starved = is.2; some = inl is.0 }
+end_cause setup before after watch side published starving status.Ended some is =
+    record { sides = (record { end = is.0; none_starved = is.1 }, tt); none_starved = is.2; nothing = λ e. absurd (some e) }
 
 -- what a look publishes is accepted
 read_accepted : (default_port : ℕ) (out : ReadOut) (bytes : List ℕ) (corefile : Corefile) → out ≡ readout.Got bytes → IsCorefile default_port bytes corefile → AllByRecursion (IsServed default_port) (read_bundle out)
@@ -72,19 +97,19 @@ read_accepted default_port readout.Missing bytes corefile got is = tt
 read_accepted default_port readout.Failed bytes corefile got is = tt
 read_accepted default_port readout.NoMemory bytes corefile got is = tt
 
-answer_accepted : (conf : List ℕ) (default_port : ℕ) (was : List ℕ) (corefile : Corefile) (published : ℕ) (out : ReadOut) (answer : Looking) → AnswersLook conf default_port was corefile published out answer
-    → AllByRecursion (IsServed default_port) (published_as out answer)
-answer_accepted conf default_port was corefile published out looking.NoReload is = tt
-answer_accepted conf default_port was corefile published out (looking.ReadFailed name) is = tt
-answer_accepted conf default_port was corefile published out looking.Same is = tt
-answer_accepted conf default_port was corefile published out (looking.Refused why) is = tt
-answer_accepted conf default_port was corefile published out (looking.PortsDiffer ports others) is = tt
-answer_accepted conf default_port was corefile published out looking.SerialsSpent is = tt
-answer_accepted conf default_port was corefile published out (looking.Published serial) is = read_accepted default_port out is.bytes is.corefile is.got is.accepted
-answer_accepted conf default_port was corefile published out looking.NoMemory is = tt
+answer_accepted : (conf : List ℕ) (standing : Standing) (out : ReadOut) (answer : Looking) → AnswersLook conf standing out answer
+    → AllByRecursion (IsServed standing.default_port) (published_as out answer)
+answer_accepted conf standing out looking.NoReload is = tt
+answer_accepted conf standing out (looking.ReadFailed name) is = tt
+answer_accepted conf standing out looking.Same is = tt
+answer_accepted conf standing out (looking.Refused why) is = tt
+answer_accepted conf standing out (looking.PortsDiffer ports others) is = tt
+answer_accepted conf standing out looking.SerialsSpent is = tt
+answer_accepted conf standing out (looking.Published serial) is = read_accepted standing.default_port out is.bytes is.corefile is.got is.accepted
+answer_accepted conf standing out looking.NoMemory is = tt
 
 look_accepted : (conf : List ℕ) (default_port : ℕ) (bundles : List Bundle) (look : WatchTurn) → IsLook conf default_port bundles look → AllByRecursion (IsServed default_port) (published_by look)
-look_accepted conf default_port bundles (looked out answer flag) is = answer_accepted conf default_port is.last.conf is.corefile (length bundles) out answer is.is
+look_accepted conf default_port bundles (looked out answer flag) is = answer_accepted conf (record { default_port = default_port; conf = is.last.conf; corefile = is.corefile; published = length bundles }) out answer is.is
 look_accepted conf default_port bundles (starved out) is = tt
 
 both_accepted : (default_port : ℕ) (xs ys : List Bundle) → AllByRecursion (IsServed default_port) xs → AllByRecursion (IsServed default_port) ys → AllByRecursion (IsServed default_port) (xs ++ ys)
@@ -103,73 +128,89 @@ tells_looks : (conf : List ℕ) (default_port : ℕ) (first : Bundle) (looks : L
 tells_looks conf default_port first looks ending None told ends = tt
 tells_looks conf default_port first looks ending (Some journal) told ends = record { ending = ending; told = told; ends = ends }
 
+-- one side was taken from the supply
+one_taken : (before after : Option SupplyData) (script : Option SideScriptData) (side : SideRun) → TakesSide before after script → side.state.script ≡ script → SuppliesOnlySides before after (side ∷ [])
+one_taken None after script side takes same = takes
+one_taken (Some before) None script side takes same = absurd (let is = takes.3 in cc)
+one_taken (Some before) (Some after) script side takes same =
+    let is : after ≡ record before { sides = takes.1 } = let e = takes.3 in cc in (
+      ap (λ (x : SupplyData). x.watch) is,
+      record {
+        taken = takes.0 ∷ [];
+        before_is = takes.2 ∙ ap (λ (l : List SideScriptData). takes.0 ∷ l) (sym (ap (λ (x : SupplyData). x.sides) is));
+        scripts = ap (λ (s : Option SideScriptData). s ∷ []) (same ∙ takes.4);
+      },
+    )
+
 -- a run that served
-pub serves : (command : CommandData) (default_port : ℕ) (told_before told_after : Option HostTold) (before after : HostCounts) (how : Status) (fresh_watch mid watch : WatchState) (chain : Chain) (block : Block) (side : SideRun) (published starving : ℕ)
-    → IsChain chain → chain.default_port ≡ default_port → chain.corefile.block ≡ Some block → IsFreshWatch fresh_watch
-    → AddsWatch fresh_watch mid (Read command.conf (readout.Got chain.bundle.conf) ∷ Published 0 ∷ [])
-    → AddsHost told_before told_after [] (record { port = block.port; by = Udp; number = 0 } ∷ [])
-    → Finishes command.conf chain.default_port command.most chain.bundle mid watch published starving side
-    → IsEndStatus side.end side.starved starving how
-    → RunsCommand command default_port (record { status = how; sides = side ∷ []; watch = Some watch; published = published; starved = starving }) told_before told_after before after
-serves command default_port told_before told_after before after how fresh_watch mid watch chain block side published starving is same block_is fresh opening told finishes end =
-    let by : Finishes command.conf default_port command.most chain.bundle mid watch published starving side =
-    subst (λ (p : ℕ). Finishes command.conf p command.most chain.bundle mid watch published starving side) same finishes in
-    let accepted : IsCorefile default_port chain.bundle.conf chain.corefile = subst (λ (p : ℕ). IsCorefile p chain.bundle.conf chain.corefile) same is in
-    let count = by.count in
-    let some : published ≢ 0 = λ e. omega (arith, e, count) in
+pub serves : (setup : RunSetup) (before after : HostState) (how : Status) (fresh_watch : WatchState) (start end : LookState) (block : Block) (opened : SideState) (side : SideRun)
+    → IsChain start.serving.chain → start.serving.chain.default_port ≡ setup.default_port → start.serving.chain.corefile.block ≡ Some block → IsFreshWatch fresh_watch → start.watcher.starved ≡ 0
+    → AddsWatch fresh_watch start.watcher.watch (Read setup.conf (readout.Got start.serving.chain.bundle.conf) ∷ Published 0 ∷ []) → end.watcher.watch.script ≡ fresh_watch.script
+    → OpensOneSide before after (record { port = block.port; by = Udp; number = 0 }) opened → side.state.script ≡ opened.script
+    → Finishes setup start end side → IsEndStatus side.worked.end side.worked.starved end.watcher.starved how
+    → RunsBehind setup (record { status = how; sides = side ∷ []; watch = Some end.watcher.watch; published = end.serving.published; starved = end.watcher.starved }) fresh_watch before after
+serves setup before after how fresh_watch start end block opened side is same block_is fresh none opening script opens side_script by stands =
+    let chain = start.serving.chain in
+    let accepted : IsCorefile setup.default_port chain.bundle.conf chain.corefile = subst (λ (p : ℕ). IsCorefile p chain.bundle.conf chain.corefile) same is in
+    let count : length (bundles_of chain.bundle by.looks) ≡ end.serving.published = ap length (sym by.bundles_are) ∙ by.count in
+    let some : end.serving.published ≢ 0 = λ e. omega (arith, e, count) in
     record {
       served = record {
         bundles = bundles_of chain.bundle by.looks;
-        count = by.count;
-        accepted = (record { corefile = chain.corefile; accepted = accepted }, looks_accepted command.conf default_port (chain.bundle ∷ []) by.looks by.are);
-        watch = λ some none. absurd cc;
+        count = count;
+        accepted = (record { corefile = chain.corefile; accepted = accepted }, looks_accepted setup.conf setup.default_port (chain.bundle ∷ []) by.looks by.are);
+        back = end.watcher.watch;
+        watch_is = refl;
+        script = script;
         looks = by.looks;
         watched = record {
           published = refl;
           are = by.are;
-          wants = by.wants;
-          told = tells_looks command.conf default_port chain.bundle by.looks by.ending watch.journal (watch_tells_since fresh (watch-adds-then opening by.told)) by.ends;
+          starved_is = subst (λ (n : ℕ). RoseJust (all_starved by.looks) n end.watcher.starved) none by.starved;
+          told = tells_looks setup.conf setup.default_port chain.bundle by.looks by.ending end.watcher.watch.journal (watch_tells_since fresh (watch-adds-then opening by.told))
+              (subst (λ (l : List Bundle). EndsWatch setup.default_port l by.ending) by.bundles_are by.ends);
         };
         endpoints = record { port = block.port; by = Udp; number = 0 } ∷ [];
         opened = record { corefile = chain.corefile; accepted = accepted; are = sym (ap endpoints_of block_is) };
-        told = told;
+        told = opens.told;
+        supplied = one_taken before.supply after.supply opened.script side opens.supply side_script;
         one_each = refl;
-        sides = (by.tells, tt);
+        sides = (subst (λ (l : List Bundle). TellsRun setup l by.looks side) by.bundles_are by.tells, tt);
       };
-      cause = end_cause command default_port before after (Some watch) side published starving how some end;
+      cause = end_cause setup before.counts after.counts (Some end.watcher.watch) side end.serving.published end.watcher.starved how some stands;
     }
 
 -- the first read gave no chain
-pub first_stops : (command : CommandData) (default_port : ℕ) (old new : WatchState) (why : FirstFault) (how : Status) (told : Option HostTold) (counts : HostCounts)
-    → IsFreshWatch old → ReadsFirst command.conf default_port old new (Err why) → IsFirstStatus why command.conf how
-    → RunsCommand command default_port (stopped_run how (Some new)) told told counts counts
-first_stops command default_port old new (fault.Refused why) how told counts fresh reads is =
+pub first_stops : (setup : RunSetup) (old new : WatchState) (why : FirstFault) (how : Status) (host : HostState)
+    → IsFreshWatch old → new.script ≡ old.script → ReadsFirst setup.conf setup.default_port old new (Err why) → IsFirstStatus why setup.conf how
+    → RunsBehind setup (stopped_run how (Some new)) old host host
+first_stops setup old new (fault.Refused why) how host fresh script reads is =
     let journal = watch_tells_since fresh reads.told in
-    rw is (stops (status.Refused why) (Some new) (opens_nothing command.conf new.journal _ journal (one_read command.conf reads.out)) (host-adds-nothing told)
+    rw is (stops (status.Refused why) old new script (opens_nothing setup.conf new.journal _ journal (one_read setup.conf reads.out)) (host-adds-nothing host) refl
     (record { published = refl; watch = λ e. absurd cc; why = record { out = reads.out; read = journal; refused = reads.refused } }))
-first_stops command default_port old new fault.ReadFailed how told counts fresh reads is =
+first_stops setup old new fault.ReadFailed how host fresh script reads is =
     let journal = watch_tells_since fresh reads.0 in
-    let opening = opens_nothing command.conf new.journal _ journal (one_read command.conf readout.Failed) in
+    let opening = opens_nothing setup.conf new.journal _ journal (one_read setup.conf readout.Failed) in
     let rose : Rose 0 new.counts.reads = let none = ap (λ (c : WatchCounts). c.reads) fresh.no_fault in let r = reads.1 in omega (arith, none, r) in
     elim is [
-      | inl named ↦ rw named (stops (status.ReadFailed command.conf) (Some new) opening (host-adds-nothing told)
+      | inl named ↦ rw named (stops (status.ReadFailed setup.conf) old new script opening (host-adds-nothing host) refl
           (refl, record { published = refl; watch = λ e. absurd cc; why = rose }))
-      | inr want ↦ rw want (stops status.NoMemory (Some new) opening (host-adds-nothing told) tt)
+      | inr want ↦ rw want (stops status.NoMemory old new script opening (host-adds-nothing host) refl tt)
     ]
-first_stops command default_port old new fault.NoMemory how told counts fresh reads is =
+first_stops setup old new fault.NoMemory how host fresh script reads is =
     let journal = watch_tells_since fresh reads.told in
-    rw is (stops status.NoMemory (Some new) (opens_nothing command.conf new.journal reads.marks journal reads.are) (host-adds-nothing told) tt)
+    rw is (stops status.NoMemory old new script (opens_nothing setup.conf new.journal reads.marks journal reads.are) (host-adds-nothing host) refl tt)
 
 -- the first chain has no block, so that nothing is to be served
-pub no_block_stops : (command : CommandData) (default_port : ℕ) (old new : WatchState) (chain : Chain) (told : Option HostTold) (counts : HostCounts)
-    → IsFreshWatch old → ReadsChain command.conf default_port old new chain → chain.corefile.block ≡ None
-    → RunsCommand command default_port (stopped_run status.Ended (Some new)) told told counts counts
-no_block_stops command default_port old new chain told counts fresh reads none =
+pub no_block_stops : (setup : RunSetup) (old new : WatchState) (chain : Chain) (host : HostState)
+    → IsFreshWatch old → new.script ≡ old.script → ReadsChain setup.conf setup.default_port old new chain → chain.corefile.block ≡ None
+    → RunsBehind setup (stopped_run status.Ended (Some new)) old host host
+no_block_stops setup old new chain host fresh script reads none =
     let journal = watch_tells_since fresh reads.told in
-    stops status.Ended (Some new) (opens_nothing command.conf new.journal _ journal (one_read command.conf (readout.Got chain.bundle.conf))) (host-adds-nothing told)
+    stops status.Ended old new script (opens_nothing setup.conf new.journal _ journal (one_read setup.conf (readout.Got chain.bundle.conf))) (host-adds-nothing host) refl
     (record {
       sides = tt;
-      no_want = refl;
+      none_starved = refl;
       nothing = λ e. record {
         watch = λ f. absurd cc;
         conf = chain.bundle.conf;
@@ -181,42 +222,83 @@ no_block_stops command default_port old new chain told counts fresh reads none =
     })
 
 -- nothing could be opened, or memory ran out, behind the first read
-pub read_stops : {command : CommandData} {default_port : ℕ} {old new : WatchState} {chain : Chain} {told_before told_after : Option HostTold} {before after : HostCounts} (how : Status)
-    → IsFreshWatch old → ReadsChain command.conf default_port old new chain → AddsHost told_before told_after [] []
-    → CauseOf how command default_port (stopped_run how (Some new)) before after
-    → RunsCommand command default_port (stopped_run how (Some new)) told_before told_after before after
-read_stops {command} {new = new} {chain} how fresh reads told cause =
+pub read_stops : {setup : RunSetup} {old new : WatchState} {chain : Chain} {before after : HostState} (how : Status)
+    → IsFreshWatch old → new.script ≡ old.script → ReadsChain setup.conf setup.default_port old new chain → AddsHost before after no_telling → after.supply ≡ before.supply
+    → CauseOf how setup (stopped_run how (Some new)) before.counts after.counts
+    → RunsBehind setup (stopped_run how (Some new)) old before after
+read_stops {setup} {old} {new} {chain} how fresh script reads told supply cause =
     let journal = watch_tells_since fresh reads.told in
-    stops how (Some new) (opens_nothing command.conf new.journal _ journal (one_read command.conf (readout.Got chain.bundle.conf))) told cause
+    stops how old new script (opens_nothing setup.conf new.journal _ journal (one_read setup.conf (readout.Got chain.bundle.conf))) told supply cause
 
-earlier_cause : (command : CommandData) (default_port : ℕ) (run : RunData) (how : Status) (first before after : HostCounts) → HostNoneFell first before
-    → CauseOf how command default_port run before after → CauseOf how command default_port run first after
-earlier_cause command default_port run status.Usage first before after later cause = absurd cause
-earlier_cause command default_port run (status.ReadFailed name) first before after later cause = cause
-earlier_cause command default_port run status.OpenFailed first before after later cause = (cause.0, let rose = cause.1 in omega (arith, later.opens, rose))
-earlier_cause command default_port run status.TellFailed first before after later cause = absurd cause
-earlier_cause command default_port run (status.Refused why) first before after later cause = cause
-earlier_cause command default_port run status.NoMemory first before after later cause = tt
-earlier_cause command default_port run status.WorkerFailed first before after later cause = cause
-earlier_cause command default_port run status.Ended first before after later cause = cause
+-- the watch could not be opened
+supply_kept : (before after : Option SupplyData) → after ≡ before → (run : RunData) → run.watch ≡ None → run.sides ≡ [] → Supplies before after run
+supply_kept None after same run unopened no_side = same
+supply_kept (Some before) None same run unopened no_side = absurd cc
+supply_kept (Some before) (Some after) same run unopened no_side =
+    let is : after ≡ before = cc in
+    record {
+      watch = rw unopened (ap (λ (x : SupplyData). x.watch) is);
+      sides = rw no_side (record { taken = []; before_is = sym (ap (λ (x : SupplyData). x.sides) is); scripts = refl });
+    }
+
+pub not_opened : {setup : RunSetup} {before after : HostState} (how : Status) → AddsHost before after no_telling → after.supply ≡ before.supply
+    → CauseOf how setup (stopped_run how None) before.counts after.counts → RunsCommand setup (stopped_run how None) before after
+not_opened {setup} {before} {after} how told supply cause = record {
+  served = record {
+    bundles = [];
+    count = refl;
+    accepted = tt;
+    watch = λ some. absurd (some refl);
+    looks = [];
+    watched = (refl, refl, tt);
+    endpoints = [];
+    opened = refl;
+    told = told;
+    supplied = supply_kept before.supply after.supply supply (stopped_run how None) refl refl;
+    one_each = refl;
+    sides = tt;
+  };
+  cause = cause;
+}
 
 -- the watch was opened before
-pub opened_before : {command : CommandData} {default_port : ℕ} {run : RunData} {told_first told_before told_after : Option HostTold} {first before after : HostCounts}
-    → AddsHost told_first told_before [] [] → HostNoneFell first before → RunsCommand command default_port run told_before told_after before after
-    → RunsCommand command default_port run told_first told_after first after
-opened_before {command} {default_port} {run} {first = first} {before = before} {after = after} told later runs = record {
-  served = record {
-    bundles = runs.served.bundles;
-    count = runs.served.count;
-    accepted = runs.served.accepted;
-    watch = runs.served.watch;
-    looks = runs.served.looks;
-    watched = runs.served.watched;
-    endpoints = runs.served.endpoints;
-    opened = runs.served.opened;
-    told = host-adds-then told runs.served.told;
-    one_each = runs.served.one_each;
-    sides = runs.served.sides;
-  };
-  cause = earlier_cause command default_port run run.status first before after later runs.cause;
-}
+watch_taken : (first before after : Option SupplyData) (watch : WatchState) (run : RunData) (back : WatchState) → run.watch ≡ Some back → back.script ≡ watch.script → TakesWatch first before watch.script
+    → SuppliesOnlySides before after run.sides → Supplies first after run
+watch_taken None before after watch run back is script takes supplied =
+    let none : before ≡ None = takes in
+    subst (λ (b : Option SupplyData). SuppliesOnlySides b after run.sides) none supplied
+watch_taken (Some first) None after watch run back is script takes supplied = absurd (let e = takes.2 in cc)
+watch_taken (Some first) (Some before) None watch run back is script takes supplied = absurd supplied
+watch_taken (Some first) (Some before) (Some after) watch run back is script takes supplied =
+    let mid : before ≡ record first { watch = None } = let e = takes.2 in cc in
+    let gone : before.watch ≡ None = ap (λ (x : SupplyData). x.watch) mid in
+    let sides : before.sides ≡ first.sides = ap (λ (x : SupplyData). x.sides) mid in
+    record {
+      watch = rw is (supplied.0 ∙ gone, script ∙ takes.3 ∙ sym takes.1);
+      sides = subst (λ (l : List SideScriptData). SuppliesSides l after.sides run.sides) sides supplied.1;
+    }
+
+opened_told : (watch : Option WatchState) (back : WatchState) (endpoints : List OpenedSide) → watch ≡ Some back → all_told told_watch (opened_by None endpoints) ≡ opened_by watch endpoints
+opened_told watch back endpoints is = rw is refl
+
+pub opened_before : {setup : RunSetup} {run : RunData} {first before after : HostState} (watch : WatchState)
+    → OpensTheWatch first before watch → RunsBehind setup run watch before after → RunsCommand setup run first after
+opened_before {setup} {run} {first} {before} {after} watch opens runs =
+    let behind = runs.served in
+    record {
+      served = record {
+        bundles = behind.bundles;
+        count = behind.count;
+        accepted = behind.accepted;
+        watch = λ some none. let e = behind.watch_is in absurd cc;
+        looks = behind.looks;
+        watched = behind.watched;
+        endpoints = behind.endpoints;
+        opened = behind.opened;
+        told = subst (AddsHost first after) (opened_told run.watch behind.back behind.endpoints behind.watch_is) (host-adds-then opens.told behind.told);
+        supplied = watch_taken first.supply before.supply after.supply watch run behind.back behind.watch_is behind.script opens.supply behind.supplied;
+        one_each = behind.one_each;
+        sides = behind.sides;
+      };
+      cause = subst (λ (c : HostCounts). CauseOf run.status setup run c after.counts) opens.counts runs.cause;
+    }

@@ -1,24 +1,27 @@
 -- How the looks of a watcher go on.
-use Rattle.std.proofs.Common.{◌≡◌, ◌≢◌, ℕ, ◌+◌, ◌-◌, ◌^◌, min, Bool, List, [], ◌∷◌, ◌++◌, length, Option, Some, None, append_assoc, refl, sym, ap, subst, ◌∙◌, arith}
+use Rattle.std.proofs.Common.{◌≡◌, ◌≢◌, ℕ, ◌+◌, Bool, List, [], ◌∷◌, ◌++◌, length, Option, Some, None, append_assoc, refl, sym, ap, subst, ◌∙◌, arith}
 use Rattle.std.specs.Prelude.{OnSome}
 use Rattle.std.specs.List.{flat_map}
 use Rattle.std.proofs.lemmas.List.{append-nil}
 use Rattle.std.proofs.lemmas.List.Concat.{flat_map-append, flat_map-cons}
+use Rattle.dns_server.specs.declared.watcher.TheConstants as waits
 use Rattle.outside.specs.declared.mark.WatchMark.{WatchMark}
 use Rattle.outside.specs.declared.mark.WatchMark.TheVariants.{Look}
 use Rattle.outside.specs.declared.watch.ReadOut.{ReadOut}
 use Rattle.outside.specs.declared.watch.ReadOut.TheVariants as readout
-use Rattle.outside.specs.Causes.{RoseBy}
+use Rattle.outside.specs.Causes.{RoseJust, raised}
 use Rattle.outside.specs.Journals.{watch-adds-then}
-use Rattle.outside.specs.WatchMarks.{WatchState, AddsWatch, watch_added}
+use Rattle.outside.specs.States.{WatchState}
+use Rattle.outside.specs.WatchMarks.{AddsWatch, watch_added}
 use Rattle.dns_server.specs.declared.corefile.Bundle.{Bundle}
 use Rattle.dns_server.specs.declared.looking.Looking.{Looking}
 use Rattle.dns_server.specs.declared.looking.Looking.TheVariants as looking
 use Rattle.dns_server.specs.Corefile.{IsCorefile}
 use Rattle.dns_server.specs.Generation.{GenerationsData}
-use Rattle.dns_server.specs.Look.{AnswersLook, LooksOver, LooksOnce, Starves, ServesRead, look_marks}
+use Rattle.dns_server.specs.Look.{AnswersLook, standing_of, LooksOver, LooksOnce, Starves, ServesRead, look_marks}
 use Rattle.dns_server.specs.Serve.{IsChain}
-use Rattle.dns_server.specs.WatchTurn.{WatchTurn, looked, starved, watch_marks, published_by, bundles_of, look_wants, all_wants, IsLooked, IsLook, AreLooks}
+use Rattle.dns_server.specs.States.{LookState}
+use Rattle.dns_server.specs.WatchTurn.{WatchTurn, looked, starved, watch_marks, published_by, bundles_of, look_starved, all_starved, IsLooked, IsLook, AreLooks}
 use Rattle.dns_server.specs.Watcher.{LooksAgain}
 
 pub bundles-push : (first : Bundle) (looks : List WatchTurn) (look : WatchTurn) → bundles_of first (looks ++ look ∷ []) ≡ bundles_of first looks ++ published_by look
@@ -29,9 +32,9 @@ watch_marks-push : (conf : List ℕ) (looks : List WatchTurn) (look : WatchTurn)
 watch_marks-push conf looks look =
     flat_map-append (watch_marks conf) looks (look ∷ []) ∙ ap (λ (l : List WatchMark). flat_map (watch_marks conf) looks ++ l) (flat_map-cons (watch_marks conf) look [] ∙ append-nil (watch_marks conf look))
 
-wants-push : (looks : List WatchTurn) (look : WatchTurn) → all_wants (looks ++ look ∷ []) ≡ all_wants looks + look_wants look
-wants-push [] look = omega arith
-wants-push (l ∷ looks) look = omega (arith, wants-push looks look)
+starved_in-push : (looks : List WatchTurn) (look : WatchTurn) → all_starved (looks ++ look ∷ []) ≡ all_starved looks + look_starved look
+starved_in-push [] look = omega arith
+starved_in-push (l ∷ looks) look = omega (arith, starved_in-push looks look)
 
 looks-push : (conf : List ℕ) (default_port : ℕ) (bundles : List Bundle) (looks : List WatchTurn) (look : WatchTurn) → AreLooks conf default_port bundles looks
     → IsLook conf default_port (bundles ++ flat_map published_by looks) look → AreLooks conf default_port bundles (looks ++ look ∷ [])
@@ -42,7 +45,7 @@ looks-push conf default_port bundles (l ∷ looks) look are is =
     (are.0, looks-push conf default_port (bundles ++ published_by l) looks look are.1 (subst (λ (b : List Bundle). IsLook conf default_port b look) same is))
 
 -- what a watcher did since its watch stood at old: these looks, behind which this serves
-pub record HasWatched (conf : List ℕ) (default_port : ℕ) (first : Bundle) (looks : List WatchTurn) (old new : WatchState) (g : GenerationsData) (starving : ℕ) : Type 0 where
+pub record HasWatched (conf : List ℕ) (default_port : ℕ) (first : Bundle) (looks : List WatchTurn) (old new : WatchState) (g : GenerationsData) (was starving : ℕ) : Type 0 where
   pub told : AddsWatch old new (flat_map (watch_marks conf) looks)
   pub are : AreLooks conf default_port (first ∷ []) looks
   pub count : length (bundles_of first looks) ≡ g.published
@@ -50,15 +53,15 @@ pub record HasWatched (conf : List ℕ) (default_port : ℕ) (first : Bundle) (l
   pub last : bundles_of first looks ≡ earlier ++ g.chain.bundle ∷ []
   pub port : g.chain.default_port ≡ default_port
   pub is : IsChain g.chain
-  pub wants : RoseBy (all_wants looks) 0 starving
+  pub starved : RoseJust (all_starved looks) was starving
 
 -- a further look
-extends : {conf : List ℕ} {p : ℕ} {first : Bundle} {looks : List WatchTurn} {a b c : WatchState} {g h : GenerationsData} {had has : ℕ} (look : WatchTurn) (earlier : List Bundle)
-    → HasWatched conf p first looks a b g had → AddsWatch b c (watch_marks conf look) → IsLook conf p (bundles_of first looks) look
+extends : {conf : List ℕ} {p : ℕ} {first : Bundle} {looks : List WatchTurn} {a b c : WatchState} {g h : GenerationsData} {was had has : ℕ} (look : WatchTurn) (earlier : List Bundle)
+    → HasWatched conf p first looks a b g was had → AddsWatch b c (watch_marks conf look) → IsLook conf p (bundles_of first looks) look
     → length (bundles_of first looks ++ published_by look) ≡ h.published → bundles_of first looks ++ published_by look ≡ earlier ++ h.chain.bundle ∷ []
-    → h.chain.default_port ≡ p → IsChain h.chain → RoseBy (look_wants look) had has
-    → HasWatched conf p first (looks ++ look ∷ []) a c h has
-extends {conf} {p} {first} {looks} {a} {b} {c} {g} {h} {had} {has} look earlier w adds is count last port chain wants = record {
+    → h.chain.default_port ≡ p → IsChain h.chain → RoseJust (look_starved look) had has
+    → HasWatched conf p first (looks ++ look ∷ []) a c h was has
+extends {conf} {p} {first} {looks} {a} {b} {c} {g} {h} {was} {had} {has} look earlier w adds is count last port chain starved_in = record {
   told = subst (AddsWatch a c) (sym (watch_marks-push conf looks look)) (watch-adds-then w.told adds);
   are = looks-push conf p (first ∷ []) looks look w.are is;
   count = ap length (bundles-push first looks look) ∙ count;
@@ -66,13 +69,16 @@ extends {conf} {p} {first} {looks} {a} {b} {c} {g} {h} {had} {has} look earlier 
   last = bundles-push first looks look ∙ last;
   port = port;
   is = chain;
-  wants = omega (arith, wants-push looks look, w.wants, wants);
+  starved = record {
+    least = let a = w.starved.least in let b = starved_in.least in omega (arith, starved_in-push looks look, a, b);
+    most = let a = w.starved.most in let b = starved_in.most in omega (arith, starved_in-push looks look, a, b);
+  };
 }
 
 -- what is known of what serves, as a look needs it
-looked_of : {conf : List ℕ} {p : ℕ} {first : Bundle} {looks : List WatchTurn} {a b : WatchState} {g : GenerationsData} {had : ℕ} (out : ReadOut) (answer : Looking)
-    → HasWatched conf p first looks a b g had → (mid after : WatchState) (h : GenerationsData) → LooksOver conf g h mid after answer → AnswersLook conf g.chain.default_port g.chain.bundle.conf g.chain.corefile g.published out answer
-    → IsLooked p (bundles_of first looks) (λ last corefile. AnswersLook conf p last.conf corefile (length (bundles_of first looks)) out answer)
+looked_of : {conf : List ℕ} {p : ℕ} {first : Bundle} {looks : List WatchTurn} {a b : WatchState} {g : GenerationsData} {was had : ℕ} (out : ReadOut) (answer : Looking)
+    → HasWatched conf p first looks a b g was had → (mid after : WatchState) (h : GenerationsData) → LooksOver conf g h mid after answer → AnswersLook conf (standing_of g.chain g.published) out answer
+    → IsLooked p (bundles_of first looks) (λ last corefile. AnswersLook conf (record { default_port = p; conf = last.conf; corefile = corefile; published = length (bundles_of first looks) }) out answer)
 looked_of {conf} {p} {first} {looks} {g = g} out answer w mid after h over answers = record {
   before = w.earlier;
   last = g.chain.bundle;
@@ -80,20 +86,20 @@ looked_of {conf} {p} {first} {looks} {g = g} out answer w mid after h over answe
   corefile = g.chain.corefile;
   accepted = subst (λ (q : ℕ). IsCorefile q g.chain.bundle.conf g.chain.corefile) w.port w.is;
   again = over.again;
-  is = subst (λ (n : ℕ). AnswersLook conf p g.chain.bundle.conf g.chain.corefile n out answer) (sym w.count)
-      (subst (λ (q : ℕ). AnswersLook conf q g.chain.bundle.conf g.chain.corefile g.published out answer) w.port answers);
+  is = subst (λ (n : ℕ). AnswersLook conf (record { default_port = p; conf = g.chain.bundle.conf; corefile = g.chain.corefile; published = n }) out answer) (sym w.count)
+      (subst (λ (q : ℕ). AnswersLook conf (record { default_port = q; conf = g.chain.bundle.conf; corefile = g.chain.corefile; published = g.published }) out answer) w.port answers);
 }
 
 -- the looks with one more
-pub record Again (conf : List ℕ) (p : ℕ) (first : Bundle) (looks : List WatchTurn) (a c : WatchState) (h : GenerationsData) (has : ℕ) : Type 0 where
+pub record Again (conf : List ℕ) (p : ℕ) (first : Bundle) (looks : List WatchTurn) (a c : WatchState) (h : GenerationsData) (was has : ℕ) : Type 0 where
   pub look : WatchTurn
-  pub watched : HasWatched conf p first (looks ++ look ∷ []) a c h has
+  pub watched : HasWatched conf p first (looks ++ look ∷ []) a c h was has
 
 -- a look that published nothing
-kept : {conf : List ℕ} {p : ℕ} {first : Bundle} {looks : List WatchTurn} {a b : WatchState} {g : GenerationsData} {had : ℕ} (answer : Looking) (mid c : WatchState) (h : GenerationsData) (has : ℕ)
-    → HasWatched conf p first looks a b g had → AddsWatch b mid (Look 30000 15000 ∷ []) → (over : LooksOver conf g h mid c answer) → published_by (looked over.out answer over.flag) ≡ [] → h ≡ g → has ≡ had
-    → Again conf p first looks a c h has
-kept {conf} {p} {first} {looks} {a} {b} {g} {had} answer mid c h has w waits over none same no_want =
+kept : {conf : List ℕ} {p : ℕ} {first : Bundle} {looks : List WatchTurn} {a b : WatchState} {g : GenerationsData} {was had : ℕ} (answer : Looking) (mid c : WatchState) (h : GenerationsData) (has : ℕ)
+    → HasWatched conf p first looks a b g was had → AddsWatch b mid (Look waits.INTERVAL waits.JITTER ∷ []) → (over : LooksOver conf g h mid c answer) → published_by (looked over.out answer over.flag) ≡ [] → h ≡ g → has ≡ had
+    → Again conf p first looks a c h was has
+kept {conf} {p} {first} {looks} {a} {b} {g} {was} {had} answer mid c h has w waits over none same none_starved =
     let nothing : bundles_of first looks ++ published_by (looked over.out answer over.flag) ≡ bundles_of first looks =
     ap (λ (l : List Bundle). bundles_of first looks ++ l) none ∙ append-nil (bundles_of first looks) in
     record {
@@ -101,7 +107,7 @@ kept {conf} {p} {first} {looks} {a} {b} {g} {had} answer mid c h has w waits ove
       watched = extends (looked over.out answer over.flag) w.earlier w (watch-adds-then waits over.told) (looked_of over.out answer w mid c h over over.answers)
           (ap length nothing ∙ w.count ∙ ap (λ (x : GenerationsData). x.published) (sym same))
           (nothing ∙ w.last ∙ ap (λ (x : GenerationsData). w.earlier ++ x.chain.bundle ∷ []) (sym same))
-          (ap (λ (x : GenerationsData). x.chain.default_port) same ∙ w.port) (subst (λ (x : GenerationsData). IsChain x.chain) (sym same) w.is) (omega (arith, no_want));
+          (ap (λ (x : GenerationsData). x.chain.default_port) same ∙ w.port) (subst (λ (x : GenerationsData). IsChain x.chain) (sym same) w.is) (record { least = omega (arith, none_starved); most = omega (arith, none_starved) });
     }
 
 length-more : {A : Type 0} (items : List A) (item : A) → length (items ++ item ∷ []) ≡ length items + 1
@@ -109,27 +115,27 @@ length-more [] item = refl
 length-more (i ∷ items) item = omega (arith, length-more items item)
 
 -- a look that published
-published_look : {conf : List ℕ} {p : ℕ} {first : Bundle} {looks : List WatchTurn} {a b : WatchState} {g : GenerationsData} {had : ℕ} (serial : ℕ) (mid c : WatchState) (h : GenerationsData) (has : ℕ) (out : ReadOut) (flag : Bool)
-    → HasWatched conf p first looks a b g had → AddsWatch b mid (Look 30000 15000 ∷ []) → LooksOver conf g h mid c (looking.Published serial) → AddsWatch mid c (look_marks conf out (looking.Published serial) flag)
-    → AnswersLook conf g.chain.default_port g.chain.bundle.conf g.chain.corefile g.published out (looking.Published serial) → ServesRead g h out → has ≡ had
-    → Again conf p first looks a c h has
-published_look {conf} {p} {first} {looks} {a} {b} {g} {had} serial mid c h has (readout.Got bytes) flag w waits over told answers replaces no_want = record {
+published_look : {conf : List ℕ} {p : ℕ} {first : Bundle} {looks : List WatchTurn} {a b : WatchState} {g : GenerationsData} {was had : ℕ} (serial : ℕ) (mid c : WatchState) (h : GenerationsData) (has : ℕ) (out : ReadOut) (flag : Bool)
+    → HasWatched conf p first looks a b g was had → AddsWatch b mid (Look waits.INTERVAL waits.JITTER ∷ []) → LooksOver conf g h mid c (looking.Published serial) → AddsWatch mid c (look_marks conf out (looking.Published serial) flag)
+    → AnswersLook conf (standing_of g.chain g.published) out (looking.Published serial) → ServesRead g h out → has ≡ had
+    → Again conf p first looks a c h was has
+published_look {conf} {p} {first} {looks} {a} {b} {g} {was} {had} serial mid c h has (readout.Got bytes) flag w waits over told answers replaces none_starved = record {
   look = looked (readout.Got bytes) (looking.Published serial) flag;
   watched = extends (looked (readout.Got bytes) (looking.Published serial) flag) (bundles_of first looks) w (watch-adds-then waits told)
       (looked_of (readout.Got bytes) (looking.Published serial) w mid c h over answers)
       (let r = replaces.published in let n = w.count in omega (arith, length-more (bundles_of first looks) (record { conf = bytes }), r, n))
       (ap (λ (b : List ℕ). bundles_of first looks ++ record { conf = b } ∷ []) (sym replaces.conf))
-      (replaces.port ∙ w.port) replaces.is (omega (arith, no_want));
+      (replaces.port ∙ w.port) replaces.is (record { least = omega (arith, none_starved); most = omega (arith, none_starved) });
 }
-published_look serial mid c h has readout.Missing flag w waits over told answers replaces no_want = absurd replaces
-published_look serial mid c h has readout.Failed flag w waits over told answers replaces no_want = absurd replaces
-published_look serial mid c h has readout.NoMemory flag w waits over told answers replaces no_want = absurd replaces
+published_look serial mid c h has readout.Missing flag w waits over told answers replaces none_starved = absurd replaces
+published_look serial mid c h has readout.Failed flag w waits over told answers replaces none_starved = absurd replaces
+published_look serial mid c h has readout.NoMemory flag w waits over told answers replaces none_starved = absurd replaces
 
 -- a look that met want of memory
-starved_look : {conf : List ℕ} {p : ℕ} {first : Bundle} {looks : List WatchTurn} {a b : WatchState} {g : GenerationsData} {had : ℕ} (mid c : WatchState) (h : GenerationsData) (has : ℕ)
-    → HasWatched conf p first looks a b g had → AddsWatch b mid (Look 30000 15000 ∷ []) → Starves conf g h mid c → has ≡ min (had + 1) (2 ^ 64 - 1)
-    → Again conf p first looks a c h has
-starved_look {conf} {p} {first} {looks} {a} {b} {g} {had} mid c h has w waits starves want =
+starved_look : {conf : List ℕ} {p : ℕ} {first : Bundle} {looks : List WatchTurn} {a b : WatchState} {g : GenerationsData} {was had : ℕ} (mid c : WatchState) (h : GenerationsData) (has : ℕ)
+    → HasWatched conf p first looks a b g was had → AddsWatch b mid (Look waits.INTERVAL waits.JITTER ∷ []) → Starves conf g h mid c → has ≡ raised had
+    → Again conf p first looks a c h was has
+starved_look {conf} {p} {first} {looks} {a} {b} {g} {was} {had} mid c h has w waits starves want =
     let nothing = append-nil (bundles_of first looks) in
     let same = starves.same in
     record {
@@ -146,26 +152,27 @@ starved_look {conf} {p} {first} {looks} {a} {b} {g} {had} mid c h has w waits st
           })
           (ap length nothing ∙ w.count ∙ ap (λ (x : GenerationsData). x.published) (sym same))
           (nothing ∙ w.last ∙ ap (λ (x : GenerationsData). w.earlier ++ x.chain.bundle ∷ []) (sym same))
-          (ap (λ (x : GenerationsData). x.chain.default_port) same ∙ w.port) (subst (λ (x : GenerationsData). IsChain x.chain) (sym same) w.is) (omega (arith, want));
+          (ap (λ (x : GenerationsData). x.chain.default_port) same ∙ w.port) (subst (λ (x : GenerationsData). IsChain x.chain) (sym same) w.is) (record { least = omega (arith, want); most = omega (arith, want) });
     }
 
-by_answer : {conf : List ℕ} {p : ℕ} {first : Bundle} {looks : List WatchTurn} {a b : WatchState} {g : GenerationsData} {had : ℕ} (answer : Looking) (mid c : WatchState) (h : GenerationsData) (has : ℕ)
-    → HasWatched conf p first looks a b g had → AddsWatch b mid (Look 30000 15000 ∷ []) → LooksOnce conf g h mid c answer → answer ≢ looking.NoReload
-    → (answer ≡ looking.NoMemory → has ≡ min (had + 1) (2 ^ 64 - 1)) → (answer ≢ looking.NoMemory → has ≡ had) → Again conf p first looks a c h has
-by_answer looking.NoReload mid c h has w waits looks made want no_want = absurd (made refl)
-by_answer (looking.ReadFailed name) mid c h has w waits looks made want no_want = kept (looking.ReadFailed name) mid c h has w waits looks refl looks.behind (no_want (λ e. absurd cc))
-by_answer looking.Same mid c h has w waits looks made want no_want = kept looking.Same mid c h has w waits looks refl looks.behind (no_want (λ e. absurd cc))
-by_answer (looking.Refused why) mid c h has w waits looks made want no_want = kept (looking.Refused why) mid c h has w waits looks refl looks.behind (no_want (λ e. absurd cc))
-by_answer (looking.PortsDiffer ports others) mid c h has w waits looks made want no_want = kept (looking.PortsDiffer ports others) mid c h has w waits looks refl looks.behind (no_want (λ e. absurd cc))
-by_answer looking.SerialsSpent mid c h has w waits looks made want no_want = kept looking.SerialsSpent mid c h has w waits looks refl looks.behind (no_want (λ e. absurd cc))
-by_answer (looking.Published serial) mid c h has w waits looks made want no_want =
-    published_look serial mid c h has looks.out looks.flag w waits looks looks.told looks.answers looks.behind (no_want (λ e. absurd cc))
-by_answer looking.NoMemory mid c h has w waits looks made want no_want = starved_look mid c h has w waits looks (want refl)
+by_answer : {conf : List ℕ} {p : ℕ} {first : Bundle} {looks : List WatchTurn} {a b : WatchState} {g : GenerationsData} {was had : ℕ} (answer : Looking) (mid c : WatchState) (h : GenerationsData) (has : ℕ)
+    → HasWatched conf p first looks a b g was had → AddsWatch b mid (Look waits.INTERVAL waits.JITTER ∷ []) → LooksOnce conf g h mid c answer → answer ≢ looking.NoReload
+    → (answer ≡ looking.NoMemory → has ≡ raised had) → (answer ≢ looking.NoMemory → has ≡ had) → Again conf p first looks a c h was has
+by_answer looking.NoReload mid c h has w waits looks made want none_starved = absurd (made refl)
+by_answer (looking.ReadFailed name) mid c h has w waits looks made want none_starved = kept (looking.ReadFailed name) mid c h has w waits looks refl looks.behind (none_starved (λ e. absurd cc))
+by_answer looking.Same mid c h has w waits looks made want none_starved = kept looking.Same mid c h has w waits looks refl looks.behind (none_starved (λ e. absurd cc))
+by_answer (looking.Refused why) mid c h has w waits looks made want none_starved = kept (looking.Refused why) mid c h has w waits looks refl looks.behind (none_starved (λ e. absurd cc))
+by_answer (looking.PortsDiffer ports others) mid c h has w waits looks made want none_starved = kept (looking.PortsDiffer ports others) mid c h has w waits looks refl looks.behind (none_starved (λ e. absurd cc))
+by_answer looking.SerialsSpent mid c h has w waits looks made want none_starved = kept looking.SerialsSpent mid c h has w waits looks refl looks.behind (none_starved (λ e. absurd cc))
+by_answer (looking.Published serial) mid c h has w waits looks made want none_starved =
+    published_look serial mid c h has looks.out looks.flag w waits looks looks.told looks.answers looks.behind (none_starved (λ e. absurd cc))
+by_answer looking.NoMemory mid c h has w waits looks made want none_starved = starved_look mid c h has w waits looks (want refl)
 
 -- a further look, by what the watcher's step came to
-pub looks_on : {conf : List ℕ} {p : ℕ} {first : Bundle} {looks : List WatchTurn} {a b c : WatchState} {g h : GenerationsData} {had has : ℕ}
-    → HasWatched conf p first looks a b g had → LooksAgain conf g h b c had has → Again conf p first looks a c h has
-looks_on {c = c} {h = h} {has = has} w again = by_answer again.answer again.mid c h has w again.looked again.looks again.made again.want again.no_want
+pub looks_on : {conf : List ℕ} {p : ℕ} {first : Bundle} {looks : List WatchTurn} {a : WatchState} {was : ℕ} (before after : LookState)
+    → HasWatched conf p first looks a before.watcher.watch before.serving was before.watcher.starved → LooksAgain conf before after
+    → Again conf p first looks a after.watcher.watch after.serving was after.watcher.starved
+looks_on before after w again = by_answer again.answer again.waited after.watcher.watch after.serving after.watcher.starved w again.looked again.looks again.made again.met again.not_met
 
 same_journal : (journal : Option (List WatchMark)) → OnSome journal (journal ≡ watch_added journal [])
 same_journal None = tt
@@ -175,7 +182,7 @@ watch-adds-nothing : (state : WatchState) → AddsWatch state state []
 watch-adds-nothing state = record { told = same_journal state.journal }
 
 -- nothing was looked at yet
-pub watches : {conf : List ℕ} (state : WatchState) (g : GenerationsData) (starving : ℕ) → IsChain g.chain → g.published ≡ 1 → HasWatched conf g.chain.default_port g.chain.bundle [] state state g starving
+pub watches : {conf : List ℕ} (state : WatchState) (g : GenerationsData) (starving : ℕ) → IsChain g.chain → g.published ≡ 1 → HasWatched conf g.chain.default_port g.chain.bundle [] state state g starving starving
 watches state g starving is one = record {
   told = watch-adds-nothing state;
   are = tt;
@@ -184,5 +191,5 @@ watches state g starving is one = record {
   last = refl;
   port = refl;
   is = is;
-  wants = omega arith;
+  starved = record { least = omega arith; most = omega arith };
 }

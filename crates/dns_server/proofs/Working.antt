@@ -1,5 +1,5 @@
 -- How the turns of a worker go on.
-use Rattle.std.proofs.Common.{◌≡◌, ◌≤◌, ◌<◌, ℕ, ◌+◌, Bool, true, false, List, [], ◌∷◌, ◌++◌, length, Option, Some, None, slice_get, refl, sym, ap, subst, ◌∙◌, arith, inl, inr, add-zero}
+use Rattle.std.proofs.Common.{◌≡◌, ◌≤◌, ◌<◌, ℕ, ◌+◌, ◌-◌, Bool, true, false, List, [], ◌∷◌, ◌++◌, length, Some, None, slice_get, refl, sym, ap, subst, ◌∙◌, arith, inl, inr, add-zero}
 use Rattle.std.specs.List.{flat_map, AllByRecursion}
 use Rattle.std.proofs.lemmas.List.{append-nil}
 use Rattle.std.proofs.lemmas.List.Concat.{flat_map-append, flat_map-cons}
@@ -7,14 +7,17 @@ use Rattle.outside.specs.declared.mark.Mark.{Mark}
 use Rattle.outside.specs.declared.mark.Mark.TheVariants.{RecvEnd, RecvFailed}
 use Rattle.outside.specs.Marks.{Adds, Grows}
 use Rattle.outside.specs.Journals.{adds-nothing, adds-then}
+use Rattle.outside.specs.States.{SideState}
 use Rattle.dns_server.specs.declared.corefile.Bundle.{Bundle}
 use Rattle.dns_server.specs.declared.worker.WorkEnd.TheVariants as ends
-use Rattle.dns_server.specs.Turn.{Turn, failed, replied, silenced, starved, marks_of, IsLawful, datagrams, wants, serials, NeverFall, total}
+use Rattle.dns_server.specs.Turn.{Turn, failed, replied, silenced, starved, marks_of, IsLawful, datagrams, starved_in, serials, NeverFall, total}
 use Rattle.dns_server.specs.declared.worker.Tally.{Tally}
 use Rattle.dns_server.specs.declared.worker.Turned.{Turned}
 use Rattle.dns_server.specs.declared.worker.Turned.TheVariants as turned
 use Rattle.dns_server.specs.declared.worker.WorkEnd.{WorkEnd}
-use Rattle.dns_server.specs.Tally.{TurnEnds, IsIdle, tallied, missed, with_want_in_row}
+use Rattle.dns_server.specs.Generation.{GenerationsData}
+use Rattle.dns_server.specs.States.{RunSetup, worked_of}
+use Rattle.dns_server.specs.Tally.{TurnEnds, IsIdle, tallied, with_miss, starved_in_row}
 use Rattle.dns_server.specs.WatchTurn.{WatchTurn, published_by}
 use Rattle.dns_server.specs.Worker.{IsBy, TakesOne, AddsTurn, last_row, HasNoLongRow, AreTurns, PinsFrom, KeepsPace, WorkerRun}
 
@@ -97,7 +100,7 @@ no_row_failed row (silenced s d m w ∷ turns) short few = no_row_failed 0 turns
 no_row_failed row (starved s d m ∷ turns) short few = no_row_failed 0 turns short few
 
 -- marks that are known are those that were added
-pub adds_just : {a b : Option (List Mark)} {known : List Mark} → Grows a b (λ marks. marks ≡ known) → Adds a b known
+pub adds_just : {a b : SideState} {known : List Mark} → Grows a b (λ marks. marks ≡ known) → Adds a b known
 adds_just {a} {b} grows = subst (Adds a b) grows.are grows.told
 
 -- 1 where a call in the row met want of memory, which leaves no turn
@@ -145,22 +148,22 @@ from_by : (bundle : Bundle) (default_port serial : ℕ) (turn : Turn) → IsBy b
 from_by bundle default_port serial turn is low le = subst (AllByRecursion (λ n. low ≤ n)) (sym (serials_by bundle default_port serial turn is)) (le, tt)
 
 -- what a worker did since its side's journal stood at old, in so many rounds
-pub record HasWorked (bundles : List Bundle) (looks : List WatchTurn) (default_port rounds : ℕ) (old new : Option (List Mark)) (t : Tally) : Type 0 where
+pub record HasWorked (bundles : List Bundle) (looks : List WatchTurn) (default_port rounds : ℕ) (old new : SideState) (t : Tally) : Type 0 where
   pub turns : List Turn
   pub told : Adds old new (flat_map marks_of turns)
   pub are : AreTurns bundles default_port t.pins t.starved turns
   pub seen : AllByRecursion (λ n. n ≤ t.seen) (flat_map serials turns)
   pub no_row : HasNoLongRow 0 turns
-  pub row : last_row 0 turns + one_if t.has_want ≤ t.failures
-  pub whole : t.has_want ≡ false → last_row 0 turns ≡ t.failures
+  pub row : last_row 0 turns + one_if t.has_starved ≤ t.failures
+  pub whole : t.has_starved ≡ false → last_row 0 turns ≡ t.failures
   pub pace : KeepsPace 0 looks turns
   pub few : length turns ≤ rounds
 
-pub starts : {bundles : List Bundle} {default_port : ℕ} (a : Option (List Mark)) (t : Tally) → IsIdle t → HasWorked bundles [] default_port 0 a a t
+pub starts : {bundles : List Bundle} {default_port : ℕ} (a : SideState) (t : Tally) → IsIdle t → HasWorked bundles [] default_port 0 a a t
 starts {bundles} {default_port} a t idle = subst (HasWorked bundles [] default_port 0 a a) (sym idle) (record {
   turns = [];
   told = adds-nothing a;
-  are = record { lawful = tt; in_order = tt; datagrams_are = refl; wants_at_most = omega arith };
+  are = record { lawful = tt; in_order = tt; datagrams_are = refl; starved_at_most = omega arith };
   seen = tt;
   no_row = tt;
   row = omega arith;
@@ -170,36 +173,41 @@ starts {bundles} {default_port} a t idle = subst (HasWorked bundles [] default_p
 })
 
 -- a turn that took a datagram
-takes : {bundles : List Bundle} {bundle : Bundle} {looks : List WatchTurn} {p s rounds : ℕ} {a b c : Option (List Mark)} {t : Tally} (want : ℕ)
-    → slice_get bundles s ≡ Some bundle → t.seen ≤ s → count_published looks ≤ s → HasWorked bundles looks p rounds a b t → Grows b c (TakesOne bundle p s want)
-    → HasWorked bundles looks p (rounds + 1) a c (record { pins = t.pins + 1; seen = s; starved = t.starved + want; failures = 0; has_want = false })
-takes {bundles} {bundle} {looks} {p} {s} {rounds} {a} {b} {c} {t} want at rises ahead w grows =
+takes : {bundles : List Bundle} {g : GenerationsData} {looks : List WatchTurn} {p rounds : ℕ} {a b c : SideState} {t : Tally} (s want : ℕ)
+    → slice_get bundles (g.published - 1) ≡ Some g.chain.bundle → g.chain.default_port ≡ p → t.seen ≤ g.published - 1 → count_published looks ≤ g.published - 1
+    → HasWorked bundles looks p rounds a b t → Grows b c (TakesOne g s want)
+    → HasWorked bundles looks p (rounds + 1) a c (record { pins = t.pins + 1; seen = s; starved = t.starved + want; failures = 0; has_starved = false })
+takes {bundles} {g} {looks} {p} {rounds} {a} {b} {c} {t} s want at port rises ahead w grows =
     let turn = grows.are.turn in
-    let is = grows.are.by_bundle in
-    let below = all_below t.seen s (flat_map serials w.turns) rises w.seen in
+    let one = grows.are.last in
+    let serial : g.published - 1 ≡ s = omega (arith, one) in
+    let here : slice_get bundles s ≡ Some g.chain.bundle = subst (λ (n : ℕ). slice_get bundles n ≡ Some g.chain.bundle) serial at in
+    let is : IsBy g.chain.bundle p s turn = subst (λ (q : ℕ). IsBy g.chain.bundle q s turn) port grows.are.by_bundle in
+    let later : t.seen ≤ s = omega (arith, rises, serial) in
+    let below = all_below t.seen s (flat_map serials w.turns) later w.seen in
     let same : flat_map marks_of w.turns ++ grows.marks ≡ flat_map marks_of (w.turns ++ turn ∷ []) =
     ap (λ (l : List Mark). flat_map marks_of w.turns ++ l) grows.are.told ∙ sym (marks-push w.turns turn) in
     let serials_are : flat_map serials (w.turns ++ turn ∷ []) ≡ flat_map serials w.turns ++ s ∷ [] =
-    serials-push w.turns turn ∙ ap (λ (l : List ℕ). flat_map serials w.turns ++ l) (serials_by bundle p s turn is) in
+    serials-push w.turns turn ∙ ap (λ (l : List ℕ). flat_map serials w.turns ++ l) (serials_by g.chain.bundle p s turn is) in
     record {
       turns = w.turns ++ turn ∷ [];
       told = subst (Adds a c) same (adds-then w.told grows.told);
       are = record {
-        lawful = all-push (IsLawful bundles p) w.turns turn w.are.lawful (lawful_by bundles bundle p s turn at is);
+        lawful = all-push (IsLawful bundles p) w.turns turn w.are.lawful (lawful_by bundles g.chain.bundle p s turn here is);
         in_order = rw serials_are (never_fall-push 0 s (flat_map serials w.turns) w.are.in_order below (omega arith));
-        datagrams_are = omega (arith, total-push datagrams w.turns turn, w.are.datagrams_are, datagrams_by bundle p s turn is);
-        wants_at_most = omega (arith, total-push wants w.turns turn, w.are.wants_at_most, grows.are.wants_are);
+        datagrams_are = omega (arith, total-push datagrams w.turns turn, w.are.datagrams_are, datagrams_by g.chain.bundle p s turn is);
+        starved_at_most = omega (arith, total-push starved_in w.turns turn, w.are.starved_at_most, grows.are.starved_are);
       };
       seen = rw serials_are (all-push (λ n. n ≤ s) (flat_map serials w.turns) s below (omega arith));
-      no_row = no_row_by 0 w.turns bundle p s turn w.no_row is;
-      row = omega (arith, row_by 0 w.turns bundle p s turn is);
-      whole = λ e. row_by 0 w.turns bundle p s turn is;
-      pace = pace-turn 0 looks w.turns turn w.pace (λ low le. from_by bundle p s turn is low (omega (arith, le, ahead)));
+      no_row = no_row_by 0 w.turns g.chain.bundle p s turn w.no_row is;
+      row = omega (arith, row_by 0 w.turns g.chain.bundle p s turn is);
+      whole = λ e. row_by 0 w.turns g.chain.bundle p s turn is;
+      pace = pace-turn 0 looks w.turns turn w.pace (λ low le. from_by g.chain.bundle p s turn is low (omega (arith, le, ahead, serial)));
       few = omega (arith, length-push w.turns turn, w.few);
     }
 
 -- the journal behind a receive that failed
-failed_told : {a b c : Option (List Mark)} (turns : List Turn) → Adds a b (flat_map marks_of turns) → Adds b c (RecvFailed ∷ []) → Adds a c (flat_map marks_of (turns ++ failed ∷ []))
+failed_told : {a b c : SideState} (turns : List Turn) → Adds a b (flat_map marks_of turns) → Adds b c (RecvFailed ∷ []) → Adds a c (flat_map marks_of (turns ++ failed ∷ []))
 failed_told {a} {b} {c} turns told adds = subst (Adds a c) (sym (marks-push turns failed)) (adds-then told adds)
 
 failed_are : {bundles : List Bundle} {p pins starving : ℕ} (turns : List Turn) → AreTurns bundles p pins starving turns → AreTurns bundles p pins starving (turns ++ failed ∷ [])
@@ -209,7 +217,7 @@ failed_are {bundles} {p} turns are =
       lawful = all-push (IsLawful bundles p) turns failed are.lawful tt;
       in_order = rw same are.in_order;
       datagrams_are = omega (arith, total-push datagrams turns failed, are.datagrams_are);
-      wants_at_most = omega (arith, total-push wants turns failed, are.wants_at_most);
+      starved_at_most = omega (arith, total-push starved_in turns failed, are.starved_at_most);
     }
 
 failed_seen : (s : ℕ) (turns : List Turn) → AllByRecursion (λ n. n ≤ s) (flat_map serials turns) → AllByRecursion (λ n. n ≤ s) (flat_map serials (turns ++ failed ∷ []))
@@ -221,9 +229,9 @@ failed_pace : (looks : List WatchTurn) (turns : List Turn) → KeepsPace 0 looks
 failed_pace looks turns pace = pace-turn 0 looks turns failed pace (λ low le. tt)
 
 -- a receive that failed, where the row is not long yet
-fails : {bundles : List Bundle} {looks : List WatchTurn} {p rounds : ℕ} {a b c : Option (List Mark)} {t : Tally}
+fails : {bundles : List Bundle} {looks : List WatchTurn} {p rounds : ℕ} {a b c : SideState} {t : Tally}
     → HasWorked bundles looks p rounds a b t → Adds b c (RecvFailed ∷ []) → t.failures + 1 < 64
-    → HasWorked bundles looks p (rounds + 1) a c (missed t)
+    → HasWorked bundles looks p (rounds + 1) a c (with_miss t)
 fails {looks = looks} {t = t} w adds few = record {
   turns = w.turns ++ failed ∷ [];
   told = failed_told w.turns w.told adds;
@@ -237,12 +245,12 @@ fails {looks = looks} {t = t} w adds few = record {
 }
 
 -- a receive that met want of memory
-meets_want : {bundles : List Bundle} {looks : List WatchTurn} {p rounds : ℕ} {a b c : Option (List Mark)} {t : Tally}
-    → HasWorked bundles looks p rounds a b t → Adds b c [] → HasWorked bundles looks p (rounds + 1) a c (missed (with_want_in_row t))
+meets_want : {bundles : List Bundle} {looks : List WatchTurn} {p rounds : ℕ} {a b c : SideState} {t : Tally}
+    → HasWorked bundles looks p rounds a b t → Adds b c [] → HasWorked bundles looks p (rounds + 1) a c (with_miss (starved_in_row t))
 meets_want {a = a} {c = c} w adds = record {
   turns = w.turns;
   told = subst (Adds a c) (append-nil (flat_map marks_of w.turns)) (adds-then w.told adds);
-  are = record { lawful = w.are.lawful; in_order = w.are.in_order; datagrams_are = w.are.datagrams_are; wants_at_most = omega (arith, w.are.wants_at_most) };
+  are = record { lawful = w.are.lawful; in_order = w.are.in_order; datagrams_are = w.are.datagrams_are; starved_at_most = omega (arith, w.are.starved_at_most) };
   seen = w.seen;
   no_row = w.no_row;
   row = omega (arith, w.row);
@@ -252,14 +260,14 @@ meets_want {a = a} {c = c} w adds = record {
 }
 
 -- a worker's run that has ended, in so many rounds
-pub record Stopped (bundles : List Bundle) (looks : List WatchTurn) (p most rounds : ℕ) (a c : Option (List Mark)) (t : Tally) (end : WorkEnd) : Type 0 where
-  pub run : Grows a c (WorkerRun bundles looks p most t.pins t.seen t.starved end)
+pub record Stopped (setup : RunSetup) (bundles : List Bundle) (looks : List WatchTurn) (rounds : ℕ) (a c : SideState) (t : Tally) (end : WorkEnd) : Type 0 where
+  pub run : Grows a c (WorkerRun setup bundles looks (worked_of t end))
   pub few : length run.are.turns ≤ rounds
 
 -- the side's end
-ends_with : {bundles : List Bundle} {looks : List WatchTurn} {p rounds : ℕ} {a b c : Option (List Mark)} {t : Tally} (most : ℕ)
-    → HasWorked bundles looks p rounds a b t → Adds b c (RecvEnd ∷ []) → t.pins ≤ most → Stopped bundles looks p most (rounds + 1) a c t ends.End
-ends_with most w adds le = record {
+ends_with : {bundles : List Bundle} {looks : List WatchTurn} {rounds : ℕ} {a b c : SideState} {t : Tally} (setup : RunSetup)
+    → HasWorked bundles looks setup.default_port rounds a b t → Adds b c (RecvEnd ∷ []) → t.pins ≤ setup.most → Stopped setup bundles looks (rounds + 1) a c t ends.End
+ends_with setup w adds le = record {
   run = record {
     marks = _;
     told = adds-then w.told adds;
@@ -269,9 +277,9 @@ ends_with most w adds le = record {
 }
 
 -- the last datagram was taken
-takes_last : {bundles : List Bundle} {looks : List WatchTurn} {p rounds : ℕ} {a b : Option (List Mark)} {t : Tally} (most : ℕ)
-    → HasWorked bundles looks p rounds a b t → t.pins ≡ most → Stopped bundles looks p most rounds a b t ends.End
-takes_last most w last = record {
+takes_last : {bundles : List Bundle} {looks : List WatchTurn} {rounds : ℕ} {a b : SideState} {t : Tally} (setup : RunSetup)
+    → HasWorked bundles looks setup.default_port rounds a b t → t.pins ≡ setup.most → Stopped setup bundles looks rounds a b t ends.End
+takes_last setup w last = record {
   run = record {
     marks = _;
     told = w.told;
@@ -290,10 +298,10 @@ takes_last most w last = record {
 }
 
 -- the 64th receive in a row failed, and none of them met want of memory
-fails_last : {bundles : List Bundle} {looks : List WatchTurn} {p rounds : ℕ} {a b c : Option (List Mark)} {t : Tally} (most : ℕ)
-    → HasWorked bundles looks p rounds a b t → Adds b c (RecvFailed ∷ []) → t.failures + 1 ≡ 64 → t.has_want ≡ false → t.pins ≤ most
-    → Stopped bundles looks p most (rounds + 1) a c (missed t) ends.RecvFailed
-fails_last {looks = looks} {t = t} most w adds last no_want le = record {
+fails_last : {bundles : List Bundle} {looks : List WatchTurn} {rounds : ℕ} {a b c : SideState} {t : Tally} (setup : RunSetup)
+    → HasWorked bundles looks setup.default_port rounds a b t → Adds b c (RecvFailed ∷ []) → t.failures + 1 ≡ 64 → t.has_starved ≡ false → t.pins ≤ setup.most
+    → Stopped setup bundles looks (rounds + 1) a c (with_miss t) ends.RecvFailed
+fails_last {looks = looks} {t = t} setup w adds last none_starved le = record {
   run = record {
     marks = _;
     told = failed_told w.turns w.told adds;
@@ -305,20 +313,20 @@ fails_last {looks = looks} {t = t} most w adds last no_want le = record {
       at_most = le;
       seen_all = failed_seen t.seen w.turns w.seen;
       pace = failed_pace looks w.turns w.pace;
-      ends = (record { before = w.turns; last = refl; row = let whole = w.whole no_want in omega (arith, whole, last); first = w.no_row }, refl);
+      ends = (record { before = w.turns; last = refl; row = let whole = w.whole none_starved in omega (arith, whole, last); first = w.no_row }, refl);
     };
   };
   few = omega (arith, length-push w.turns failed, w.few);
 }
 
-one_of_true : (has_want : Bool) → has_want ≡ true → one_if has_want ≡ 1
-one_of_true has_want is = ap one_if is
+one_of_true : (has_starved : Bool) → has_starved ≡ true → one_if has_starved ≡ 1
+one_of_true has_starved is = ap one_if is
 
 -- the 64th receive in a row failed, and one of them met want of memory
-fails_with_want : {bundles : List Bundle} {looks : List WatchTurn} {p rounds : ℕ} {a b c : Option (List Mark)} {t : Tally} (most : ℕ)
-    → HasWorked bundles looks p rounds a b t → Adds b c (RecvFailed ∷ []) → t.failures + 1 ≡ 64 → t.has_want ≡ true → t.pins ≤ most
-    → Stopped bundles looks p most (rounds + 1) a c (missed t) ends.NoMemory
-fails_with_want {looks = looks} {t = t} most w adds last has_want le = record {
+fails_with_want : {bundles : List Bundle} {looks : List WatchTurn} {rounds : ℕ} {a b c : SideState} {t : Tally} (setup : RunSetup)
+    → HasWorked bundles looks setup.default_port rounds a b t → Adds b c (RecvFailed ∷ []) → t.failures + 1 ≡ 64 → t.has_starved ≡ true → t.pins ≤ setup.most
+    → Stopped setup bundles looks (rounds + 1) a c (with_miss t) ends.NoMemory
+fails_with_want {looks = looks} {t = t} setup w adds last has_starved le = record {
   run = record {
     marks = _;
     told = failed_told w.turns w.told adds;
@@ -330,16 +338,16 @@ fails_with_want {looks = looks} {t = t} most w adds last has_want le = record {
       at_most = le;
       seen_all = failed_seen t.seen w.turns w.seen;
       pace = failed_pace looks w.turns w.pace;
-      ends = (no_row_failed 0 w.turns w.no_row (omega (arith, w.row, last, one_of_true t.has_want has_want)), refl);
+      ends = (no_row_failed 0 w.turns w.no_row (omega (arith, w.row, last, one_of_true t.has_starved has_starved)), refl);
     };
   };
   few = omega (arith, length-push w.turns failed, w.few);
 }
 
 -- the 64th receive in a row met want of memory
-meets_last_want : {bundles : List Bundle} {looks : List WatchTurn} {p rounds : ℕ} {a b c : Option (List Mark)} {t : Tally} (most : ℕ)
-    → HasWorked bundles looks p rounds a b t → Adds b c [] → t.pins ≤ most → Stopped bundles looks p most (rounds + 1) a c (missed (with_want_in_row t)) ends.NoMemory
-meets_last_want most w adds le =
+meets_last_want : {bundles : List Bundle} {looks : List WatchTurn} {rounds : ℕ} {a b c : SideState} {t : Tally} (setup : RunSetup)
+    → HasWorked bundles looks setup.default_port rounds a b t → Adds b c [] → t.pins ≤ setup.most → Stopped setup bundles looks (rounds + 1) a c (with_miss (starved_in_row t)) ends.NoMemory
+meets_last_want setup w adds le =
     let h = meets_want w adds in
     record {
       run = record {
@@ -360,34 +368,36 @@ meets_last_want most w adds le =
     }
 
 -- a turn that isn't the last
-pub goes_on : {bundles : List Bundle} {looks : List WatchTurn} {bundle : Bundle} {p s rounds : ℕ} {a b c : Option (List Mark)} {t : Tally} (most : ℕ) (turned : Turned)
-    → slice_get bundles s ≡ Some bundle → t.seen ≤ s → count_published looks ≤ s → HasWorked bundles looks p rounds a b t → Grows b c (AddsTurn bundle p s turned)
-    → TurnEnds most turned (tallied s turned t) None → HasWorked bundles looks p (rounds + 1) a c (tallied s turned t)
-goes_on {bundles} {looks} {p = p} {s = s} {rounds = rounds} {a = a} {c = c} {t = t} most turned.Answered at rises ahead w grows ends =
-    subst (λ (n : ℕ). HasWorked bundles looks p (rounds + 1) a c (record { pins = t.pins + 1; seen = s; starved = n; failures = 0; has_want = false })) (add-zero t.starved) (takes 0 at rises ahead w grows)
-goes_on most turned.Starved at rises ahead w grows ends = takes 1 at rises ahead w grows
-goes_on most turned.RecvFailed at rises ahead w grows ends = fails w (adds_just grows) ends
-goes_on most turned.RecvStarved at rises ahead w grows ends = meets_want w (adds_just grows)
-goes_on most turned.RecvEnd at rises ahead w grows ends = absurd cc
+pub goes_on : {bundles : List Bundle} {looks : List WatchTurn} {rounds : ℕ} {a b c : SideState} {t : Tally} (setup : RunSetup) (g : GenerationsData) (what : Turned)
+    → slice_get bundles (g.published - 1) ≡ Some g.chain.bundle → g.chain.default_port ≡ setup.default_port → t.seen ≤ g.published - 1 → count_published looks ≤ g.published - 1
+    → HasWorked bundles looks setup.default_port rounds a b t → Grows b c (AddsTurn g what)
+    → TurnEnds setup.most what (tallied what t) None → HasWorked bundles looks setup.default_port (rounds + 1) a c (tallied what t)
+goes_on {bundles} {looks} {rounds} {a} {b} {c} {t} setup g (turned.Answered s) at port rises ahead w grows ends =
+    subst (λ (n : ℕ). HasWorked bundles looks setup.default_port (rounds + 1) a c (record { pins = t.pins + 1; seen = s; starved = n; failures = 0; has_starved = false })) (add-zero t.starved) (takes s 0 at port rises ahead w grows)
+goes_on setup g (turned.Starved s) at port rises ahead w grows ends = takes s 1 at port rises ahead w grows
+goes_on setup g turned.RecvFailed at port rises ahead w grows ends = fails w (adds_just grows) ends
+goes_on setup g turned.RecvStarved at port rises ahead w grows ends = meets_want w (adds_just grows)
+goes_on setup g turned.RecvEnd at port rises ahead w grows ends = absurd cc
 
 -- the last turn
-pub stops : {bundles : List Bundle} {looks : List WatchTurn} {bundle : Bundle} {p s rounds : ℕ} {a b c : Option (List Mark)} {t : Tally} (most : ℕ) (turned : Turned) (end : WorkEnd)
-    → slice_get bundles s ≡ Some bundle → t.seen ≤ s → count_published looks ≤ s → t.pins < most → HasWorked bundles looks p rounds a b t → Grows b c (AddsTurn bundle p s turned)
-    → TurnEnds most turned (tallied s turned t) (Some end)
-    → Stopped bundles looks p most (rounds + 1) a c (tallied s turned t) end
-stops {bundles} {looks} {p = p} {s = s} {rounds = rounds} {a = a} {c = c} {t = t} most turned.Answered ends.End at rises ahead more w grows last =
-    takes_last most (subst (λ (n : ℕ). HasWorked bundles looks p (rounds + 1) a c (record { pins = t.pins + 1; seen = s; starved = n; failures = 0; has_want = false })) (add-zero t.starved) (takes 0 at rises ahead w grows)) last
-stops most turned.Answered ends.RecvFailed at rises ahead more w grows last = absurd last
-stops most turned.Answered ends.NoMemory at rises ahead more w grows last = absurd last
-stops most turned.Starved ends.End at rises ahead more w grows last = takes_last most (takes 1 at rises ahead w grows) last
-stops most turned.Starved ends.RecvFailed at rises ahead more w grows last = absurd last
-stops most turned.Starved ends.NoMemory at rises ahead more w grows last = absurd last
-stops most turned.RecvFailed ends.End at rises ahead more w grows last = absurd last
-stops most turned.RecvFailed ends.RecvFailed at rises ahead more w grows last = fails_last most w (adds_just grows) last.0 last.1 (omega (arith, more))
-stops most turned.RecvFailed ends.NoMemory at rises ahead more w grows last = fails_with_want most w (adds_just grows) last.0 last.1 (omega (arith, more))
-stops most turned.RecvStarved ends.End at rises ahead more w grows last = absurd last
-stops most turned.RecvStarved ends.RecvFailed at rises ahead more w grows last = absurd (let no_want = last.1 in cc)
-stops most turned.RecvStarved ends.NoMemory at rises ahead more w grows last = meets_last_want most w (adds_just grows) (omega (arith, more))
-stops most turned.RecvEnd ends.End at rises ahead more w grows last = ends_with most w (adds_just grows) (omega (arith, more))
-stops most turned.RecvEnd ends.RecvFailed at rises ahead more w grows last = absurd cc
-stops most turned.RecvEnd ends.NoMemory at rises ahead more w grows last = absurd cc
+pub stops : {bundles : List Bundle} {looks : List WatchTurn} {rounds : ℕ} {a b c : SideState} {t : Tally} (setup : RunSetup) (g : GenerationsData) (what : Turned) (end : WorkEnd)
+    → slice_get bundles (g.published - 1) ≡ Some g.chain.bundle → g.chain.default_port ≡ setup.default_port → t.seen ≤ g.published - 1 → count_published looks ≤ g.published - 1 → t.pins < setup.most
+    → HasWorked bundles looks setup.default_port rounds a b t → Grows b c (AddsTurn g what)
+    → TurnEnds setup.most what (tallied what t) (Some end)
+    → Stopped setup bundles looks (rounds + 1) a c (tallied what t) end
+stops {bundles} {looks} {rounds} {a} {b} {c} {t} setup g (turned.Answered s) ends.End at port rises ahead more w grows last =
+    takes_last setup (subst (λ (n : ℕ). HasWorked bundles looks setup.default_port (rounds + 1) a c (record { pins = t.pins + 1; seen = s; starved = n; failures = 0; has_starved = false })) (add-zero t.starved) (takes s 0 at port rises ahead w grows)) last
+stops setup g (turned.Answered s) ends.RecvFailed at port rises ahead more w grows last = absurd last
+stops setup g (turned.Answered s) ends.NoMemory at port rises ahead more w grows last = absurd last
+stops setup g (turned.Starved s) ends.End at port rises ahead more w grows last = takes_last setup (takes s 1 at port rises ahead w grows) last
+stops setup g (turned.Starved s) ends.RecvFailed at port rises ahead more w grows last = absurd last
+stops setup g (turned.Starved s) ends.NoMemory at port rises ahead more w grows last = absurd last
+stops setup g turned.RecvFailed ends.End at port rises ahead more w grows last = absurd last
+stops setup g turned.RecvFailed ends.RecvFailed at port rises ahead more w grows last = fails_last setup w (adds_just grows) last.0 last.1 (omega (arith, more))
+stops setup g turned.RecvFailed ends.NoMemory at port rises ahead more w grows last = fails_with_want setup w (adds_just grows) last.0 last.1 (omega (arith, more))
+stops setup g turned.RecvStarved ends.End at port rises ahead more w grows last = absurd last
+stops setup g turned.RecvStarved ends.RecvFailed at port rises ahead more w grows last = absurd (let none_starved = last.1 in cc)
+stops setup g turned.RecvStarved ends.NoMemory at port rises ahead more w grows last = meets_last_want setup w (adds_just grows) (omega (arith, more))
+stops setup g turned.RecvEnd ends.End at port rises ahead more w grows last = ends_with setup w (adds_just grows) (omega (arith, more))
+stops setup g turned.RecvEnd ends.RecvFailed at port rises ahead more w grows last = absurd cc
+stops setup g turned.RecvEnd ends.NoMemory at port rises ahead more w grows last = absurd cc

@@ -1,5 +1,6 @@
 -- The grammar of the command line: `serve --conf FILE [--queries N]`. This server's own rule.
-use Rattle.std.specs.Prelude.{◌≡◌, ◌≤◌, ◌≢◌, ℕ, ◌^◌, List, [], ◌∷◌, codes, slice_index}
+use Rattle.std.specs.Prelude.{◌≡◌, ◌≤◌, ◌≢◌, ℕ, List, [], ◌∷◌, codes, slice_index}
+use Rattle.dns_data.specs.declared.limit.TheConstants as limits
 use Rattle.dns_server.specs.Number.{IsNumber}
 
 -- the file to serve by, and how many datagrams a worker takes at most
@@ -14,9 +15,10 @@ pub record IsValue (word : List ℕ) : Type 0 where
 
 -- the words behind the file: none, or a number of queries from 1 to 1,000,000,000
 abbrev pub LimitsQueries : List (List ℕ) → ℕ → Type 0
-LimitsQueries [] most = most ≡ 2 ^ 46
+LimitsQueries [] most = most ≡ limits.TURNS
 LimitsQueries (option ∷ []) most = ⊥
-LimitsQueries (option ∷ number ∷ []) most = (option ≡ codes "--queries") × IsNumber 10 number most × (1 ≤ most) × (most ≤ 1000000000)
+LimitsQueries (option ∷ number ∷ []) most =
+    (option ≡ codes "--queries") × IsNumber 10 number most × (1 ≤ most) × (most ≤ limits.QUERIES)
 LimitsQueries (option ∷ number ∷ word ∷ words) most = ⊥
 
 -- the words are this command

@@ -6,7 +6,8 @@ use Rattle.pin_core.specs.declared.slots.Phase.TheVariants.{Free}
 use Rattle.pin_core.specs.Machine.{Machine, IsSound, slot_at, worker_at, count}
 use Rattle.pin_core.specs.Slots.{is_current}
 
--- one slot is current and the others are free; the one worker has this open pin, and so many generations were published
+-- one slot is current and the others are free; the one worker has this open pin, and so many
+-- generations were published
 pub record OneServes (m : Machine) (slot : ℕ) (held : Option ℕ) (pins published : ℕ) : Type 0 where
   pub sound : IsSound m
   pub one_worker : count m ≡ 1
@@ -17,7 +18,8 @@ pub record OneServes (m : Machine) (slot : ℕ) (held : Option ℕ) (pins publis
   pub counted : m.published ≡ published
   pub some : 0 < published
 
--- so many generations were published, the worker made so many pins, whether one of them is open, and the last chain
+-- so many generations were published, the worker made so many pins, whether one of them is open,
+-- and the last chain
 pub record GenerationsData : Type 0 where
   pub published : ℕ
   pub pins : ℕ
@@ -25,7 +27,13 @@ pub record GenerationsData : Type 0 where
   pub chain : Chain
 
 abbrev pub generations_of : Machine → Chain → GenerationsData
-generations_of m chain = record { published = m.published; pins = (worker_at m 0).pins; pinned = is_some (worker_at m 0).held; chain = chain }
+generations_of m chain =
+    record {
+      published = m.published;
+      pins = (worker_at m 0).pins;
+      pinned = is_some (worker_at m 0).held;
+      chain = chain;
+    }
 
 -- the worker's pin, where it has one, is on the current slot
 abbrev pub IsHeldAt : ℕ → Option ℕ → Type 0

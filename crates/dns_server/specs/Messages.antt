@@ -1,4 +1,5 @@
--- The lines that an operator sees: that of each refusal, of each status and of each look. This server's own rule.
+-- The lines that an operator sees: that of each refusal, of each status and of each look. This
+-- server's own rule.
 use Rattle.std.specs.Prelude.{ℕ, List, [], ◌++◌, codes}
 use Rattle.std.specs.Fmt.{decimal}
 use Rattle.corefile_words.specs.declared.fault.WordsFault.{WordsFault}
@@ -6,10 +7,10 @@ use Rattle.corefile_words.specs.declared.fault.WordsFault.TheVariants as words
 use Rattle.dns_server.specs.declared.corefile.CorefileFault.TheVariants.{Words}
 use Rattle.dns_server.specs.declared.looking.Looking.{Looking}
 use Rattle.dns_server.specs.declared.looking.Looking.TheVariants as looking
-use Rattle.dns_server.specs.declared.report.Refusal.{Refusal}
-use Rattle.dns_server.specs.declared.report.Refusal.TheVariants as refusal
-use Rattle.dns_server.specs.declared.report.Status.{Status}
-use Rattle.dns_server.specs.declared.report.Status.TheVariants as status
+use Rattle.dns_server.specs.declared.refusal.Refusal.{Refusal}
+use Rattle.dns_server.specs.declared.refusal.Refusal.TheVariants as refusal
+use Rattle.dns_server.specs.declared.status.Status.{Status}
+use Rattle.dns_server.specs.declared.status.Status.TheVariants as status
 
 -- a fault at a line of the Corefile
 abbrev pub at_line : ℕ → List ℕ → List ℕ
@@ -28,9 +29,11 @@ refusal_text (refusal.Corefile (Words fault)) = words_text fault
 refusal_text (refusal.Unknown line) = at_line line (codes ": unknown directive")
 refusal_text refusal.Unbuilt = codes "not built yet"
 
--- the line of a status, without a line end. A run that ended has none, and where telling failed, nothing further is told.
+-- the line of a status, without a line end. A run that ended has none, and where telling failed,
+-- nothing further is told.
 abbrev pub status_text : Status → List ℕ
-status_text status.Usage = codes "usage: dnschain serve --conf FILE [--port N] [--workers N] [--queries N], or dnschain load N"
+status_text status.Usage =
+    codes "usage: dnschain serve --conf FILE [--port N] [--workers N] [--queries N], or dnschain load N"
 status_text (status.ReadFailed name) = codes "cannot read " ++ name
 status_text status.OpenFailed = codes "cannot open"
 status_text status.TellFailed = []
@@ -39,7 +42,8 @@ status_text status.NoMemory = codes "out of memory"
 status_text status.WorkerFailed = codes "a worker could not receive"
 status_text status.Ended = []
 
--- the line that notes a look, without a line end. A look that changed nothing, or met want of memory, has none.
+-- the line that notes a look, without a line end. A look that changed nothing, or met want of
+-- memory, has none.
 abbrev pub look_text : Looking → List ℕ
 look_text looking.NoReload = []
 look_text (looking.ReadFailed name) = codes "reload cannot read " ++ name

@@ -16,4 +16,5 @@ pub record IsNumber (most : ℕ) (text : List ℕ) (number : ℕ) : Type 0 where
 
 -- whether a text is one to so many digits
 abbrev pub is_number : ℕ → List ℕ → Bool
-is_number most text = nat_le 1 (length text) && nat_le (length text) most && list_all is_ascii_digit text
+is_number most text =
+    nat_le 1 (length text) && nat_le (length text) most && list_all is_ascii_digit text

@@ -1,4 +1,5 @@
--- The opening of a run: the read that gives the first bundle, and the sides that it wants. This server's own rule.
+-- The opening of a run: the read that gives the first bundle, and the sides that it wants. This
+-- server's own rule.
 use Rattle.std.specs.Prelude.{◌≡◌, ◌⊎◌, ℕ, List, [], ◌∷◌, Option, Some, None, Result, Ok, Err}
 use Rattle.dns_data.specs.declared.message.Transport.TheVariants.{Udp}
 use Rattle.outside.specs.declared.watch.ReadOut.{ReadOut}
@@ -7,15 +8,18 @@ use Rattle.outside.specs.declared.mark.WatchMark.{WatchMark}
 use Rattle.outside.specs.declared.mark.WatchMark.TheVariants.{Read}
 use Rattle.outside.specs.Causes.{Rose}
 use Rattle.outside.specs.Hosts.{OpenedSide}
-use Rattle.outside.specs.WatchMarks.{WatchState, AddsWatch}
+use Rattle.outside.specs.States.{WatchState}
+use Rattle.outside.specs.WatchMarks.{AddsWatch}
 use Rattle.dns_server.specs.declared.chain.Chain.{Chain}
 use Rattle.dns_server.specs.declared.corefile.Block.{Block}
 use Rattle.dns_server.specs.declared.corefile.Bundle.{Bundle}
 use Rattle.dns_server.specs.declared.corefile.Corefile.{Corefile}
+use Rattle.dns_server.specs.declared.corefile.ReadFault.{ReadFault}
+use Rattle.dns_server.specs.declared.corefile.ReadFault.TheVariants as unread
 use Rattle.dns_server.specs.declared.first.FirstFault.{FirstFault}
 use Rattle.dns_server.specs.declared.first.FirstFault.TheVariants as fault
-use Rattle.dns_server.specs.declared.report.Refusal.{Refusal}
-use Rattle.dns_server.specs.declared.report.Refusal.TheVariants.{NoCorefile}
+use Rattle.dns_server.specs.declared.refusal.Refusal.{Refusal}
+use Rattle.dns_server.specs.declared.refusal.Refusal.TheVariants.{NoCorefile}
 use Rattle.dns_server.specs.Corefile.{IsRefusedText}
 use Rattle.dns_server.specs.Serve.{IsAccepted, IsChain}
 
@@ -47,7 +51,8 @@ Refuses default_port readout.Failed why = ⊥
 Refuses default_port readout.NoMemory why = ⊥
 
 -- what reading the first bundle answers, and the marks that it adds to the watch's journal
-pub record ReadsRefused (conf : List ℕ) (default_port : ℕ) (why : Refusal) (old new : WatchState) : Type 0 where
+pub record ReadsRefused (conf : List ℕ) (default_port : ℕ) (why : Refusal) (old new : WatchState)
+    : Type 0 where
   pub out : ReadOut
   pub told : AddsWatch old new (Read conf out ∷ [])
   pub refused : Refuses default_port out why
@@ -58,15 +63,18 @@ pub record ReadsAtMost (conf : List ℕ) (old new : WatchState) : Type 0 where
   pub told : AddsWatch old new marks
   pub are : (marks ≡ []) ⊎ IsOneRead conf marks
 
-pub record ReadsChain (conf : List ℕ) (default_port : ℕ) (old new : WatchState) (chain : Chain) : Type 0 where
+pub record ReadsChain (conf : List ℕ) (default_port : ℕ) (old new : WatchState) (chain : Chain)
+    : Type 0 where
   pub told : AddsWatch old new (Read conf (readout.Got chain.bundle.conf) ∷ [])
   pub port : chain.default_port ≡ default_port
   pub is : IsChain chain
 
 abbrev pub ReadsFirst : List ℕ → ℕ → WatchState → WatchState → Result Chain FirstFault → Type 0
 ReadsFirst conf default_port old new (Ok chain) = ReadsChain conf default_port old new chain
-ReadsFirst conf default_port old new (Err (fault.Refused why)) = ReadsRefused conf default_port why old new
-ReadsFirst conf default_port old new (Err fault.ReadFailed) = AddsWatch old new (Read conf readout.Failed ∷ []) × Rose old.counts.reads new.counts.reads
+ReadsFirst conf default_port old new (Err (fault.Refused why)) =
+    ReadsRefused conf default_port why old new
+ReadsFirst conf default_port old new (Err fault.ReadFailed) =
+    AddsWatch old new (Read conf readout.Failed ∷ []) × Rose old.counts.reads new.counts.reads
 ReadsFirst conf default_port old new (Err fault.NoMemory) = ReadsAtMost conf old new
 
 -- what the bytes of a first bundle make
@@ -75,8 +83,7 @@ pub record IsMade (conf : List ℕ) (default_port : ℕ) (chain : Chain) : Type 
   pub port : chain.default_port ≡ default_port
   pub is : IsChain chain
 
-abbrev pub MakesChain : List ℕ → ℕ → Result Chain FirstFault → Type 0
+abbrev pub MakesChain : List ℕ → ℕ → Result Chain ReadFault → Type 0
 MakesChain conf default_port (Ok chain) = IsMade conf default_port chain
-MakesChain conf default_port (Err (fault.Refused why)) = IsRefusedText default_port conf why
-MakesChain conf default_port (Err fault.ReadFailed) = ⊥
-MakesChain conf default_port (Err fault.NoMemory) = Unit {0}
+MakesChain conf default_port (Err (unread.Refused why)) = IsRefusedText default_port conf why
+MakesChain conf default_port (Err unread.NoMemory) = Unit {0}

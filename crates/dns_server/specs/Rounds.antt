@@ -1,33 +1,45 @@
 -- What a run serves in rounds of one turn of the side and one look. This server's own rule.
 use Rattle.std.specs.Prelude.{◌≡◌, ◌<◌, ◌⊎◌, ℕ, false, List, [], ◌∷◌, ◌++◌, length, Option, Some, None}
 use Rattle.std.specs.List.{flat_map}
-use Rattle.outside.specs.declared.mark.Mark.{Mark}
 use Rattle.outside.specs.declared.mark.WatchMark.{WatchMark}
 use Rattle.outside.specs.declared.mark.WatchMark.TheVariants.{End}
-use Rattle.outside.specs.Causes.{SideCounts, RoseBy}
+use Rattle.outside.specs.Causes.{RoseJust, raised}
 use Rattle.outside.specs.Marks.{Grows}
-use Rattle.outside.specs.WatchMarks.{WatchState, AddsWatch}
+use Rattle.outside.specs.States.{SideState, left_once}
+use Rattle.outside.specs.WatchMarks.{AddsWatch}
 use Rattle.dns_server.specs.declared.corefile.Bundle.{Bundle}
 use Rattle.dns_server.specs.declared.corefile.Corefile.{Corefile}
 use Rattle.dns_server.specs.declared.watcher.WatchEnd.{WatchEnd}
-use Rattle.dns_server.specs.declared.worker.Tally.{Tally}
 use Rattle.dns_server.specs.declared.worker.WorkEnd.{WorkEnd}
 use Rattle.dns_server.specs.Corefile.{IsCorefile}
-use Rattle.dns_server.specs.Generation.{GenerationsData}
 use Rattle.dns_server.specs.Look.{reloads}
-use Rattle.dns_server.specs.WatchTurn.{WatchTurn, watch_marks, bundles_of, all_wants, AreLooks}
+use Rattle.dns_server.specs.States.{RunSetup, TurnState, LookState, RoundState, worked_of}
+use Rattle.dns_server.specs.WatchTurn.{WatchTurn, watch_marks, bundles_of, all_starved, AreLooks}
 use Rattle.dns_server.specs.Watcher.{TakesLook}
-use Rattle.dns_server.specs.Worker.{Pins, TakesTurn, WorkerRun}
+use Rattle.dns_server.specs.Worker.{TakesTurn, WorkerRun}
+
+-- a side is told that its worker has ended, where it has
+abbrev pub left_by : Option WorkEnd → SideState → SideState
+left_by None side = side
+left_by (Some end) side = left_once side
+
+-- a turn, behind which the side stood so before it was told of the worker's end
+pub record WorksOn (most : ℕ) (before after : TurnState) (result : Option WorkEnd) : Type 0 where
+  pub behind : SideState
+  pub takes : TakesTurn most before (record after
+      { worker = record after.worker { side = behind } }) result
+  pub leaves : after.worker.side ≡ left_by result behind
 
 -- a turn, unless the worker has ended
-abbrev pub WorksUnlessEnded : GenerationsData → GenerationsData → ℕ → Option (List Mark) → Option (List Mark) → SideCounts → SideCounts → Tally → Tally → Option WorkEnd → Option WorkEnd → Type 0
-WorksUnlessEnded g h most old new before now had has None result = TakesTurn g most old new before now had has result × Pins g has.pins h
-WorksUnlessEnded g h most old new before now had has (Some end) result = (result ≡ Some end) × (new ≡ old) × (has ≡ had) × (h ≡ g)
+abbrev pub WorksUnlessEnded : ℕ → TurnState → TurnState → Option WorkEnd → Option WorkEnd → Type 0
+WorksUnlessEnded most before after None result = WorksOn most before after result
+WorksUnlessEnded most before after (Some end) result = (result ≡ Some end) × (after ≡ before)
 
 -- a look, unless there are no more
-abbrev pub LooksUnlessEnded : List ℕ → GenerationsData → GenerationsData → WatchState → WatchState → ℕ → ℕ → Option WatchEnd → Option WatchEnd → Type 0
-LooksUnlessEnded conf g h before after had has None result = TakesLook conf g h before after had has result
-LooksUnlessEnded conf g h before after had has (Some end) result = (result ≡ Some end) × (after ≡ before) × (has ≡ had) × (h ≡ g)
+abbrev pub LooksUnlessEnded : List ℕ → LookState → LookState → Option WatchEnd → Option WatchEnd
+    → Type 0
+LooksUnlessEnded conf before after None result = TakesLook conf before after result
+LooksUnlessEnded conf before after (Some end) result = (result ≡ Some end) × (after ≡ before)
 
 -- how the worker ended, once the watcher has ended too
 abbrev pub end_of : Option WorkEnd → Option WatchEnd → Option WorkEnd
@@ -45,16 +57,24 @@ pub record StopsLooking (default_port : ℕ) (bundles : List Bundle) : Type 0 wh
 
 -- how the looks end: the watch has ended, or what serves has no `reload`
 abbrev pub EndsWatch : ℕ → List Bundle → List WatchMark → Type 0
-EndsWatch default_port bundles marks = (marks ≡ End ∷ []) ⊎ ((marks ≡ []) × StopsLooking default_port bundles)
+EndsWatch default_port bundles marks =
+    (marks ≡ End ∷ []) ⊎ ((marks ≡ []) × StopsLooking default_port bundles)
 
--- a side and a watch that have ended: these looks, each by what serves, and the worker's run in rounds with them
-pub record ServedRounds (conf : List ℕ) (default_port most : ℕ) (first : Bundle) (side_before side_after : Option (List Mark)) (before after : WatchState) (published starving : ℕ) (end : WorkEnd) (pins seen starved : ℕ) : Type 0 where
+-- a side and a watch that have ended: these looks, each by what serves, and the worker's run in
+-- rounds with them
+pub record ServedRounds (setup : RunSetup) (before after : RoundState) (end : WorkEnd)
+    : Type 0 where
   pub looks : List WatchTurn
+  pub bundles : List Bundle
+  pub bundles_are : bundles ≡ bundles_of before.serving.chain.bundle looks
   pub ending : List WatchMark
-  pub told : AddsWatch before after (flat_map (watch_marks conf) looks ++ ending)
-  pub are : AreLooks conf default_port (first ∷ []) looks
-  pub ends : EndsWatch default_port (bundles_of first looks) ending
-  pub count : length (bundles_of first looks) ≡ published
-  pub wants : RoseBy (all_wants looks) 0 starving
-  pub run : Grows side_before side_after (WorkerRun (bundles_of first looks) looks default_port most pins seen starved end)
-  pub last : seen < published
+  pub told : AddsWatch before.watcher.watch after.watcher.watch
+      (flat_map (watch_marks setup.conf) looks ++ ending)
+  pub are : AreLooks setup.conf setup.default_port (before.serving.chain.bundle ∷ []) looks
+  pub ends : EndsWatch setup.default_port bundles ending
+  pub count : length bundles ≡ after.serving.published
+  pub starved : RoseJust (all_starved looks) before.watcher.starved after.watcher.starved
+  pub run : Grows before.worker.side after.worker.side
+      (WorkerRun setup bundles looks (worked_of after.worker.tally end))
+  pub last : after.worker.tally.seen < after.serving.published
+  pub left : after.worker.side.left ≡ raised before.worker.side.left

@@ -1,6 +1,11 @@
--- What a datagram means under a configuration. This server's own rule; the wire format is RFC 1035, section 4, and RFC 6891.
+-- What a datagram means under a configuration. This server's own rule; the wire format is RFC 1035,
+-- section 4, and RFC 6891.
 use Rattle.std.specs.Prelude.{◌≡◌, ◌≤◌, ◌<◌, ◌⊎◌, ℕ, ◌+◌, ◌*◌, max, nat_eq, Bool, true, false, ◌&&◌, List, [], ◌∷◌, ◌++◌, length, replicate, Option, Some, None, option_map, is_some, if◌then◌else◌}
 use Rattle.std.specs.Int.{w16, to_be_bytes}
+use Rattle.dns_data.specs.declared.opcode.TheConstants as opcodes
+use Rattle.dns_data.specs.declared.class.TheConstants as classes
+use Rattle.dns_data.specs.declared.rcode.TheConstants as rcodes
+use Rattle.dns_data.specs.declared.limit.TheConstants as limits
 use Rattle.dns_data.specs.Message.{MessageData, AnswerData}
 use Rattle.dns_data.specs.declared.message.Opt.{Opt}
 use Rattle.dns_data.specs.declared.message.Transport.{Transport}
@@ -8,7 +13,7 @@ use Rattle.dns_data.specs.declared.message.Transport.TheVariants.{Udp, Tcp}
 use Rattle.dns_data.specs.declared.query.Query.{Query}
 use Rattle.dns_wire.specs.declared.fault.Head.{Head}
 use Rattle.dns_wire.specs.Wire.{flag_at}
-use Rattle.dns_wire.specs.Spells.{AsksElse, AsksNothing}
+use Rattle.dns_wire.specs.Spells.{HasOtherOpcode, IsMalformed}
 use Rattle.dns_wire.specs.Asked.{QueriesThis}
 use Rattle.dns_wire.specs.declared.asked.Asked.{Asked}
 use Rattle.dns_wire.specs.Written.{bit, written}
@@ -46,32 +51,50 @@ query_of d asked = record {
 
 -- an RCODE without records
 abbrev pub nothing : ℕ → AnswerData
-nothing rcode = record { rcode = rcode; aa = false; ra = false; tc = false; answer = []; authority = []; additional = [] }
+nothing rcode =
+    record {
+      rcode = rcode;
+      aa = false;
+      ra = false;
+      tc = false;
+      answer = [];
+      authority = [];
+      additional = [];
+    }
 
 -- REFUSED (RFC 1035, section 4.1.1)
-abbrev pub refusal : AnswerData
-refusal = nothing 5
+abbrev pub refused_answer : AnswerData
+refused_answer = nothing rcodes.REFUSED
 
 -- the block on the port at which the query came answers it, where it holds `whoami`
 abbrev pub block_answer : Option Block → Query → AnswerData
-block_answer None q = refusal
-block_answer (Some block) q = if block.whoami && nat_eq block.port q.local then whoami_of q else refusal
+block_answer None q = refused_answer
+block_answer (Some block) q =
+    if block.whoami && nat_eq block.port q.local then whoami_of q else refused_answer
 
 -- a class other than IN is refused (RFC 1035, section 3.2.4)
 abbrev pub class_answer : ℕ → Option Block → Query → AnswerData
-class_answer class block q = if nat_eq class 1 then block_answer block q else refusal
+class_answer class block q =
+    if nat_eq class classes.IN then block_answer block q else refused_answer
 
--- the OPT record of a reply to a query with this one: the payload size is 1232, the version 0, and DO the client's
--- (RFC 6891, sections 6.1.1 and 6.2.3)
+-- the OPT record of a reply to a query with this one: the payload size is 1232, the version 0, and
+-- DO the client's (RFC 6891, sections 6.1.1 and 6.2.3)
 abbrev pub opt_reply : ℕ → Option Opt → Option Opt
-opt_reply ext opt = option_map (λ (o : Opt). record { size = 1232; ext = ext; version = 0; dnssec = o.dnssec }) opt
+opt_reply ext opt =
+    option_map (λ (o : Opt). record {
+      size = limits.EDNS_BYTES;
+      ext = ext;
+      version = 0;
+      dnssec = o.dnssec;
+    }) opt
 
--- the reply to a query of this id, class and OPT record: its RD and CD and its question as they came; AD clear
-abbrev pub replying : ℕ → ℕ → Option Opt → Query → AnswerData → MessageData
-replying id class opt q a = record {
+-- the reply to a query of this id, class and OPT record: its RD and CD and its question as they
+-- came; AD clear
+abbrev pub reply_message : ℕ → ℕ → Option Opt → Query → AnswerData → MessageData
+reply_message id class opt q a = record {
   id = id;
   qr = true;
-  opcode = 0;
+  opcode = opcodes.QUERY;
   aa = a.aa;
   tc = a.tc;
   rd = q.rd;
@@ -91,30 +114,35 @@ abbrev pub is_known_version : Option Opt → Bool
 is_known_version None = true
 is_known_version (Some opt) = nat_eq opt.version 0
 
--- the reply to a datagram that asks this: BADVERS for another version of EDNS (extended code 1), else what the Corefile's
--- block answers
+-- the reply to a datagram that asks this: BADVERS for another version of EDNS (extended code 1),
+-- else what the Corefile's block answers
 abbrev pub reply_to : Option Block → Datagram → Asked → MessageData
 reply_to block d asked =
     let q = query_of d asked in
-    if is_known_version asked.opt then replying asked.id asked.question.class (opt_reply 0 asked.opt) q (class_answer asked.question.class block q)
-    else replying asked.id asked.question.class (opt_reply 1 asked.opt) q (nothing 0)
+    if is_known_version asked.opt then reply_message asked.id asked.question.class
+    (opt_reply 0 asked.opt) q (class_answer asked.question.class block q)
+    else reply_message asked.id asked.question.class (opt_reply 1 asked.opt) q
+    (nothing rcodes.NOERROR)
 
--- as many bytes as a client takes over UDP: 512, or the size that it gives where that is larger (RFC 6891, section 6.2.3)
+-- as many bytes as a client takes over UDP: 512, or the size that it gives where that is larger
+-- (RFC 6891, section 6.2.3)
 abbrev pub payload : Option Opt → ℕ
-payload None = 512
-payload (Some opt) = max 512 opt.size
+payload None = limits.UDP_BYTES
+payload (Some opt) = max limits.UDP_BYTES opt.size
 
 -- as many bytes as a reply may have (RFC 1035, section 4.2)
 abbrev pub limit_of : Transport → Option Opt → ℕ
 limit_of Udp opt = payload opt
-limit_of Tcp opt = 65535
+limit_of Tcp opt = limits.MESSAGE_BYTES
 
 -- a bundle's text is a Corefile with this meaning
 abbrev pub IsAccepted : Bundle → ℕ → Corefile → Type 0
 IsAccepted bundle default_port corefile = IsCorefile default_port bundle.conf corefile
 
--- the reply's bytes are the meaning of the bundle's text for what the query asks that the datagram spells
-pub record Replies (bundle : Bundle) (default_port : ℕ) (d : Datagram) (reply : List ℕ) : Type 0 where
+-- the reply's bytes are the meaning of the bundle's text for what the query asks that the datagram
+-- spells
+pub record Replies (bundle : Bundle) (default_port : ℕ) (d : Datagram) (reply : List ℕ)
+    : Type 0 where
   pub corefile : Corefile
   pub accepted : IsAccepted bundle default_port corefile
   pub asked : Asked
@@ -123,25 +151,30 @@ pub record Replies (bundle : Bundle) (default_port : ℕ) (d : Datagram) (reply 
 
 -- a header alone: the id, QR, an opcode, RD and an RCODE
 unfoldable pub header_reply : ℕ → ℕ → Bool → ℕ → List ℕ
-header_reply id opcode rd rcode = to_be_bytes w16 id ++ (128 + 8 * opcode + bit rd) ∷ rcode ∷ replicate 8 0
+header_reply id opcode rd rcode =
+    to_be_bytes w16 id ++ (128 + 8 * opcode + bit rd) ∷ rcode ∷ replicate 8 0
 
 -- NOTIMP, with the opcode that came (RFC 1035, section 4.1.1)
-pub record RefusesOpcode (d : Datagram) (reply : List ℕ) : Type 0 where
+pub record AnswersNotImp (d : Datagram) (reply : List ℕ) : Type 0 where
   pub head : Head
-  pub asks : AsksElse d.bytes head
-  pub bytes : reply ≡ header_reply head.id head.opcode head.rd 4
+  pub asks : HasOtherOpcode d.bytes head
+  pub bytes : reply ≡ header_reply head.id head.opcode head.rd rcodes.NOTIMP
 
 -- FORMERR
-pub record RefusesForm (d : Datagram) (reply : List ℕ) : Type 0 where
+pub record AnswersFormErr (d : Datagram) (reply : List ℕ) : Type 0 where
   pub head : Head
-  pub asks : AsksNothing d.bytes head
-  pub bytes : reply ≡ header_reply head.id 0 head.rd 1
+  pub asks : IsMalformed d.bytes head
+  pub bytes : reply ≡ header_reply head.id opcodes.QUERY head.rd rcodes.FORMERR
 
 -- what a datagram means, and that its meaning takes no marks. Want of memory is always allowed.
 abbrev pub Serves : Bundle → ℕ → Datagram → List Mark → Served → Type 0
-Serves bundle default_port d marks (Reply reply) = (marks ≡ []) × (Replies bundle default_port d reply ⊎ RefusesOpcode d reply ⊎ RefusesForm d reply)
-Serves bundle default_port d marks (Silent Short) = (marks ≡ []) × (length d.bytes < 12)
-Serves bundle default_port d marks (Silent Response) = (marks ≡ []) × (12 ≤ length d.bytes) × (flag_at d.bytes 2 7 ≡ true)
+Serves bundle default_port d marks (Reply reply) =
+    (marks ≡ [])
+    × (Replies bundle default_port d reply ⊎ AnswersNotImp d reply ⊎ AnswersFormErr d reply)
+Serves bundle default_port d marks (Silent Short) =
+    (marks ≡ []) × (length d.bytes < limits.HEADER_BYTES)
+Serves bundle default_port d marks (Silent Response) =
+    (marks ≡ []) × (limits.HEADER_BYTES ≤ length d.bytes) × (flag_at d.bytes 2 7 ≡ true)
 Serves bundle default_port d marks NoMemory = marks ≡ []
 
 -- a chain that was compiled of its bundle

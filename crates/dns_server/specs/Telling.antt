@@ -1,11 +1,11 @@
--- How a run's status is told, and what stands where its line could not be told. This server's own rule.
-use Rattle.std.specs.Prelude.{◌≡◌, ◌⊎◌, ℕ, List, [], ◌∷◌, Option}
+-- How a run's status is told, and what stands where its line could not be told. This server's own
+-- rule.
+use Rattle.std.specs.Prelude.{◌≡◌, ◌⊎◌, ℕ, List, [], ◌∷◌}
 use Rattle.outside.specs.declared.datagram.Wrote.{Wrote}
 use Rattle.outside.specs.declared.datagram.Wrote.TheVariants as wrote
-use Rattle.outside.specs.Causes.{HostCounts, TellCause}
-use Rattle.outside.specs.Hosts.{HostTold, AddsHost, told_line}
-use Rattle.dns_server.specs.declared.report.Status.{Status}
-use Rattle.dns_server.specs.declared.report.Status.TheVariants as status
+use Rattle.outside.specs.Hosts.{HostState, TellsOneLine}
+use Rattle.dns_server.specs.declared.status.Status.{Status}
+use Rattle.dns_server.specs.declared.status.Status.TheVariants as status
 use Rattle.dns_server.specs.Messages.{status_text}
 use Rattle.dns_server.specs.Report.{RunData, IsRunOf}
 
@@ -25,33 +25,31 @@ after_tell wrote.Ok how = how
 after_tell wrote.Failed how = untold how
 
 -- one line was told for a status, and this status stands then
-pub record IsTold (line : List ℕ) (how final : Status) (told_before told_after : Option HostTold) (before after : HostCounts) : Type 0 where
+pub record IsTold (line : List ℕ) (how final : Status) (before after : HostState) : Type 0 where
   pub result : Wrote
-  pub told : AddsHost told_before told_after (told_line line result) []
-  pub cause : TellCause before after result
+  pub tells : TellsOneLine before after line result
   pub final_is : final ≡ after_tell result how
 
 -- nothing was told, and the status stands
-pub record IsSilent (how final : Status) (told_before told_after : Option HostTold) (before after : HostCounts) : Type 0 where
-  pub told : told_after ≡ told_before
-  pub counts : after ≡ before
+pub record IsSilent (how final : Status) (before after : HostState) : Type 0 where
+  pub host : after ≡ before
   pub final_is : final ≡ how
 
 -- a line is told for a status unless it is empty
-abbrev pub TellsLine : List ℕ → Status → Status → Option HostTold → Option HostTold → HostCounts → HostCounts → Type 0
-TellsLine [] how final told_before told_after before after = IsSilent how final told_before told_after before after
-TellsLine (byte ∷ bytes) how final told_before told_after before after = IsTold (byte ∷ bytes) how final told_before told_after before after
+abbrev pub TellsLine : List ℕ → Status → Status → HostState → HostState → Type 0
+TellsLine [] how final before after = IsSilent how final before after
+TellsLine (byte ∷ bytes) how final before after = IsTold (byte ∷ bytes) how final before after
 
 -- the line of a status is told; where there was no memory for it, that of NoMemory
-pub record TellsStatus (how final : Status) (told_before told_after : Option HostTold) (before after : HostCounts) : Type 0 where
+pub record TellsStatus (how final : Status) (before after : HostState) : Type 0 where
   pub named : Status
   pub either : (named ≡ how) ⊎ (named ≡ status.NoMemory)
-  pub tells : TellsLine (status_text named) named final told_before told_after before after
+  pub tells : TellsLine (status_text named) named final before after
 
 -- a whole run: what it did by its words, and then the line of the status that it came to
-pub record IsToldRun (words : List (List ℕ)) (default_port : ℕ) (run : RunData) (told_before told_after : Option HostTold) (before after : HostCounts) : Type 0 where
+pub record IsToldRun (words : List (List ℕ)) (run : RunData) (before after : HostState)
+    : Type 0 where
   pub how : Status
-  pub told_then : Option HostTold
-  pub then : HostCounts
-  pub runs : IsRunOf words default_port (record { status = how; sides = run.sides; watch = run.watch; published = run.published; starved = run.starved }) told_before told_then before then
-  pub tells : TellsStatus how run.status told_then told_after then after
+  pub quiet : HostState
+  pub runs : IsRunOf words (record run { status = how }) before quiet
+  pub tells : TellsStatus how run.status quiet after

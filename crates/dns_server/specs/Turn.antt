@@ -1,4 +1,5 @@
--- One turn of a worker, as a value, and the marks by which its side tells it. This server's own rule.
+-- One turn of a worker, as a value, and the marks by which its side tells it. This server's own
+-- rule.
 use Rattle.std.specs.Prelude.{◌≡◌, ◌≤◌, ℕ, ◌+◌, Bool, List, [], ◌∷◌, ◌++◌, Some, slice_get}
 use Rattle.outside.specs.declared.datagram.Datagram.{Datagram}
 use Rattle.outside.specs.declared.mark.Mark.{Mark}
@@ -8,8 +9,9 @@ use Rattle.dns_server.specs.declared.serving.Served.TheVariants.{Reply, Silent, 
 use Rattle.dns_server.specs.declared.serving.Silence.{Silence}
 use Rattle.dns_server.specs.Serve.{Serves}
 
--- a receive that failed; or a datagram, served by the generation with this serial, with the marks that serving took, and
--- the reply with whether it went out, or the cause of silence; or want of memory
+-- a receive that failed; or a datagram, served by the generation with this serial, with the marks
+-- that serving took, and the reply with whether it went out, or the cause of silence; or want of
+-- memory
 pub data Turn : Type 0 where
   failed : Turn
   replied : ℕ → Datagram → List Mark → List ℕ → Bool → Turn
@@ -18,7 +20,8 @@ pub data Turn : Type 0 where
 
 abbrev pub marks_of : Turn → List Mark
 marks_of failed = RecvFailed ∷ []
-marks_of (replied serial d marks reply out) = Got d ∷ Pinned serial ∷ (marks ++ Sent reply out ∷ Unpinned serial ∷ [])
+marks_of (replied serial d marks reply out) =
+    Got d ∷ Pinned serial ∷ (marks ++ Sent reply out ∷ Unpinned serial ∷ [])
 marks_of (silenced serial d marks why) = Got d ∷ Pinned serial ∷ (marks ++ Unpinned serial ∷ [])
 marks_of (starved serial d marks) = Got d ∷ Pinned serial ∷ (marks ++ Unpinned serial ∷ [])
 
@@ -31,9 +34,12 @@ pub record IsPublished (bundles : List Bundle) (serial : ℕ) (P : Bundle → Ty
 -- the turn did what the published bundle of its serial means
 abbrev pub IsLawful : List Bundle → ℕ → Turn → Type 0
 IsLawful bundles default_port failed = Unit {0}
-IsLawful bundles default_port (replied serial d marks reply out) = IsPublished bundles serial (λ bundle. Serves bundle default_port d marks (Reply reply))
-IsLawful bundles default_port (silenced serial d marks why) = IsPublished bundles serial (λ bundle. Serves bundle default_port d marks (Silent why))
-IsLawful bundles default_port (starved serial d marks) = IsPublished bundles serial (λ bundle. Serves bundle default_port d marks NoMemory)
+IsLawful bundles default_port (replied serial d marks reply out) =
+    IsPublished bundles serial (λ bundle. Serves bundle default_port d marks (Reply reply))
+IsLawful bundles default_port (silenced serial d marks why) =
+    IsPublished bundles serial (λ bundle. Serves bundle default_port d marks (Silent why))
+IsLawful bundles default_port (starved serial d marks) =
+    IsPublished bundles serial (λ bundle. Serves bundle default_port d marks NoMemory)
 
 -- 1 for a turn that took a datagram, and so a pin
 abbrev pub datagrams : Turn → ℕ
@@ -43,11 +49,11 @@ datagrams (silenced serial d marks why) = 1
 datagrams (starved serial d marks) = 1
 
 -- 1 for a turn that met want of memory
-abbrev pub wants : Turn → ℕ
-wants failed = 0
-wants (replied serial d marks reply out) = 0
-wants (silenced serial d marks why) = 0
-wants (starved serial d marks) = 1
+abbrev pub starved_in : Turn → ℕ
+starved_in failed = 0
+starved_in (replied serial d marks reply out) = 0
+starved_in (silenced serial d marks why) = 0
+starved_in (starved serial d marks) = 1
 
 -- the serial that a turn pinned, where it pinned one
 abbrev pub serials : Turn → List ℕ

@@ -1,39 +1,46 @@
--- One step of the watcher: it waits for a look and makes it, or says why there is none. This server's own rule.
-use Rattle.std.specs.Prelude.{◌≡◌, ◌≢◌, ◌+◌, ◌-◌, ◌^◌, ℕ, min, true, false, [], ◌∷◌, List, Option, Some, None}
+-- One step of the watcher: it waits for a look and makes it, or says why there is none. This
+-- server's own rule.
+use Rattle.std.specs.Prelude.{◌≡◌, ◌≢◌, ℕ, true, false, [], ◌∷◌, List, Option, Some, None}
+use Rattle.dns_server.specs.declared.watcher.TheConstants as waits
 use Rattle.outside.specs.declared.mark.WatchMark.TheVariants.{Look, End}
-use Rattle.outside.specs.WatchMarks.{WatchState, AddsWatch}
+use Rattle.outside.specs.Causes.{raised}
+use Rattle.outside.specs.States.{WatchState}
+use Rattle.outside.specs.WatchMarks.{AddsWatch}
 use Rattle.dns_server.specs.declared.looking.Looking.{Looking}
 use Rattle.dns_server.specs.declared.looking.Looking.TheVariants as looking
 use Rattle.dns_server.specs.declared.watcher.WatchEnd.{WatchEnd}
 use Rattle.dns_server.specs.declared.watcher.WatchEnd.TheVariants as ends
-use Rattle.dns_server.specs.Generation.{GenerationsData}
 use Rattle.dns_server.specs.Look.{LooksOnce, reloads}
+use Rattle.dns_server.specs.States.{LookState}
 
 -- a look was made, and counted where it met want of memory
-pub record LooksAgain (conf : List ℕ) (old new : GenerationsData) (before after : WatchState) (had has : ℕ) : Type 0 where
-  pub mid : WatchState
-  pub looked : AddsWatch before mid (Look 30000 15000 ∷ [])
+pub record LooksAgain (conf : List ℕ) (before after : LookState) : Type 0 where
+  pub waited : WatchState
+  pub looked : AddsWatch before.watcher.watch waited (Look waits.INTERVAL waits.JITTER ∷ [])
   pub answer : Looking
-  pub looks : LooksOnce conf old new mid after answer
+  pub looks : LooksOnce conf before.serving after.serving waited after.watcher.watch answer
   pub made : answer ≢ looking.NoReload
-  pub want : answer ≡ looking.NoMemory → has ≡ min (had + 1) (2 ^ 64 - 1)
-  pub no_want : answer ≢ looking.NoMemory → has ≡ had
+  pub met : answer ≡ looking.NoMemory → after.watcher.starved ≡ raised before.watcher.starved
+  pub not_met : answer ≢ looking.NoMemory → after.watcher.starved ≡ before.watcher.starved
+
+-- no look was made: what serves and what was counted stay
+pub record MakesNoLook (before after : LookState) : Type 0 where
+  pub serving : after.serving ≡ before.serving
+  pub starved : after.watcher.starved ≡ before.watcher.starved
 
 -- the watch has ended
-pub record WatchEnds (old new : GenerationsData) (before after : WatchState) (had has : ℕ) : Type 0 where
-  pub told : AddsWatch before after (End ∷ [])
-  pub again : reloads old.chain.corefile ≡ true
-  pub same : new ≡ old
-  pub no_want : has ≡ had
+pub record WatchEnds (before after : LookState) : Type 0 where
+  pub told : AddsWatch before.watcher.watch after.watcher.watch (End ∷ [])
+  pub again : reloads before.serving.chain.corefile ≡ true
+  pub stays : MakesNoLook before after
 
 -- what serves is not to be looked at again
-pub record ReloadsNoMore (old new : GenerationsData) (before after : WatchState) (had has : ℕ) : Type 0 where
-  pub told : AddsWatch before after []
-  pub no_reload : reloads old.chain.corefile ≡ false
-  pub same : new ≡ old
-  pub no_want : has ≡ had
+pub record ReloadsNoMore (before after : LookState) : Type 0 where
+  pub told : AddsWatch before.watcher.watch after.watcher.watch []
+  pub no_reload : reloads before.serving.chain.corefile ≡ false
+  pub stays : MakesNoLook before after
 
-abbrev pub TakesLook : List ℕ → GenerationsData → GenerationsData → WatchState → WatchState → ℕ → ℕ → Option WatchEnd → Type 0
-TakesLook conf old new before after had has None = LooksAgain conf old new before after had has
-TakesLook conf old new before after had has (Some ends.End) = WatchEnds old new before after had has
-TakesLook conf old new before after had has (Some ends.NoReload) = ReloadsNoMore old new before after had has
+abbrev pub TakesLook : List ℕ → LookState → LookState → Option WatchEnd → Type 0
+TakesLook conf before after None = LooksAgain conf before after
+TakesLook conf before after (Some ends.End) = WatchEnds before after
+TakesLook conf before after (Some ends.NoReload) = ReloadsNoMore before after

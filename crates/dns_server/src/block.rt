@@ -3,7 +3,7 @@ ghost use Rattle.dns_server.specs.Corefile.{port_of, key_port, is_text, header_p
 
 use crate::corefile::{Block, Corefile};
 use crate::number::read_number;
-use crate::report::Refusal;
+use crate::refusal::Refusal;
 use corefile_words::{Word, WordLine};
 
 /// What a line behind a block's header is.
@@ -36,7 +36,8 @@ pub(crate) fn read_lines(lines: &[WordLine], default_port: u16) -> Result<Corefi
 
 // The block of a port whose lines behind the header are these.
 fn read_body(lines: &[WordLine], port: u16) -> Result<Block, Refusal>
-    ensures value { result ≡ body_says (record { port = port; reload = false; whoami = false }) lines.now }
+    ensures value { result
+        ≡ body_says (record { port = port; reload = false; whoami = false }) lines.now }
     ensures of_text { IfErr result IsOfText }
 {
     let mut block = Block {

@@ -1,11 +1,9 @@
-ghost use Rattle.std.specs.Prelude.{ℕ, ◌↔◌, ◌≤◌, ◌<◌, ◌^◌, IsTrue, IfSome, MatchOption};
+ghost use Rattle.dns_data.specs.declared.limit.TheConstants as limits;
+ghost use Rattle.std.specs.Prelude.{ℕ, ◌↔◌, ◌≤◌, ◌<◌, IsTrue, IfSome, MatchOption};
 ghost use Rattle.dns_server.specs.Command.{CommandData, IsCommand, IsValue, LimitsQueries};
 
 use crate::number::read_number;
-use dns_data::Text;
-
-/// How many datagrams a worker takes at most where `--queries` isn't given: 2^46.
-pub const MOST_DATAGRAMS: u64 = 70_368_744_177_664;
+use dns_data::{Text, limit};
 
 /// What the words of the command line ask for: to serve by the Corefile of this name.
 #[derive(Clone, Copy, Debug)]
@@ -15,10 +13,12 @@ pub struct Command<'a> {
     pub most: u64,
 }
 
-/// Reads `serve --conf FILE [--queries N]`, without the program's own name. Any other words are no command.
+/// Reads `serve --conf FILE [--queries N]`, without the program's own name. Any other words are no
+/// command.
 pub fn read_command(words: &[Text]) -> Option<Command<'_>>
-    ensures command { MatchOption result ((c : CommandData) → IsCommand words.now c → ⊥) (λ c. IsCommand words.now (record { conf = c.conf.now; most = c.most })) }
-    ensures few { IfSome result (λ c. c.most ≤ 2 ^ 46) }
+    ensures command { MatchOption result ((c : CommandData) → IsCommand words.now c → ⊥)
+        (λ c. IsCommand words.now (record { conf = c.conf.now; most = c.most })) }
+    ensures few { IfSome result (λ c. c.most ≤ limits.TURNS) }
     ensures some { IfSome result (λ c. 0 < c.most) }
 {
     let (serve, words) = words.split_first()?;
@@ -39,12 +39,13 @@ pub fn read_command(words: &[Text]) -> Option<Command<'_>>
 
 // How many datagrams a worker takes at most, from the words behind the file.
 fn read_queries(words: &[Text]) -> Option<u64>
-    ensures queries { MatchOption result ((n : ℕ) → LimitsQueries words.now n → ⊥) (LimitsQueries words.now) }
-    ensures few { IfSome result (λ n. n ≤ 2 ^ 46) }
+    ensures queries { MatchOption result ((n : ℕ) → LimitsQueries words.now n → ⊥)
+        (LimitsQueries words.now) }
+    ensures few { IfSome result (λ n. n ≤ limits.TURNS) }
     ensures some { IfSome result (λ n. 0 < n) }
 {
     let Some((option, words)) = words.split_first() else {
-        return Some(MOST_DATAGRAMS);
+        return Some(limit::TURNS);
     };
     let (number, others) = words.split_first()?;
     if 0 < others.len() {
@@ -57,7 +58,7 @@ fn read_queries(words: &[Text]) -> Option<u64>
     if most < 1 {
         return None;
     }
-    if 1_000_000_000 < most {
+    if limit::QUERIES < most {
         return None;
     }
     Some(most)

@@ -1,13 +1,10 @@
 ghost use Rattle.dns_server.specs.Corefile.{ReadsCorefile};
 
 use crate::block::read_lines;
-use crate::report::Refusal;
+use crate::refusal::Refusal;
 use corefile_words::{WordsFault, read_words};
-use dns_data::Bytes;
+use dns_data::{Bytes, limit};
 use std::alloc::Global;
-
-#[cfg(test)]
-mod tests;
 
 /// All that a configuration is made of: the Corefile's bytes.
 #[derive(Debug, Drop)]
@@ -42,14 +39,11 @@ pub enum ReadFault {
     NoMemory,
 }
 
-// As many bytes as a file may have.
-const MOST_BYTES: usize = 1_048_576;
-
 /// Reads a Corefile. `default_port` is that of a key without one.
 pub fn read_corefile(alloc: Global, bytes: &[u8], default_port: u16) -> Result<Corefile, ReadFault>
     ensures { ReadsCorefile default_port bytes.now result }
 {
-    if MOST_BYTES < bytes.len() {
+    if limit::FILE_BYTES < bytes.len() {
         return Err(ReadFault::Refused(Refusal::Unbuilt));
     }
     match read_words(alloc, bytes, &[]) {

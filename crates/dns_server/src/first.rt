@@ -1,9 +1,9 @@
-ghost use Rattle.outside.specs.Causes.{WatchNoneFell};
+ghost use Rattle.outside.specs.States.{WatchStays};
 ghost use Rattle.dns_server.specs.Opening.{ReadsFirst, MakesChain};
 
 use crate::chain::Chain;
 use crate::corefile::{Bundle, ReadFault, read_corefile};
-use crate::report::Refusal;
+use crate::refusal::Refusal;
 use dns_data::{Bytes, Text};
 use outside::{ReadOut, Watch};
 use std::alloc::Global;
@@ -23,11 +23,16 @@ pub fn read_first<W: Watch>(
     conf: &Text,
     default_port: u16,
 ) -> Result<Chain, FirstFault>
-    ensures reads { ReadsFirst conf.now default_port (W.state watch.old) (W.state watch.new) result }
-    ensures counts { WatchNoneFell (W.state watch.old).counts (W.state watch.new).counts }
+    ensures reads { ReadsFirst conf.now default_port
+        (W.state watch.old) (W.state watch.new) result }
+    ensures stays { WatchStays (W.state watch.old) (W.state watch.new) }
 {
     match watch.read(conf) {
-        ReadOut::Got(bytes) => chain_of(alloc, bytes, default_port),
+        ReadOut::Got(bytes) => match chain_of(alloc, bytes, default_port) {
+            Ok(chain) => Ok(chain),
+            Err(ReadFault::Refused(refusal)) => Err(FirstFault::Refused(refusal)),
+            Err(ReadFault::NoMemory) => Err(FirstFault::NoMemory),
+        },
         ReadOut::Missing => Err(FirstFault::Refused(Refusal::NoCorefile)),
         ReadOut::Failed => Err(FirstFault::ReadFailed),
         ReadOut::NoMemory => Err(FirstFault::NoMemory),
@@ -35,16 +40,16 @@ pub fn read_first<W: Watch>(
 }
 
 // The chain of a bundle's bytes.
-pub(crate) fn chain_of(alloc: Global, conf: Bytes, default_port: u16) -> Result<Chain, FirstFault>
+pub(crate) fn chain_of(alloc: Global, conf: Bytes, default_port: u16) -> Result<Chain, ReadFault>
     ensures { MakesChain conf default_port result }
 {
-    match read_corefile(alloc, conf.as_slice(), default_port) {
-        Ok(corefile) => Ok(Chain {
-            bundle: Bundle { conf },
-            default_port,
-            corefile,
-        }),
-        Err(ReadFault::Refused(refusal)) => Err(FirstFault::Refused(refusal)),
-        Err(ReadFault::NoMemory) => Err(FirstFault::NoMemory),
-    }
+    let corefile = match read_corefile(alloc, conf.as_slice(), default_port) {
+        Ok(corefile) => corefile,
+        Err(fault) => return Err(fault),
+    };
+    Ok(Chain {
+        bundle: Bundle { conf },
+        default_port,
+        corefile,
+    })
 }

@@ -1,14 +1,15 @@
-ghost use Rattle.std.specs.Prelude.{◌≡◌, ◌≤◌, ◌<◌, ◌+◌, ◌^◌, true, false, IfOk};
+ghost use Rattle.std.specs.Prelude.{◌≡◌, ◌≤◌, ◌<◌, ◌+◌, true, false, IfOk};
 ghost use Rattle.dns_server.specs.Generation.{GenerationsData};
 
 use crate::chain::Chain;
 use dns_data::NoMemory;
-use pin_core::{PinReply, PinState, PinStep};
+use pin_core::{MOST_PINS, MOST_SERIALS, PinReply, PinState, PinStep};
 use std::alloc::Global;
 use std::marker::Model;
 
-/// The generations that were published, of which the last one serves, and the machine of pins over the one worker.
-/// Between turns that worker has no open pin, so a replaced generation is retired at its replacement.
+/// The generations that were published, of which the last one serves, and the machine of pins over
+/// the one worker. Between turns that worker has no open pin, so a replaced generation is retired
+/// at its replacement.
 #[derive(Drop)]
 pub struct Generations {
     machine: PinState,
@@ -29,7 +30,8 @@ impl Model for Generations {
 impl Generations {
     /// Publishes the first generation, with serial 0.
     pub fn new(alloc: Global, chain: Chain) -> Result<Generations, NoMemory>
-        ensures { IfOk result (λ g. g ≡ record { published = 1; pins = 0; pinned = false; chain = chain }) }
+        ensures { IfOk result (λ g. g
+            ≡ record { published = 1; pins = 0; pinned = false; chain = chain }) }
     {
         let Ok(mut machine) = PinState::new(alloc, 1) else {
             return Err(NoMemory);
@@ -48,9 +50,14 @@ impl Generations {
     /// Pins the last generation for the worker, and gives its serial.
     pub fn pin(&mut self) -> u64
         requires idle { self.old.pinned ≡ false }
-        requires few { self.old.pins < 2 ^ 46 }
+        requires few { self.old.pins < MOST_PINS }
         ensures serial { result + 1 ≡ self.old.published }
-        ensures pinned { self.new ≡ record { published = self.old.published; pins = self.old.pins + 1; pinned = true; chain = self.old.chain } }
+        ensures pinned { self.new ≡ record {
+          published = self.old.published;
+          pins = self.old.pins + 1;
+          pinned = true;
+          chain = self.old.chain;
+        } }
     {
         match self.machine.step(PinStep::Pin { worker: 0 }) {
             PinReply::Pinned { slot: _, serial } => serial,
@@ -61,7 +68,12 @@ impl Generations {
     /// Ends the worker's pin.
     pub fn unpin(&mut self)
         requires { self.old.pinned ≡ true }
-        ensures { self.new ≡ record { published = self.old.published; pins = self.old.pins; pinned = false; chain = self.old.chain } }
+        ensures { self.new ≡ record {
+          published = self.old.published;
+          pins = self.old.pins;
+          pinned = false;
+          chain = self.old.chain;
+        } }
     {
         let unpinned = self.machine.step(PinStep::Unpin { worker: 0 });
         prove!(unpinned == PinReply::Done);
@@ -78,7 +90,7 @@ impl Generations {
     pub fn published(&self) -> u64
         ensures value { result ≡ self.now.published }
         ensures some { 0 < self.now.published }
-        ensures few { self.now.published ≤ 2 ^ 40 }
+        ensures few { self.now.published ≤ MOST_SERIALS }
     {
         self.machine.published()
     }
@@ -86,9 +98,14 @@ impl Generations {
     /// Publishes a further generation and retires the one before. Gives its serial.
     pub fn publish(&mut self, chain: Chain) -> u64
         requires idle { self.old.pinned ≡ false }
-        requires few { self.old.published < 2 ^ 40 }
+        requires few { self.old.published < MOST_SERIALS }
         ensures serial { result ≡ self.old.published }
-        ensures published { self.new ≡ record { published = self.old.published + 1; pins = self.old.pins; pinned = false; chain = chain } }
+        ensures published { self.new ≡ record {
+          published = self.old.published + 1;
+          pins = self.old.pins;
+          pinned = false;
+          chain = chain;
+        } }
     {
         let serial = self.machine.published();
         let (old, slot) = (self.slot, (self.slot + 1) % 4);

@@ -1,5 +1,5 @@
-//! The server: words of the command line in, a report out. It reads a Corefile, opens a side for its port, and answers
-//! each datagram by the meaning of the Corefile's text.
+//! The server: words of the command line in, a report out. It reads a Corefile, opens a side for
+//! its port, and answers each datagram by the meaning of the Corefile's text.
 #![tactic(auto)]
 
 mod block;
@@ -11,11 +11,13 @@ mod generation;
 mod look;
 mod looking;
 mod number;
+mod refusal;
 mod report;
 mod room;
 mod rounds;
 mod running;
 mod serving;
+mod status;
 mod telling;
 #[cfg(test)]
 mod tests;
@@ -24,18 +26,20 @@ mod whoami;
 mod worker;
 
 pub use chain::Chain;
-pub use command::{Command, MOST_DATAGRAMS, read_command};
+pub use command::{Command, read_command};
 pub use corefile::{Block, Bundle, Corefile, CorefileFault, ReadFault, read_corefile};
 pub use first::{FirstFault, read_first};
 pub use generation::Generations;
-pub use look::{MOST_GENERATIONS, look_once};
+pub use look::look_once;
 pub use looking::{Looking, Ports};
-pub use report::{Done, Refusal, Report, Status};
+pub use refusal::Refusal;
+pub use report::{Done, Report};
 pub use room::Room;
 pub use rounds::serve_rounds;
 pub use running::{DEFAULT_PORT, run};
 pub use serving::{Served, Silence, serve};
+pub use status::Status;
 pub use telling::tell_status;
 pub use watcher::{INTERVAL, JITTER, WatchEnd, Watcher, take_look};
 pub use whoami::whoami_answer;
-pub use worker::{MOST_FAILURES, Tally, Turned, WorkEnd, Worker, take_turn, work_once};
+pub use worker::{Tally, Turned, WorkEnd, Worker, take_turn, work_once};

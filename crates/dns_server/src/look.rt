@@ -1,21 +1,20 @@
 ghost use Rattle.std.specs.Prelude.{ℕ, ◌≡◌, ◌≢◌, ◌↔◌, false, List, IsTrue, IfOk};
 ghost use Rattle.outside.specs.declared.watch.ReadOut.TheVariants.{Got};
-ghost use Rattle.outside.specs.Causes.{Rose, WatchNoneFell};
+ghost use Rattle.outside.specs.Causes.{Rose};
+ghost use Rattle.outside.specs.States.{WatchStays};
 ghost use Rattle.dns_server.specs.Look.{Finds, LooksOnce, NotesLine, NotesLook, PublishesNext, ports_of, reloads};
 ghost use Rattle.dns_server.specs.Serve.{IsChain};
 
 use crate::chain::Chain;
-use crate::corefile::Corefile;
-use crate::first::{FirstFault, chain_of};
+use crate::corefile::{Corefile, ReadFault};
+use crate::first::chain_of;
 use crate::generation::Generations;
 use crate::looking::{Looking, Ports};
-use crate::report::Refusal;
+use crate::refusal::Refusal;
 use dns_data::{Bytes, Copies, NoMemory, Seq, Text};
 use outside::{ReadOut, Watch};
+use pin_core::MOST_SERIALS;
 use std::alloc::Global;
-
-/// How many generations a run publishes at most: 2^40.
-pub const MOST_GENERATIONS: u64 = 1_099_511_627_776;
 
 /// What a read of the Corefile comes to: the answer of the look, or a chain that is to serve next.
 pub(crate) enum Found {
@@ -23,8 +22,9 @@ pub(crate) enum Found {
     Next(Chain),
 }
 
-/// Looks once for a changed configuration: reads the Corefile, publishes what it means where that may serve, and notes the
-/// line of the answer. Whatever the answer but `Published`, what serves stays.
+/// Looks once for a changed configuration: reads the Corefile, publishes what it means where that
+/// may serve, and notes the line of the answer. Whatever the answer but `Published`, what serves
+/// stays.
 pub fn look_once<W: Watch>(
     alloc: Global,
     watch: &mut W,
@@ -33,9 +33,11 @@ pub fn look_once<W: Watch>(
 ) -> Looking
     requires idle { generations.old.pinned ≡ false }
     requires chain { IsChain generations.old.chain }
-    ensures looks { LooksOnce conf.now generations.old generations.new (W.state watch.old) (W.state watch.new) result }
-    ensures counts { WatchNoneFell (W.state watch.old).counts (W.state watch.new).counts }
-    ensures read { (name : List ℕ) → result ≡ Looking.ReadFailed name → Rose (W.state watch.old).counts.reads (W.state watch.new).counts.reads }
+    ensures looks { LooksOnce conf.now generations.old generations.new
+        (W.state watch.old) (W.state watch.new) result }
+    ensures stays { WatchStays (W.state watch.old) (W.state watch.new) }
+    ensures read { (name : List ℕ) → result ≡ Looking.ReadFailed name
+        → Rose (W.state watch.old).counts.reads (W.state watch.new).counts.reads }
 {
     if !reloads(&generations.chain().corefile) {
         return Looking::NoReload;
@@ -73,9 +75,8 @@ fn compare(alloc: Global, bytes: Bytes, current: &Chain) -> Found
     }
     match chain_of(alloc, bytes, current.default_port) {
         Ok(chain) => compare_ports(alloc, chain, current),
-        Err(FirstFault::Refused(refusal)) => Found::Kept(Looking::Refused(refusal)),
-        Err(FirstFault::ReadFailed) => Found::Kept(Looking::NoMemory),
-        Err(FirstFault::NoMemory) => Found::Kept(Looking::NoMemory),
+        Err(ReadFault::Refused(refusal)) => Found::Kept(Looking::Refused(refusal)),
+        Err(ReadFault::NoMemory) => Found::Kept(Looking::NoMemory),
     }
 }
 
@@ -131,7 +132,7 @@ fn ports_of(alloc: Global, corefile: &Corefile) -> Result<Ports, NoMemory>
 // Notes the line of an answer, where it has one.
 fn note_look<W: Watch>(alloc: Global, watch: &mut W, looking: Looking) -> Looking
     ensures notes { NotesLook (W.state watch.old) (W.state watch.new) looking result }
-    ensures counts { WatchNoneFell (W.state watch.old).counts (W.state watch.new).counts }
+    ensures stays { WatchStays (W.state watch.old) (W.state watch.new) }
 {
     let Ok(line) = format!(in alloc; "{looking}") else {
         return Looking::NoMemory;
@@ -143,14 +144,15 @@ fn note_look<W: Watch>(alloc: Global, watch: &mut W, looking: Looking) -> Lookin
 // Notes a line that isn't empty. One that doesn't go out changes nothing.
 fn note_line<W: Watch>(watch: &mut W, line: &[u8])
     ensures notes { NotesLine (W.state watch.old) (W.state watch.new) line.now }
-    ensures counts { WatchNoneFell (W.state watch.old).counts (W.state watch.new).counts }
+    ensures stays { WatchStays (W.state watch.old) (W.state watch.new) }
 {
     if 0 < line.len() {
         let _ = watch.note(line);
     }
 }
 
-// Publishes a chain, unless serials are spent. The line is made first, so that want of memory publishes nothing.
+// Publishes a chain, unless serials are spent. The line is made first, so that want of memory
+// publishes nothing.
 fn publish_next<W: Watch>(
     alloc: Global,
     watch: &mut W,
@@ -160,11 +162,12 @@ fn publish_next<W: Watch>(
     requires idle { generations.old.pinned ≡ false }
     requires chain { IsChain chain }
     requires port { chain.default_port ≡ generations.old.chain.default_port }
-    ensures publishes { PublishesNext generations.old generations.new (W.state watch.old) (W.state watch.new) chain result }
-    ensures counts { WatchNoneFell (W.state watch.old).counts (W.state watch.new).counts }
+    ensures publishes { PublishesNext generations.old generations.new
+        (W.state watch.old) (W.state watch.new) chain result }
+    ensures stays { WatchStays (W.state watch.old) (W.state watch.new) }
 {
     let serial = generations.published();
-    if serial == MOST_GENERATIONS {
+    if serial == MOST_SERIALS {
         return note_look(alloc, watch, Looking::SerialsSpent);
     }
     let looking = Looking::Published(serial);

@@ -1,4 +1,4 @@
-use crate::report::Refusal;
+use crate::refusal::Refusal;
 use dns_data::{Seq, Text};
 use std::fmt;
 use std::fmt::{Display, Formatter, Write};
@@ -6,7 +6,8 @@ use std::fmt::{Display, Formatter, Write};
 /// Ports in ascending order.
 pub type Ports = Seq<u16>;
 
-/// What one look for a changed configuration came to. Every answer but `Published` leaves what serves as it was.
+/// What one look for a changed configuration came to. Every answer but `Published` leaves what
+/// serves as it was.
 #[derive(Debug, Drop)]
 pub enum Looking {
     /// The configuration that serves has no `reload`, so that no look is made.

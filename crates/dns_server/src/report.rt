@@ -1,34 +1,6 @@
-use crate::corefile::CorefileFault;
+use crate::status::Status;
 use crate::worker::WorkEnd;
-use dns_data::Text;
 use outside::Host;
-
-/// Why the first configuration is not served.
-#[derive(Clone, Copy, Debug, PartialEq, Eq)]
-pub enum Refusal {
-    NoCorefile,
-    Corefile(CorefileFault),
-    /// The line of a directive that no plugin has.
-    Unknown { line: u32 },
-    /// The Corefile has a form that is not built yet.
-    Unbuilt,
-}
-
-/// How a run ended.
-#[derive(Debug, Drop)]
-pub enum Status {
-    Usage,
-    /// The file of this name could not be read.
-    ReadFailed(Text),
-    OpenFailed,
-    /// The line of another status could not be told.
-    TellFailed,
-    Refused(Refusal),
-    NoMemory,
-    /// A worker could not receive any more.
-    WorkerFailed,
-    Ended,
-}
 
 /// A side whose worker has ended.
 #[derive(Drop)]
@@ -43,7 +15,18 @@ pub struct Done<S> {
     pub starved: u64,
 }
 
-/// What a run leaves: its sides, in the order in which they were opened, and its watch where that was opened.
+/// What a run leaves, by the types of its sides and of its watch.
+#[derive(Drop)]
+pub(crate) struct Ran<S, W> {
+    pub status: Status,
+    pub sides: Vec<Done<S>>,
+    pub watch: Option<W>,
+    pub published: u64,
+    pub starved: u64,
+}
+
+/// What a run leaves: its sides, in the order in which they were opened, and its watch where that
+/// was opened.
 #[derive(Drop)]
 pub struct Report<H: Host> {
     pub status: Status,

@@ -4,8 +4,8 @@ use dns_data::{Bytes, Records, Seq};
 use std::alloc::Global;
 use std::mem;
 
-/// What a worker keeps from one query to the next, so that the next takes no memory for it: the bytes of a reply that was
-/// sent, and an empty list for records.
+/// What a worker keeps from one query to the next, so that the next takes no memory for it: the
+/// bytes of a reply that was sent, and an empty list for records.
 #[derive(Debug, Drop)]
 pub struct Room {
     pub reply: Bytes,

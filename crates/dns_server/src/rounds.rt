@@ -1,7 +1,10 @@
-ghost use Rattle.std.specs.Prelude.{◌≡◌, ◌≤◌, ◌<◌, ◌+◌, ◌*◌, ◌^◌, false, IfNone};
-ghost use Rattle.outside.specs.Causes.{NoneFell, RoseBy, WatchNoneFell};
+ghost use Rattle.dns_data.specs.declared.limit.TheConstants as limits;
+ghost use Rattle.std.specs.Prelude.{◌≡◌, ◌≤◌, ◌<◌, ◌+◌, ◌*◌, false, IfNone};
+ghost use Rattle.outside.specs.Causes.{RoseBy};
+ghost use Rattle.outside.specs.States.{WatchStays};
 ghost use Rattle.dns_server.specs.Rounds.{ServedRounds, WorksUnlessEnded, LooksUnlessEnded, end_of};
 ghost use Rattle.dns_server.specs.Serve.{IsChain};
+ghost use Rattle.dns_server.specs.States.{round_state, watcher_state, worker_state};
 ghost use Rattle.dns_server.specs.Tally.{IsIdle};
 
 use crate::generation::Generations;
@@ -12,7 +15,8 @@ use outside::{Side, Watch};
 use std::alloc::Global;
 use std::sync::Wait;
 
-/// Serves in rounds of one turn of the side, until that has ended, and one look, until there are no more.
+/// Serves in rounds of one turn of the side, until that has ended, and one look, until there are no
+/// more.
 pub fn serve_rounds<R: Wait, S: Side, W: Watch>(
     rt: &R,
     alloc: Global,
@@ -28,11 +32,17 @@ pub fn serve_rounds<R: Wait, S: Side, W: Watch>(
     requires pins { generations.old.pins ≡ 0 }
     requires worker { IsIdle worker.old.tally }
     requires some { 0 < most }
-    requires most { most ≤ 2 ^ 46 }
-    ensures serves { ServedRounds conf.now generations.old.chain.default_port most generations.old.chain.bundle (S.journal worker.old.side) (S.journal worker.new.side) (W.state watcher.old.watch) (W.state watcher.new.watch) generations.new.published watcher.new.starved result worker.new.tally.pins worker.new.tally.seen worker.new.tally.starved }
-    ensures later { NoneFell (S.counts worker.old.side) (S.counts worker.new.side) }
-    ensures counts { WatchNoneFell (W.state watcher.old.watch).counts (W.state watcher.new.watch).counts }
-    ensures failed { result ≡ WorkEnd.RecvFailed → RoseBy 64 (S.counts worker.old.side).recv (S.counts worker.new.side).recv }
+    requires most { most ≤ limits.TURNS }
+    ensures serves { ServedRounds
+        (record { conf = conf.now; default_port = generations.old.chain.default_port; most = most })
+        (round_state S.state W.state worker.old watcher.old generations.old)
+        (round_state S.state W.state worker.new watcher.new generations.new)
+        result }
+    ensures script { (S.state worker.new.side).script ≡ (S.state worker.old.side).script }
+    ensures watch { WatchStays (W.state watcher.old.watch) (W.state watcher.new.watch) }
+    ensures failed { result ≡ WorkEnd.RecvFailed
+        → RoseBy limits.FAILURES (S.state worker.old.side).counts.recv
+        (S.state worker.new.side).counts.recv }
     ensures starved { result ≡ WorkEnd.NoMemory → 0 < worker.new.tally.starved }
 {
     let mut worked = None;
@@ -69,11 +79,14 @@ fn work_unless_ended<S: Side>(
     requires idle { generations.old.pinned ≡ false }
     requires pins { generations.old.pins ≡ worker.old.tally.pins }
     requires more { IfNone ended (worker.old.tally.pins < most) }
-    requires most { most ≤ 2 ^ 46 }
-    requires failures { IfNone ended (worker.old.tally.failures < 64) }
-    requires starved { worker.old.tally.starved ≤ 65 * worker.old.tally.pins + worker.old.tally.failures }
-    ensures works { WorksUnlessEnded generations.old generations.new most (S.journal worker.old.side) (S.journal worker.new.side) (S.counts worker.old.side) (S.counts worker.new.side) worker.old.tally worker.new.tally ended result }
-    ensures later { NoneFell (S.counts worker.old.side) (S.counts worker.new.side) }
+    requires most { most ≤ limits.TURNS }
+    requires failures { IfNone ended (worker.old.tally.failures < limits.FAILURES) }
+    requires starved { worker.old.tally.starved ≤ 65 * worker.old.tally.pins +
+        worker.old.tally.failures }
+    ensures { WorksUnlessEnded most
+        (record { worker = worker_state S.state worker.old; serving = generations.old })
+        (record { worker = worker_state S.state worker.new; serving = generations.new })
+        ended result }
 {
     if ended.is_some() {
         return ended;
@@ -95,8 +108,11 @@ fn look_unless_ended<W: Watch>(
 ) -> Option<WatchEnd>
     requires idle { generations.old.pinned ≡ false }
     requires chain { IsChain generations.old.chain }
-    ensures looks { LooksUnlessEnded conf.now generations.old generations.new (W.state watcher.old.watch) (W.state watcher.new.watch) watcher.old.starved watcher.new.starved ended result }
-    ensures counts { WatchNoneFell (W.state watcher.old.watch).counts (W.state watcher.new.watch).counts }
+    ensures looks { LooksUnlessEnded conf.now
+        (record { watcher = watcher_state W.state watcher.old; serving = generations.old })
+        (record { watcher = watcher_state W.state watcher.new; serving = generations.new })
+        ended result }
+    ensures watch { WatchStays (W.state watcher.old.watch) (W.state watcher.new.watch) }
 {
     if ended.is_some() {
         return ended;

@@ -1,15 +1,19 @@
-ghost use Rattle.std.specs.Prelude.{◌≡◌, ◌≤◌, ◌<◌, ◌^◌, false, option_map};
-ghost use Rattle.outside.specs.Causes.{HostNoneFell, WatchNoneFell};
+ghost use Rattle.dns_data.specs.declared.limit.TheConstants as limits;
+ghost use Rattle.std.specs.Prelude.{◌≡◌, ◌≤◌, ◌<◌, false, option_map};
+ghost use Rattle.outside.specs.Causes.{HostNoneFell};
 ghost use Rattle.outside.specs.Hosts.{IsFreshSide, IsFreshWatch};
+ghost use Rattle.outside.specs.States.{WatchStays};
 ghost use Rattle.dns_server.specs.Serve.{IsChain};
-ghost use Rattle.dns_server.specs.Report.{Finishes, IsEndStatus, IsFirstStatus, IsRunOf, RunsCommand, run_data, side_run, stopped_run};
+ghost use Rattle.dns_server.specs.Report.{Finishes, IsEndStatus, IsFirstStatus, IsRunOf, RunData, RunsBehind, run_data, stopped_run};
+ghost use Rattle.dns_server.specs.States.{setup_of, side_run, side_runs, watcher_state};
 ghost use Rattle.dns_server.specs.Telling.{IsToldRun};
 
 use crate::command::{Command, read_command};
 use crate::first::{FirstFault, read_first};
 use crate::generation::Generations;
-use crate::report::{Done, Report, Status};
+use crate::report::{Done, Ran, Report};
 use crate::rounds::serve_rounds;
+use crate::status::Status;
 use crate::telling::tell_status;
 use crate::watcher::Watcher;
 use crate::worker::{WorkEnd, Worker};
@@ -21,13 +25,21 @@ use std::sync::Wait;
 /// The port of keys that name none (RFC 1035, section 4.2).
 pub const DEFAULT_PORT: u16 = 53;
 
-/// Runs the command that the words ask for, over what the host opens, until its side has ended and no look comes any more,
-/// and tells the line of its status. The words are those behind the program's own name.
+/// Runs the command that the words ask for, over what the host opens, until its side has ended and
+/// no look comes any more, and tells the line of its status. The words are those behind the
+/// program's own name.
 pub fn run<R: Wait, H: Host>(rt: &R, alloc: Global, words: &[Text], host: &mut H) -> Report<H>
-    ensures runs { IsToldRun words.now DEFAULT_PORT (run_data H.Side.journal H.Side.counts H.Watch.state result.status result.sides.items result.watch result.published result.starved) (H.told host.old) (H.told host.new) (H.counts host.old) (H.counts host.new) }
-    ensures counts { HostNoneFell (H.counts host.old) (H.counts host.new) }
+    ensures runs { let run : RunData = record {
+      status = result.status;
+      sides = side_runs H.Side.state result.sides.items;
+      watch = option_map H.Watch.state result.watch;
+      published = result.published;
+      starved = result.starved;
+    } in
+        IsToldRun words.now run (H.state host.old) (H.state host.new) }
+    ensures counts { HostNoneFell (H.state host.old).counts (H.state host.new).counts }
 {
-    let Report {
+    let Ran {
         status,
         sides,
         watch,
@@ -44,9 +56,15 @@ pub fn run<R: Wait, H: Host>(rt: &R, alloc: Global, words: &[Text], host: &mut H
 }
 
 // Runs the command that the words ask for, before its status is told.
-fn run_words<R: Wait, H: Host>(rt: &R, alloc: Global, words: &[Text], host: &mut H) -> Report<H>
-    ensures runs { IsRunOf words.now DEFAULT_PORT (run_data H.Side.journal H.Side.counts H.Watch.state result.status result.sides.items result.watch result.published result.starved) (H.told host.old) (H.told host.new) (H.counts host.old) (H.counts host.new) }
-    ensures counts { HostNoneFell (H.counts host.old) (H.counts host.new) }
+fn run_words<R: Wait, H: Host>(
+    rt: &R,
+    alloc: Global,
+    words: &[Text],
+    host: &mut H,
+) -> Ran<H::Side, H::Watch>
+    ensures runs { IsRunOf words.now (run_data H.Side.state H.Watch.state result)
+        (H.state host.old) (H.state host.new) }
+    ensures counts { HostNoneFell (H.state host.old).counts (H.state host.new).counts }
 {
     let Some(command) = read_command(words) else {
         return stopped(alloc, Status::Usage, None);
@@ -65,12 +83,17 @@ fn run_command<R: Wait, H: Host>(
     command: Command<'_>,
     host: &mut H,
     mut watch: H::Watch,
-) -> Report<H>
+) -> Ran<H::Side, H::Watch>
     requires fresh { IsFreshWatch (H.Watch.state watch) }
     requires some { 0 < command.most }
-    requires most { command.most ≤ 2 ^ 46 }
-    ensures runs { RunsCommand (record { conf = command.entry.conf.now; most = command.entry.most }) DEFAULT_PORT (run_data H.Side.journal H.Side.counts H.Watch.state result.status result.sides.items result.watch result.published result.starved) (H.told host.old) (H.told host.new) (H.counts host.old) (H.counts host.new) }
-    ensures counts { HostNoneFell (H.counts host.old) (H.counts host.new) }
+    requires most { command.most ≤ limits.TURNS }
+    ensures runs { RunsBehind (setup_of (record {
+      conf = command.entry.conf.now;
+      most = command.entry.most;
+    }))
+        (run_data H.Side.state H.Watch.state result) (H.Watch.state watch)
+        (H.state host.old) (H.state host.new) }
+    ensures counts { HostNoneFell (H.state host.old).counts (H.state host.new).counts }
 {
     let chain = match read_first(alloc, &mut watch, command.conf, DEFAULT_PORT) {
         Ok(chain) => chain,
@@ -95,7 +118,7 @@ fn run_command<R: Wait, H: Host>(
     let (done, watcher) = finish(rt, alloc, side, watch, command, &mut generations);
     let status = end_status(done.end, done.starved, watcher.starved);
     sides.push(done).unwrap();
-    Report {
+    Ran {
         status,
         sides,
         watch: Some(watcher.watch),
@@ -105,10 +128,10 @@ fn run_command<R: Wait, H: Host>(
 }
 
 // A run that ended before anything was served.
-fn stopped<H: Host>(alloc: Global, status: Status, watch: Option<H::Watch>) -> Report<H>
-    ensures { run_data H.Side.journal H.Side.counts H.Watch.state result.status result.sides.items result.watch result.published result.starved ≡ stopped_run status (option_map H.Watch.state watch) }
+fn stopped<S: Side, W: Watch>(alloc: Global, status: Status, watch: Option<W>) -> Ran<S, W>
+    ensures { run_data S.state W.state result ≡ stopped_run status (option_map W.state watch) }
 {
-    Report {
+    Ran {
         status,
         sides: Vec::new(alloc),
         watch,
@@ -130,7 +153,8 @@ fn status_of(alloc: Global, fault: FirstFault, conf: &Text) -> Status
     }
 }
 
-// Serves by the first generation and those that looks publish, until the side has ended and no look comes any more.
+// Serves by the first generation and those that looks publish, until the side has ended and no look
+// comes any more.
 fn finish<R: Wait, S: Side, W: Watch>(
     rt: &R,
     alloc: Global,
@@ -139,15 +163,27 @@ fn finish<R: Wait, S: Side, W: Watch>(
     command: Command<'_>,
     generations: &mut Generations,
 ) -> (Done<S>, Watcher<W>)
-    requires fresh { IsFreshSide (S.journal side) (S.counts side) }
+    requires fresh { IsFreshSide (S.state side) }
     requires chain { IsChain generations.old.chain }
     requires first { generations.old.published ≡ 1 }
     requires idle { generations.old.pinned ≡ false }
     requires pins { generations.old.pins ≡ 0 }
     requires some { 0 < command.most }
-    requires most { command.most ≤ 2 ^ 46 }
-    ensures finishes { Finishes command.entry.conf.now generations.old.chain.default_port command.entry.most generations.old.chain.bundle (W.state watch) (W.state result.1.watch) generations.new.published result.1.starved (side_run S.journal S.counts result.0) }
-    ensures counts { WatchNoneFell (W.state watch).counts (W.state result.1.watch).counts }
+    requires most { command.most ≤ limits.TURNS }
+    ensures finishes { Finishes
+        (record {
+          conf = command.entry.conf.now;
+          default_port = generations.old.chain.default_port;
+          most = command.entry.most;
+        })
+        (record {
+          watcher = record { watch = W.state watch; starved = 0 };
+          serving = generations.old;
+        })
+        (record { watcher = watcher_state W.state result.1; serving = generations.new })
+        (side_run S.state result.0) }
+    ensures script { (S.state result.0.side).script ≡ (S.state side).script }
+    ensures watch { WatchStays (W.state watch) (W.state result.1.watch) }
 {
     let mut worker = Worker::new(alloc, side);
     let mut watcher = Watcher { watch, starved: 0 };

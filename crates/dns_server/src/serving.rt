@@ -1,5 +1,6 @@
+ghost use Rattle.dns_data.specs.declared.limit.TheConstants as limits;
 ghost use Rattle.std.specs.Prelude.{◌≡◌, ◌≤◌, ◌<◌, [], IfOk, option_map};
-ghost use Rattle.dns_server.specs.Serve.{Serves, IsChain, block_answer, class_answer, header_reply, is_known_version, limit_of, nothing, opt_reply, query_of, reply_to, replying};
+ghost use Rattle.dns_server.specs.Serve.{Serves, IsChain, block_answer, class_answer, header_reply, is_known_version, limit_of, nothing, opt_reply, query_of, reply_to, reply_message};
 ghost use Rattle.dns_data.specs.Message.{AreCodes};
 ghost use Rattle.dns_wire.specs.Written.{written};
 ghost use Rattle.dns_wire.specs.Assembled.{message_of};
@@ -8,23 +9,13 @@ use crate::chain::Chain;
 use crate::corefile::Block;
 use crate::room::Room;
 use crate::whoami::whoami_answer;
-use dns_data::{Answer, Bytes, NoMemory, Opt, Query, Question, Records, Seq, Transport};
-use dns_wire::{Asked, Head, Header, MessageParts, QueryFault, read_asked, write_parts};
+use dns_data::{
+    Answer, Bytes, NoMemory, Opt, Query, Question, Records, Seq, Transport, class, limit, opcode,
+    rcode,
+};
+use dns_wire::{Asked, Flags, Head, MessageParts, QueryFault, read_asked, write_parts};
 use outside::Datagram;
 use std::alloc::Global;
-
-// RCODEs (RFC 1035, section 4.1.1).
-const FORMERR: u8 = 1;
-
-const NOTIMP: u8 = 4;
-
-const REFUSED: u8 = 5;
-
-// The upper bits of BADVERS (RFC 6891, section 9).
-const BADVERS: u8 = 1;
-
-// The payload size in bytes that replies give (RFC 6891, section 6.2.5, and what networks carry whole).
-const PAYLOAD: u16 = 1232;
 
 /// Why a datagram gets no reply: fewer than 12 bytes, or a response.
 #[derive(Clone, Copy, Debug, PartialEq, Eq)]
@@ -53,11 +44,11 @@ pub fn serve(alloc: Global, chain: &Chain, datagram: &Datagram, room: &mut Room)
         },
         Err(QueryFault::Short) => Served::Silent(Silence::Short),
         Err(QueryFault::Response) => Served::Silent(Silence::Response),
-        Err(QueryFault::NotImp(head)) => match header_reply(alloc, head, NOTIMP) {
+        Err(QueryFault::NotImp(head)) => match header_reply(alloc, head, rcode::NOTIMP) {
             Ok(bytes) => Served::Reply(bytes),
             Err(NoMemory) => Served::NoMemory,
         },
-        Err(QueryFault::FormErr(head)) => match header_reply(alloc, head, FORMERR) {
+        Err(QueryFault::FormErr(head)) => match header_reply(alloc, head, rcode::FORMERR) {
             Ok(bytes) => Served::Reply(bytes),
             Err(NoMemory) => Served::NoMemory,
         },
@@ -68,7 +59,7 @@ pub fn serve(alloc: Global, chain: &Chain, datagram: &Datagram, room: &mut Room)
 // A header alone, for a query that wasn't read.
 #[tactic(auto, unfolding(crate::specs::Serve::header_reply))]
 fn header_reply(alloc: Global, head: Head, rcode: u8) -> Result<Bytes, NoMemory>
-    requires { head.opcode < 16 }
+    requires { head.opcode < limits.CODE_END }
     ensures { IfOk result (λ bytes. bytes ≡ header_reply head.id head.opcode head.rd rcode) }
 {
     let [high, low] = head.id.to_be_bytes();
@@ -84,7 +75,8 @@ fn reply(
     asked: Asked,
     room: &mut Room,
 ) -> Result<Bytes, NoMemory>
-    ensures { IfOk result (λ bytes. bytes ≡ written (reply_to block datagram.now asked) (limit_of datagram.now.by asked.opt)) }
+    ensures { IfOk result (λ bytes. bytes
+        ≡ written (reply_to block datagram.now asked) (limit_of datagram.now.by asked.opt)) }
 {
     let (id, class, opt) = (asked.id, asked.question.class, asked.opt);
     let limit = limit_of(datagram.by, opt);
@@ -93,9 +85,12 @@ fn reply(
     let (ext, answer) = if is_known_version(opt) {
         (0, class_answer(alloc, class, block, &query, records)?)
     } else {
-        (BADVERS, nothing(alloc, 0, records))
+        (
+            rcode::BADVERS_UPPER,
+            nothing(alloc, rcode::NOERROR, records),
+        )
     };
-    let parts = replying(id, class, opt_reply(ext, opt), &query, &answer);
+    let parts = reply_message(id, class, opt_reply(ext, opt), &query, &answer);
     let bytes = write_parts(alloc, room.take_reply(alloc), &parts, limit)?;
     room.keep_records(answer.additional);
     Ok(bytes)
@@ -104,13 +99,13 @@ fn reply(
 // As many bytes as a reply may have.
 fn limit_of(by: Transport, opt: Option<Opt>) -> u32
     ensures value { result ≡ limit_of by opt }
-    ensures range { (512 ≤ result) × (result ≤ 65535) }
+    ensures range { (limits.UDP_BYTES ≤ result) × (result ≤ limits.MESSAGE_BYTES) }
 {
     match by {
-        Transport::Tcp => 65_535,
+        Transport::Tcp => limit::MESSAGE_BYTES,
         Transport::Udp => match opt {
-            Some(opt) => u32::from(opt.size).max(512),
-            None => 512,
+            Some(opt) => u32::from(opt.size).max(limit::UDP_BYTES),
+            None => limit::UDP_BYTES,
         },
     }
 }
@@ -130,7 +125,7 @@ fn opt_reply(ext: u8, opt: Option<Opt>) -> Option<Opt>
 {
     match opt {
         Some(opt) => Some(Opt {
-            size: PAYLOAD,
+            size: limit::EDNS_BYTES,
             ext,
             version: 0,
             dnssec: opt.dnssec,
@@ -177,10 +172,10 @@ fn class_answer(
     requires { records ≡ [] }
     ensures { IfOk result (λ answer. answer ≡ class_answer class block query.now) }
 {
-    if class == 1 {
+    if class == class::IN {
         return block_answer(alloc, block, query, records);
     }
-    Ok(nothing(alloc, REFUSED, records))
+    Ok(nothing(alloc, rcode::REFUSED, records))
 }
 
 fn block_answer(
@@ -196,13 +191,13 @@ fn block_answer(
         Some(block) if block.whoami && block.port == query.local => {
             whoami_answer(alloc, query, records)
         }
-        _ => Ok(nothing(alloc, REFUSED, records)),
+        _ => Ok(nothing(alloc, rcode::REFUSED, records)),
     }
 }
 
 // An RCODE without records.
 fn nothing(alloc: Global, rcode: u8, records: Records) -> Answer
-    requires small { rcode < 16 }
+    requires small { rcode < limits.CODE_END }
     requires none { records ≡ [] }
     ensures { result ≡ nothing rcode }
 {
@@ -219,21 +214,21 @@ fn nothing(alloc: Global, rcode: u8, records: Records) -> Answer
 
 // The message that answers a query of this id, class and OPT record.
 #[inline]
-fn replying<'a>(
+fn reply_message<'a>(
     id: u16,
     class: u16,
     opt: Option<Opt>,
     query: &'a Query,
     answer: &'a Answer,
 ) -> MessageParts<'a>
-    ensures message { message_of result ≡ replying id class opt query.now answer.now }
-    ensures codes { AreCodes result.header.opcode result.header.rcode }
+    ensures message { message_of result ≡ reply_message id class opt query.now answer.now }
+    ensures codes { AreCodes result.flags.opcode result.flags.rcode }
 {
     MessageParts {
-        header: Header {
+        flags: Flags {
             id,
             qr: true,
-            opcode: 0,
+            opcode: opcode::QUERY,
             aa: answer.aa,
             tc: answer.tc,
             rd: query.rd,

@@ -2,63 +2,14 @@ ghost use Rattle.std.specs.Prelude.{◌≡◌};
 ghost use Rattle.outside.specs.Causes.{HostNoneFell};
 ghost use Rattle.dns_server.specs.Telling.{TellsStatus, TellsLine, untold};
 
-use crate::corefile::CorefileFault;
-use crate::report::{Refusal, Status};
-use corefile_words::WordsFault;
+use crate::status::Status;
 use outside::{Host, Wrote};
 use std::alloc::Global;
-use std::fmt;
-use std::fmt::{Display, Formatter, Write};
-
-impl Display for Refusal {
-    ghost use Rattle.std.specs.Prelude.{Some};
-    ghost use Rattle.dns_server.specs.Messages.{refusal_text};
-
-    ghost output = { λ refusal. Some (refusal_text refusal) };
-
-    fn fmt<W: Write>(&self, f: &mut Formatter<W>) -> fmt::Result {
-        match self {
-            Refusal::NoCorefile => f.write_str("no corefile"),
-            Refusal::Corefile(CorefileFault::Words(fault)) => match fault {
-                WordsFault::NotText { line } => write!(f, "corefile line {line}: not UTF-8"),
-                WordsFault::OpenQuote { line } => write!(f, "corefile line {line}: open quote"),
-                WordsFault::QuoteTail { line } => {
-                    write!(f, "corefile line {line}: text after quote")
-                }
-                WordsFault::NoMemory => f.write_str("out of memory"),
-            },
-            Refusal::Unknown { line } => write!(f, "corefile line {line}: unknown directive"),
-            Refusal::Unbuilt => f.write_str("not built yet"),
-        }
-    }
-}
-
-/// The line that tells a status. `Ended` and `TellFailed` have none.
-impl Display for Status {
-    ghost use Rattle.std.specs.Prelude.{Some};
-    ghost use Rattle.dns_server.specs.Messages.{status_text};
-
-    ghost output = { λ how. Some (status_text how) };
-
-    fn fmt<W: Write>(&self, f: &mut Formatter<W>) -> fmt::Result {
-        match self {
-            Status::Usage => f.write_str(
-                "usage: dnschain serve --conf FILE [--port N] [--workers N] [--queries N], or dnschain load N",
-            ),
-            Status::ReadFailed(name) => write!(f, "cannot read {}", name.as_str()),
-            Status::OpenFailed => f.write_str("cannot open"),
-            Status::Refused(refusal) => write!(f, "{refusal}"),
-            Status::NoMemory => f.write_str("out of memory"),
-            Status::WorkerFailed => f.write_str("a worker could not receive"),
-            Status::TellFailed | Status::Ended => Ok(()),
-        }
-    }
-}
 
 /// Tells the line of a status, where it has one, and gives the status that stands then.
 pub fn tell_status<H: Host>(alloc: Global, host: &mut H, status: Status) -> Status
-    ensures tells { TellsStatus status result (H.told host.old) (H.told host.new) (H.counts host.old) (H.counts host.new) }
-    ensures counts { HostNoneFell (H.counts host.old) (H.counts host.new) }
+    ensures tells { TellsStatus status result (H.state host.old) (H.state host.new) }
+    ensures counts { HostNoneFell (H.state host.old).counts (H.state host.new).counts }
 {
     match format!(in alloc; "{status}") {
         Ok(line) => tell_line(host, status, line.as_bytes()),
@@ -68,8 +19,8 @@ pub fn tell_status<H: Host>(alloc: Global, host: &mut H, status: Status) -> Stat
 
 // Tells this line of a status. An empty one is not told.
 fn tell_line<H: Host>(host: &mut H, status: Status, line: &[u8]) -> Status
-    ensures tells { TellsLine line.now status result (H.told host.old) (H.told host.new) (H.counts host.old) (H.counts host.new) }
-    ensures counts { HostNoneFell (H.counts host.old) (H.counts host.new) }
+    ensures tells { TellsLine line.now status result (H.state host.old) (H.state host.new) }
+    ensures counts { HostNoneFell (H.state host.old).counts (H.state host.new).counts }
 {
     if line.is_empty() {
         return status;
@@ -80,7 +31,8 @@ fn tell_line<H: Host>(host: &mut H, status: Status, line: &[u8]) -> Status
     }
 }
 
-// The status of a run whose line could not be told. A cause that comes before serving keeps its own.
+// The status of a run whose line could not be told. A cause that comes before serving keeps its
+// own.
 fn untold(status: Status) -> Status
     ensures { result ≡ untold status }
 {

@@ -1,6 +1,7 @@
 ghost use Rattle.std.specs.Prelude.{◌≡◌, false, None};
-ghost use Rattle.outside.specs.Causes.{WatchNoneFell};
+ghost use Rattle.outside.specs.States.{WatchStays};
 ghost use Rattle.dns_server.specs.Serve.{IsChain};
+ghost use Rattle.dns_server.specs.States.{watcher_state};
 ghost use Rattle.dns_server.specs.Watcher.{TakesLook};
 
 use crate::generation::Generations;
@@ -16,7 +17,8 @@ pub const INTERVAL: u64 = 30_000;
 /// How much longer a look waits at most, in milliseconds.
 pub const JITTER: u64 = 15_000;
 
-/// Why no further look for a changed configuration is made: the watch has ended, or what serves has no `reload`.
+/// Why no further look for a changed configuration is made: the watch has ended, or what serves has
+/// no `reload`.
 #[derive(Clone, Copy, Debug, PartialEq, Eq)]
 pub enum WatchEnd {
     End,
@@ -25,7 +27,7 @@ pub enum WatchEnd {
 
 /// A watcher: its watch, and what it has counted so far.
 #[derive(Drop)]
-pub struct Watcher<W: Watch> {
+pub struct Watcher<W> {
     pub watch: W,
     /// How many looks met want of memory.
     pub starved: u64,
@@ -40,8 +42,11 @@ pub fn take_look<W: Watch>(
 ) -> Option<WatchEnd>
     requires idle { generations.old.pinned ≡ false }
     requires chain { IsChain generations.old.chain }
-    ensures takes { TakesLook conf.now generations.old generations.new (W.state watcher.old.watch) (W.state watcher.new.watch) watcher.old.starved watcher.new.starved result }
-    ensures counts { WatchNoneFell (W.state watcher.old.watch).counts (W.state watcher.new.watch).counts }
+    ensures takes { TakesLook conf.now
+        (record { watcher = watcher_state W.state watcher.old; serving = generations.old })
+        (record { watcher = watcher_state W.state watcher.new; serving = generations.new })
+        result }
+    ensures watch { WatchStays (W.state watcher.old.watch) (W.state watcher.new.watch) }
 {
     if !reloads(&generations.chain().corefile) {
         return Some(WatchEnd::NoReload);

@@ -1,23 +1,24 @@
 ghost use Rattle.std.specs.Prelude.{◌≡◌, ◌++◌, [], IfOk, OnOk};
-ghost use Rattle.dns_server.specs.Whoami.{whoami_of, service_name, service_records, address_data};
+ghost use Rattle.dns_server.specs.Whoami.{whoami_of, srv_owner, srv_records, address_data};
 
 use dns_data::{
-    Addr, Answer, Copies, Name, NoMemory, Query, Rdata, Record, Records, Seq, Transport,
+    Addr, Answer, Copies, Name, NoMemory, Query, Rdata, Record, Records, Seq, Transport, class,
+    limit, rcode,
 };
 use std::alloc::Global;
 
-/// Tells the client its own address, in an A or AAAA record at the query name, and its port, in an SRV record below it.
-/// Both have TTL 0. They are put into the list, which is empty.
+/// Tells the client its own address, in an A or AAAA record at the query name, and its port, in an
+/// SRV record below it. Both have TTL 0. They are put into the list, which is empty.
 #[tactic(auto, unfolding(crate::specs::Whoami::whoami_of))]
 pub fn whoami_answer(alloc: Global, query: &Query, records: Records) -> Result<Answer, NoMemory>
     requires none { records ≡ [] }
     ensures value { IfOk result (λ answer. answer ≡ whoami_of query.now) }
 {
     let mut additional = records;
-    additional.push(Record::new(query.name.copy(alloc)?, 1, 0, address(query.client)))?;
-    push_service(alloc, query, &mut additional)?;
+    additional.push(Record::new(query.name.copy(alloc)?, class::IN, 0, address(query.client)))?;
+    push_srv(alloc, query, &mut additional)?;
     Ok(Answer {
-        rcode: 0,
+        rcode: rcode::NOERROR,
         aa: true,
         ra: false,
         tc: false,
@@ -37,10 +38,10 @@ fn address(client: Addr) -> Rdata
 }
 
 // The name with the transport's label before it, where that is a name.
-fn service_name(alloc: Global, by: Transport, name: &Name) -> Result<Option<Name>, NoMemory>
-    ensures { IfOk result (λ made. made ≡ service_name by name.now) }
+fn srv_owner(alloc: Global, by: Transport, name: &Name) -> Result<Option<Name>, NoMemory>
+    ensures { IfOk result (λ made. made ≡ srv_owner by name.now) }
 {
-    if 250 < name.wire_len() {
+    if limit::NAME_BYTES < name.wire_len() + 5 {
         return Ok(None);
     }
     Ok(Some(match by {
@@ -50,12 +51,13 @@ fn service_name(alloc: Global, by: Transport, name: &Name) -> Result<Option<Name
 }
 
 // Adds the SRV record, where its owner is a name.
-fn push_service(alloc: Global, query: &Query, additional: &mut Records) -> Result<(), NoMemory>
-    ensures { OnOk result (additional.new ≡ additional.old ++ service_records (service_name query.now.by query.now.name) query.now.port) }
+fn push_srv(alloc: Global, query: &Query, additional: &mut Records) -> Result<(), NoMemory>
+    ensures { let owner = srv_owner query.now.by query.now.name in
+        OnOk result (additional.new ≡ additional.old ++ srv_records owner query.now.port) }
 {
-    if let Some(owner) = service_name(alloc, query.by, &query.name)? {
+    if let Some(owner) = srv_owner(alloc, query.by, &query.name)? {
         let data = Rdata::Srv(0, 0, query.port, Name::root(alloc));
-        additional.push(Record::new(owner, 1, 0, data))?;
+        additional.push(Record::new(owner, class::IN, 0, data))?;
     }
     Ok(())
 }

@@ -1,28 +1,29 @@
-ghost use Rattle.std.specs.Prelude.{◌≡◌, ◌≤◌, ◌<◌, ◌+◌, ◌*◌, ◌-◌, ◌^◌, true, false, ◌∷◌};
+ghost use Rattle.dns_data.specs.declared.limit.TheConstants as limits;
+ghost use Rattle.std.specs.Prelude.{◌≡◌, ◌≤◌, ◌<◌, ◌+◌, ◌*◌, true, false, ◌∷◌};
 ghost use Rattle.outside.specs.declared.mark.Mark.TheVariants.{Got};
 ghost use Rattle.outside.specs.Marks.{Grows};
-ghost use Rattle.outside.specs.Causes.{NoneFell, Rose};
+ghost use Rattle.outside.specs.Causes.{Rose};
+ghost use Rattle.outside.specs.States.{Stays};
 ghost use Rattle.dns_server.specs.Serve.{IsChain};
-ghost use Rattle.dns_server.specs.Tally.{DatagramEnds, IsIdle, RowEnds, missed, took};
+ghost use Rattle.dns_server.specs.States.{worker_state};
+ghost use Rattle.dns_server.specs.Tally.{DatagramEnds, IsIdle, RowEnds, with_miss, with_datagram};
 ghost use Rattle.dns_server.specs.Worker.{AddsTurn, IsOfDatagram, Pins, PinsBy, SendsServed, TakesTurn};
 
 use crate::generation::Generations;
 use crate::room::Room;
 use crate::serving::{Served, serve};
+use dns_data::limit;
 use outside::{Datagram, Received, Seen, Side};
 use std::alloc::Global;
 
-/// How a worker ended: it took the last datagram, it met 64 failing calls of `recv` in a row, or 64 in a row failed or met
-/// want of memory, and at least one of them want of memory.
+/// How a worker ended: it took the last datagram, it met 64 failing calls of `recv` in a row, or 64
+/// in a row failed or met want of memory, and at least one of them want of memory.
 #[derive(Clone, Copy, Debug, PartialEq, Eq)]
 pub enum WorkEnd {
     End,
     RecvFailed,
     NoMemory,
 }
-
-/// How many calls of `recv` in a row may fail.
-pub const MOST_FAILURES: u64 = 64;
 
 /// What a worker counts.
 #[derive(Clone, Copy, Debug, PartialEq, Eq)]
@@ -36,20 +37,20 @@ pub struct Tally {
     /// How many of the last calls of `recv` in a row failed or met want of memory.
     pub failures: u64,
     /// Whether one of these met want of memory.
-    pub has_want: bool,
+    pub has_starved: bool,
 }
 
 impl Tally {
     // A datagram was taken under this serial. The last of `most` ends the worker.
-    fn took(&mut self, serial: u64, most: u64) -> Option<WorkEnd>
+    fn take(&mut self, serial: u64, most: u64) -> Option<WorkEnd>
         requires { self.old.pins < most }
-        ensures tally { self.new ≡ took serial self.old }
+        ensures tally { self.new ≡ with_datagram serial self.old }
         ensures end { DatagramEnds most self.new result }
     {
         self.pins += 1;
         self.seen = serial;
         self.failures = 0;
-        self.has_want = false;
+        self.has_starved = false;
         if self.pins == most {
             return Some(WorkEnd::End);
         }
@@ -57,16 +58,16 @@ impl Tally {
     }
 
     // A call of `recv` gave nothing. The 64th in a row ends the worker.
-    fn missed(&mut self) -> Option<WorkEnd>
-        requires { self.old.failures < 64 }
-        ensures tally { self.new ≡ missed self.old }
+    fn miss(&mut self) -> Option<WorkEnd>
+        requires { self.old.failures < limits.FAILURES }
+        ensures tally { self.new ≡ with_miss self.old }
         ensures end { RowEnds self.new result }
     {
         self.failures += 1;
-        if self.failures < MOST_FAILURES {
+        if self.failures < limit::FAILURES {
             return None;
         }
-        if self.has_want {
+        if self.has_starved {
             return Some(WorkEnd::NoMemory);
         }
         Some(WorkEnd::RecvFailed)
@@ -75,13 +76,13 @@ impl Tally {
 
 /// A worker: its side, what it has counted so far, and the room for its replies.
 #[derive(Drop)]
-pub struct Worker<S: Side> {
+pub struct Worker<S> {
     pub side: S,
     pub tally: Tally,
     pub room: Room,
 }
 
-impl<S: Side> Worker<S> {
+impl<S> Worker<S> {
     /// A worker that has done nothing yet.
     pub fn new(alloc: Global, side: S) -> Worker<S>
         ensures side { result.side ≡ side }
@@ -94,20 +95,20 @@ impl<S: Side> Worker<S> {
                 seen: 0,
                 starved: 0,
                 failures: 0,
-                has_want: false,
+                has_starved: false,
             },
             room: Room::new(alloc),
         }
     }
 }
 
-/// What one turn of a worker came to.
+/// What one turn of a worker came to, with the serial under which a datagram was taken.
 #[derive(Clone, Copy, Debug, PartialEq, Eq)]
 pub enum Turned {
     /// A datagram got its reply, or silence with a cause.
-    Answered,
+    Answered(u64),
     /// A datagram met want of memory.
-    Starved,
+    Starved(u64),
     RecvFailed,
     RecvStarved,
     RecvEnd,
@@ -124,25 +125,26 @@ pub fn work_once<S: Side>(
     requires idle { generations.old.pinned ≡ false }
     requires pins { generations.old.pins ≡ worker.old.tally.pins }
     requires more { worker.old.tally.pins < most }
-    requires most { most ≤ 2 ^ 46 }
-    requires failures { worker.old.tally.failures < 64 }
-    requires starved { worker.old.tally.starved ≤ 65 * worker.old.tally.pins + worker.old.tally.failures }
-    ensures takes { TakesTurn generations.old most (S.journal worker.old.side) (S.journal worker.new.side) (S.counts worker.old.side) (S.counts worker.new.side) worker.old.tally worker.new.tally result }
-    ensures generations { Pins generations.old worker.new.tally.pins generations.new }
-    ensures later { NoneFell (S.counts worker.old.side) (S.counts worker.new.side) }
+    requires most { most ≤ limits.TURNS }
+    requires failures { worker.old.tally.failures < limits.FAILURES }
+    requires starved { worker.old.tally.starved ≤ 65 * worker.old.tally.pins +
+        worker.old.tally.failures }
+    ensures { TakesTurn most
+        (record { worker = worker_state S.state worker.old; serving = generations.old })
+        (record { worker = worker_state S.state worker.new; serving = generations.new })
+        result }
 {
-    let serial = generations.published() - 1;
     match take_turn(alloc, &mut worker.side, generations, &mut worker.room) {
-        Turned::Answered => worker.tally.took(serial, most),
-        Turned::Starved => {
+        Turned::Answered(serial) => worker.tally.take(serial, most),
+        Turned::Starved(serial) => {
             worker.tally.starved += 1;
-            worker.tally.took(serial, most)
+            worker.tally.take(serial, most)
         }
-        Turned::RecvFailed => worker.tally.missed(),
+        Turned::RecvFailed => worker.tally.miss(),
         Turned::RecvStarved => {
             worker.tally.starved += 1;
-            worker.tally.has_want = true;
-            worker.tally.missed()
+            worker.tally.has_starved = true;
+            worker.tally.miss()
         }
         Turned::RecvEnd => Some(WorkEnd::End),
     }
@@ -157,10 +159,11 @@ pub fn take_turn<S: Side>(
 ) -> Turned
     requires chain { IsChain generations.old.chain }
     requires idle { generations.old.pinned ≡ false }
-    requires few { generations.old.pins < 2 ^ 46 }
-    ensures told { Grows (S.journal side.old) (S.journal side.new) (AddsTurn generations.old.chain.bundle generations.old.chain.default_port (generations.old.published - 1) result) }
-    ensures later { NoneFell (S.counts side.old) (S.counts side.new) }
-    ensures failed { result ≡ Turned.RecvFailed → Rose (S.counts side.old).recv (S.counts side.new).recv }
+    requires few { generations.old.pins < limits.TURNS }
+    ensures told { Grows (S.state side.old) (S.state side.new) (AddsTurn generations.old result) }
+    ensures stays { Stays (S.state side.old) (S.state side.new) }
+    ensures failed { result ≡ Turned.RecvFailed
+        → Rose (S.state side.old).counts.recv (S.state side.new).counts.recv }
     ensures generations { PinsBy generations.old result generations.new }
 {
     match side.recv() {
@@ -185,34 +188,35 @@ fn answer<S: Side>(
 ) -> Turned
     requires chain { IsChain generations.old.chain }
     requires idle { generations.old.pinned ≡ false }
-    requires few { generations.old.pins < 2 ^ 46 }
-    ensures told { Grows (S.journal side.old) (S.journal side.new) (λ marks. AddsTurn generations.old.chain.bundle generations.old.chain.default_port (generations.old.published - 1) result (Got datagram.now ∷ marks)) }
-    ensures later { NoneFell (S.counts side.old) (S.counts side.new) }
+    requires few { generations.old.pins < limits.TURNS }
+    ensures told { Grows (S.state side.old) (S.state side.new)
+        (λ marks. AddsTurn generations.old result (Got datagram.now ∷ marks)) }
+    ensures stays { Stays (S.state side.old) (S.state side.new) }
     ensures generations { Pins generations.old (generations.old.pins + 1) generations.new }
     ensures datagram { IsOfDatagram result }
 {
     let serial = generations.pin();
     side.saw(Seen::Pinned(serial));
     let served = serve(alloc, generations.chain(), datagram, room);
-    let turned = send(side, served, room);
+    let turned = send(side, serial, served, room);
     side.saw(Seen::Unpinned(serial));
     generations.unpin();
     turned
 }
 
-// Sends the reply, where there is one, and keeps its bytes for the next one. A reply that didn't go out ends nothing: the
-// client asks again.
-fn send<S: Side>(side: &mut S, served: Served, room: &mut Room) -> Turned
-    ensures sends { SendsServed (S.journal side.old) (S.journal side.new) served result }
-    ensures later { NoneFell (S.counts side.old) (S.counts side.new) }
+// Sends the reply, where there is one, and keeps its bytes for the next one. A reply that didn't go
+// out ends nothing: the client asks again.
+fn send<S: Side>(side: &mut S, serial: u64, served: Served, room: &mut Room) -> Turned
+    ensures sends { SendsServed (S.state side.old) (S.state side.new) serial served result }
+    ensures stays { Stays (S.state side.old) (S.state side.new) }
 {
     match served {
         Served::Reply(bytes) => {
             let _ = side.send(bytes.as_slice());
             room.reply = bytes;
-            Turned::Answered
+            Turned::Answered(serial)
         }
-        Served::Silent(_) => Turned::Answered,
-        Served::NoMemory => Turned::Starved,
+        Served::Silent(_) => Turned::Answered(serial),
+        Served::NoMemory => Turned::Starved(serial),
     }
 }

@@ -1,7 +1,7 @@
 -- The number with which the program ends, by the status of its run. This server's own rule.
 use Rattle.std.specs.Prelude.{ℕ}
-use Rattle.dns_server.specs.declared.report.Status.{Status}
-use Rattle.dns_server.specs.declared.report.Status.TheVariants as status
+use Rattle.dns_server.specs.declared.status.Status.{Status}
+use Rattle.dns_server.specs.declared.status.Status.TheVariants as status
 
 abbrev pub exit_number : Status → ℕ
 exit_number status.Usage = 2

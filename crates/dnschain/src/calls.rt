@@ -1,5 +1,5 @@
-//! The two calls of the system that each query makes. An address stays in the bytes in which the system gave it, and goes
-//! back in them.
+//! The two calls of the system that each query makes. An address stays in the bytes in which the
+//! system gave it, and goes back in them.
 ghost use Rattle.std.specs.Prelude.{◌≡◌, ◌≤◌, length, Some, IfSome};
 ghost use Rattle.dnschain.specs.Sender.{client_of};
 
@@ -10,8 +10,9 @@ use std::os::fd::AsRawFd;
 
 const SPACE: u32 = 128;
 
-/// Receives a datagram into the packet, and says how many bytes it has and who sent it. `None` where the call fails, a signal
-/// among the reasons, and where the sender has no address of either family.
+/// Receives a datagram into the packet, and says how many bytes it has and who sent it. `None`
+/// where the call fails, a signal among the reasons, and where the sender has no address of either
+/// family.
 #[inline]
 pub fn receive(socket: &UdpSocket, packet: &mut [u8], from: &mut Sender) -> Option<(usize, Client)>
     ensures count { IfSome result (λ r. r.0 ≤ length packet.new) }

@@ -1,5 +1,6 @@
 ghost use Rattle.std.specs.Prelude.{None};
 
+use crate::lines::{count, tell_line};
 use crate::receive_buffer::widen;
 use crate::udp::UdpSide;
 use crate::watch::FileWatch;
@@ -15,8 +16,8 @@ use std::sync::Arc;
 use std::sync::atomic::AtomicU64;
 use std::time::Clock;
 
-/// The host over the system: UDP sockets at every address, files, standard output and standard error. It tells no lines,
-/// no opened sides and no supply, and counts its failing calls.
+/// The host over the system: UDP sockets at every address, files, standard output and standard
+/// error. It tells no lines, no opened sides and no supply, and counts its failing calls.
 #[derive(Drop)]
 pub struct SystemHost<R: Net + Files + Clock + RandomSource + Print + Eprint + Copy + Send + Drop> {
     rt: R,
@@ -45,11 +46,11 @@ impl<R: Net + Files + Clock + RandomSource + Print + Eprint + Copy + Send + Drop
 
     type Watch = FileWatch<R>;
 
-    ghost told = { λ _. None };
-
-    ghost counts = { λ h. record { opens = h.open_faults; tells = h.tell_faults } };
-
-    ghost supply = { λ _. None };
+    ghost state = { λ h. record {
+      told = None;
+      counts = record { opens = h.open_faults; tells = h.tell_faults };
+      supply = None;
+    } };
 
     fn open_watch(&mut self) -> Result<FileWatch<R>, OpenFault> {
         let Ok(live) = Arc::new(self.alloc, AtomicU64::new(0)) else {
@@ -77,19 +78,17 @@ impl<R: Net + Files + Clock + RandomSource + Print + Eprint + Copy + Send + Drop
                 Err(_) => Err(OpenFault::NoMemory),
             },
             Err(_) => {
-                self.open_faults = self.open_faults.saturating_add(1);
+                count(&mut self.open_faults);
                 Err(OpenFault::Failed)
             }
         }
     }
 
     fn tell(&mut self, line: &[u8]) -> Wrote {
-        if let Ok(text) = std::str::from_utf8(line) {
-            if self.rt.println(text).is_ok() {
-                return Wrote::Ok;
-            }
+        if tell_line(&self.rt, line) {
+            return Wrote::Ok;
         }
-        self.tell_faults = self.tell_faults.saturating_add(1);
+        count(&mut self.tell_faults);
         Wrote::Failed
     }
 }
@@ -105,7 +104,8 @@ fn counter(
     }
 }
 
-// A socket at every address of both families, or of IPv4 alone where the system has no IPv6. TCP isn't built yet.
+// A socket at every address of both families, or of IPv4 alone where the system has no IPv6. TCP
+// isn't built yet.
 fn open_udp(net: &impl Net, port: u16, by: Transport) -> io::Result<UdpSocket> {
     if by == Transport::Tcp {
         return Err(io::Error::from(ErrorKind::Unsupported));

@@ -1,3 +1,4 @@
+ghost use Rattle.dns_data.specs.declared.limit.TheConstants as limits;
 ghost use Rattle.std.specs.Prelude.{◌≡◌, ◌≤◌, ◌<◌, ◌+◌, ◌↔◌, length, IfSome, IsTrue};
 
 use dns_data::{Bytes, Copies, Text};
@@ -15,14 +16,15 @@ pub struct KeptFile {
     name: Text,
     bytes: Bytes,
     at: u64,
-    ghost short: { length bytes ≤ 1048577 },
+    ghost short: { length bytes ≤ limits.READ_BYTES },
 }
 
 impl KeptFile {
     /// Keeps the bytes of a file that was read at this time, where there is memory for it.
     pub fn new(alloc: Global, name: &Text, bytes: &Bytes, at: u64) -> Option<KeptFile>
-        requires { length bytes.now ≤ 1048577 }
-        ensures { IfSome result (λ file. (file.name ≡ name.now) × (file.bytes ≡ bytes.now) × (file.at ≡ at)) }
+        requires { length bytes.now ≤ limits.READ_BYTES }
+        ensures { IfSome result (λ file. (file.name ≡ name.now) × (file.bytes ≡ bytes.now)
+            × (file.at ≡ at)) }
     {
         let Ok(name) = name.copy(alloc) else {
             return None;
@@ -35,8 +37,9 @@ impl KeptFile {
 
     /// The bytes of the file of this name, where they were read less than a second before.
     pub fn bytes(&self, name: &Text, now: u64) -> Option<&Bytes>
-        ensures short { IfSome result (λ bytes. length bytes.now ≤ 1048577) }
-        ensures kept { IfSome result (λ bytes. (bytes.now ≡ self.now.bytes) × (self.now.name ≡ name.now)) }
+        ensures short { IfSome result (λ bytes. length bytes.now ≤ limits.READ_BYTES) }
+        ensures kept { IfSome result (λ bytes. (bytes.now ≡ self.now.bytes)
+            × (self.now.name ≡ name.now)) }
         ensures recent { IfSome result (λ bytes. (self.now.at ≤ now) × (now < self.now.at + 1000)) }
     {
         if self.name.as_str() == name.as_str() && is_before(self.at, now, SECOND) {
@@ -66,7 +69,8 @@ impl KeptLine {
 
     /// Whether this line was written less than 30 seconds before.
     pub fn is_fresh(&self, line: &[u8], now: u64) -> bool
-        ensures { IsTrue result ↔ ((self.now.line ≡ line.now) × (self.now.at ≤ now) × (now < self.now.at + 30000)) }
+        ensures { IsTrue result ↔ ((self.now.line ≡ line.now) × (self.now.at ≤ now)
+            × (now < self.now.at + 30000)) }
     {
         self.line.is(line) && is_before(self.at, now, INTERVAL)
     }

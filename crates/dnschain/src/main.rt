@@ -1,11 +1,12 @@
-//! The program: `dnschain serve --conf FILE [--queries N]`, over the sockets, files and streams of the system. It ends
-//! with a number that says how the run ended: README.md.
+//! The program: `dnschain serve --conf FILE [--queries N]`, over the sockets, files and streams of
+//! the system. It ends with a number that says how the run ended: README.md.
 #![tactic(auto)]
 
 mod calls;
 mod clock;
 mod host;
 mod kept;
+mod lines;
 mod receive_buffer;
 mod sender;
 #[cfg(test)]

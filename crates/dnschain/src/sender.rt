@@ -1,6 +1,6 @@
 //! The address of a datagram's sender, as the system spells it and as a client is told.
 ghost use Rattle.std.specs.Prelude.{◌≡◌, ◌≤◌, ◌+◌};
-ghost use Rattle.dnschain.specs.Sender.{number_at, long_at, family_of, v6_of, client_of};
+ghost use Rattle.dnschain.specs.Sender.{u16_at, u32_at, family_of, v6_of, client_of};
 
 use dns_data::Addr;
 use libc::net as c;
@@ -18,20 +18,20 @@ const V4_LEN: u32 = 16;
 const V6_LEN: u32 = 28;
 
 #[inline]
-fn number_at(bytes: &[u8; 128], at: usize) -> u16
+fn u16_at(bytes: &[u8; 128], at: usize) -> u16
     requires { at + 2 ≤ 128 }
-    ensures { result ≡ number_at bytes.now at }
+    ensures { result ≡ u16_at bytes.now at }
 {
     256 * bytes[at] as u16 + bytes[at + 1] as u16
 }
 
 #[inline]
-#[tactic(auto, unfolding(crate::specs::Sender::long_at))]
-fn long_at(bytes: &[u8; 128], at: usize) -> u32
+#[tactic(auto, unfolding(crate::specs::Sender::u32_at))]
+fn u32_at(bytes: &[u8; 128], at: usize) -> u32
     requires { at + 4 ≤ 128 }
-    ensures { result ≡ long_at bytes.now at }
+    ensures { result ≡ u32_at bytes.now at }
 {
-    65536 * number_at(bytes, at) as u32 + number_at(bytes, at + 2) as u32
+    65536 * u16_at(bytes, at) as u32 + u16_at(bytes, at + 2) as u32
 }
 
 #[inline]
@@ -45,8 +45,8 @@ fn family_of(bytes: &[u8; 128]) -> u16
 fn v6_of(bytes: &[u8; 128]) -> Addr
     ensures { result ≡ v6_of bytes.now }
 {
-    let (first, second) = (long_at(bytes, 8), long_at(bytes, 12));
-    let (third, fourth) = (long_at(bytes, 16), long_at(bytes, 20));
+    let (first, second) = (u32_at(bytes, 8), u32_at(bytes, 12));
+    let (third, fourth) = (u32_at(bytes, 16), u32_at(bytes, 20));
     if first == 0 && second == 0 && third == 65535 {
         return Addr::V4(fourth);
     }
@@ -72,13 +72,14 @@ impl Sender {
     }
 }
 
-/// The client whose socket address is the first so many of the bytes. `None` for another family, and for too few bytes.
+/// The client whose socket address is the first so many of the bytes. `None` for another family,
+/// and for too few bytes.
 #[inline]
 pub fn client_of(bytes: &[u8; 128], len: u32) -> Option<Client>
     ensures { result ≡ client_of bytes.now len }
 {
     let family = family_of(bytes) as i32;
-    let port = number_at(bytes, 2);
+    let port = u16_at(bytes, 2);
     if family == c::AF_INET6 {
         if len < V6_LEN {
             return None;
@@ -90,7 +91,7 @@ pub fn client_of(bytes: &[u8; 128], len: u32) -> Option<Client>
     }
     if family == c::AF_INET && len >= V4_LEN {
         return Some(Client {
-            address: Addr::V4(long_at(bytes, 4)),
+            address: Addr::V4(u32_at(bytes, 4)),
             port,
         });
     }

@@ -2,6 +2,7 @@ ghost use Rattle.std.specs.Prelude.{◌≡◌, None, IfOk};
 
 use crate::calls::{receive, reply_to};
 use crate::clock::moment;
+use crate::lines::{count, note_line};
 use crate::sender::Sender;
 use dns_data::{Bytes, Transport};
 use outside::{Datagram, Outcome, Received, Seen, Side, Upstream, Wrote};
@@ -13,11 +14,12 @@ use std::sync::Arc;
 use std::sync::atomic::{AtomicU64, Ordering};
 use std::time::Clock;
 
-// As many bytes of a datagram as are taken. Queries have a few hundred, and what reading costs can grow with the square of a
-// message that is full of pointers.
+// As many bytes of a datagram as are taken. Queries have a few hundred, and what reading costs can
+// grow with the square of a message that is full of pointers.
 const LARGEST: usize = 4_096;
 
-/// A worker's side over a UDP socket. It tells no journal and no script, and counts its failing calls.
+/// A worker's side over a UDP socket. It tells no journal and no script, and counts its failing
+/// calls.
 #[derive(Drop)]
 pub struct UdpSide<R: Clock + RandomSource + Eprint + Drop> {
     rt: R,
@@ -36,6 +38,8 @@ pub struct UdpSide<R: Clock + RandomSource + Eprint + Drop> {
     send_faults: u64,
     ask_faults: u64,
     note_faults: u64,
+    // How often it was told that its worker has ended.
+    left: u64,
 }
 
 impl<R: Clock + RandomSource + Eprint + Drop> UdpSide<R> {
@@ -46,7 +50,9 @@ impl<R: Clock + RandomSource + Eprint + Drop> UdpSide<R> {
         local: u16,
         live: Arc<AtomicU64, Global>,
     ) -> Result<UdpSide<R>, AllocError>
-        ensures { IfOk result (λ s. (s.recv_faults ≡ 0) × (s.send_faults ≡ 0) × (s.ask_faults ≡ 0) × (s.note_faults ≡ 0)) }
+        ensures counts { IfOk result (λ s. (s.recv_faults ≡ 0) × (s.send_faults ≡ 0)
+            × (s.ask_faults ≡ 0) × (s.note_faults ≡ 0)) }
+        ensures here { IfOk result (λ s. s.left ≡ 0) }
     {
         let packet = Vec::from_elem(alloc, 0u8, LARGEST)?;
         live.fetch_add(1, Ordering::SeqCst);
@@ -63,16 +69,24 @@ impl<R: Clock + RandomSource + Eprint + Drop> UdpSide<R> {
             send_faults: 0,
             ask_faults: 0,
             note_faults: 0,
+            left: 0,
         })
     }
 }
 
 impl<R: Clock + RandomSource + Eprint + Drop> Side for UdpSide<R> {
-    ghost journal = { λ _. None };
-
-    ghost counts = { λ s. record { recv = s.recv_faults; send = s.send_faults; ask = s.ask_faults; silences = 0; note = s.note_faults } };
-
-    ghost script = { λ _. None };
+    ghost state = { λ s. record {
+      journal = None;
+      counts = record {
+        recv = s.recv_faults;
+        send = s.send_faults;
+        ask = s.ask_faults;
+        silences = 0;
+        note = s.note_faults;
+      };
+      script = None;
+      left = s.left;
+    } };
 
     ghost quiet = { λ _. tt };
 
@@ -81,7 +95,7 @@ impl<R: Clock + RandomSource + Eprint + Drop> Side for UdpSide<R> {
     fn recv(&mut self) -> Received {
         let packet = self.packet.as_mut_slice();
         let Some((count, client)) = receive(&self.socket, packet, &mut self.from) else {
-            self.recv_faults = self.recv_faults.saturating_add(1);
+            count(&mut self.recv_faults);
             return Received::Failed;
         };
         let mut bytes = mem::replace(&mut self.spare, Bytes::new(self.alloc));
@@ -102,7 +116,7 @@ impl<R: Clock + RandomSource + Eprint + Drop> Side for UdpSide<R> {
         if reply_to(&self.socket, reply, &self.from) {
             return Wrote::Ok;
         }
-        self.send_faults = self.send_faults.saturating_add(1);
+        count(&mut self.send_faults);
         Wrote::Failed
     }
 
@@ -122,22 +136,20 @@ impl<R: Clock + RandomSource + Eprint + Drop> Side for UdpSide<R> {
 
     /// No plugin that is built asks an upstream, and none is asked: every ask fails.
     fn ask(&mut self, _to: &Upstream, _by: Transport, _message: &[u8]) -> Outcome {
-        self.ask_faults = self.ask_faults.saturating_add(1);
+        count(&mut self.ask_faults);
         Outcome::Failed
     }
 
     fn more(&mut self) -> Outcome {
-        self.ask_faults = self.ask_faults.saturating_add(1);
+        count(&mut self.ask_faults);
         Outcome::Failed
     }
 
     fn note(&mut self, line: &[u8]) -> Wrote {
-        if let Ok(text) = std::str::from_utf8(line) {
-            if self.rt.eprintln(text).is_ok() {
-                return Wrote::Ok;
-            }
+        if note_line(&self.rt, line) {
+            return Wrote::Ok;
         }
-        self.note_faults = self.note_faults.saturating_add(1);
+        count(&mut self.note_faults);
         Wrote::Failed
     }
 
@@ -149,6 +161,7 @@ impl<R: Clock + RandomSource + Eprint + Drop> Side for UdpSide<R> {
 
     /// The watch answers End once the last side has left.
     fn leave(&mut self) {
+        count(&mut self.left);
         self.live.fetch_sub(1, Ordering::SeqCst);
     }
 }

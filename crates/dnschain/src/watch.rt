@@ -2,6 +2,8 @@ ghost use Rattle.std.specs.Prelude.{◌≡◌, ◌≤◌, None, length, IfOk, If
 
 use crate::clock::moment;
 use crate::kept::{KeptFile, KeptLine};
+use crate::lines::{count, note_line};
+use dns_data::limit::READ_BYTES;
 use dns_data::{Bytes, Copies, Text};
 use outside::{Look, Made, PatternMaker, ReadOut, RegexMaker, Watch, Wrote};
 use std::alloc::Global;
@@ -13,11 +15,9 @@ use std::sync::Arc;
 use std::sync::atomic::{AtomicU64, Ordering};
 use std::time::Clock;
 
-// One more byte than a file of a configuration may have, so that a longer one is seen to be longer.
-const MOST: usize = 1_048_577;
-
-/// The watch over the files of the system. It tells no journal and no script, and counts its failing calls. A file is read
-/// once a second at most, and a line that repeats the one before is written once in 30 seconds.
+/// The watch over the files of the system. It tells no journal and no script, and counts its
+/// failing calls. A file is read once a second at most, and a line that repeats the one before is
+/// written once in 30 seconds.
 #[derive(Drop)]
 pub struct FileWatch<R: Files + Clock + Eprint + Drop> {
     rt: R,
@@ -33,7 +33,8 @@ pub struct FileWatch<R: Files + Clock + Eprint + Drop> {
 
 impl<R: Files + Clock + Eprint + Drop> FileWatch<R> {
     pub fn new(rt: R, alloc: Global, live: Arc<AtomicU64, Global>) -> FileWatch<R>
-        ensures { (result.read_faults ≡ 0) × (result.note_faults ≡ 0) }
+        ensures counts { (result.read_faults ≡ 0) × (result.note_faults ≡ 0) }
+        ensures refusals { result.maker.refused ≡ 0 }
     {
         FileWatch {
             rt,
@@ -49,7 +50,7 @@ impl<R: Files + Clock + Eprint + Drop> FileWatch<R> {
 
     // The bytes that stand for a file; without a clock none do.
     fn kept_bytes(&self, name: &Text, now: Option<u64>) -> Option<&Bytes>
-        ensures { IfSome result (λ bytes. length bytes.now ≤ 1048577) }
+        ensures { IfSome result (λ bytes. length bytes.now ≤ READ_BYTES) }
     {
         match (&self.file, now) {
             (Some(file), Some(now)) => file.bytes(name, now),
@@ -67,9 +68,12 @@ impl<R: Files + Clock + Eprint + Drop> FileWatch<R> {
 }
 
 impl<R: Files + Clock + Eprint + Drop> PatternMaker for FileWatch<R> {
-    ghost refusals = { λ w. ⟦<RegexMaker as PatternMaker>⟧.refusals w.maker };
-
-    ghost state = { λ w. record { journal = None; counts = record { reads = w.read_faults; notes = w.note_faults }; script = None } };
+    ghost state = { λ w. record {
+      journal = None;
+      counts = record { reads = w.read_faults; notes = w.note_faults };
+      script = None;
+      refusals = w.maker.refused;
+    } };
 
     fn make(&mut self, alloc: Global, text: &Text) -> Made {
         self.maker.make(alloc, text)
@@ -81,7 +85,8 @@ impl<R: Files + Clock + Eprint + Drop> Watch for FileWatch<R> {
 
     ghost answered = { λ _. tt };
 
-    /// Doesn't wait, since the one thread serves between looks. The end comes once all sides have left.
+    /// Doesn't wait, since the one thread serves between looks. The end comes once all sides have
+    /// left.
     fn look(&mut self, _interval: u64, _jitter: u64) -> Look {
         if self.live.load(Ordering::SeqCst) == 0 {
             return Look::End;
@@ -110,7 +115,7 @@ impl<R: Files + Clock + Eprint + Drop> Watch for FileWatch<R> {
                 ErrorKind::NotFound => ReadOut::Missing,
                 ErrorKind::OutOfMemory => ReadOut::NoMemory,
                 _ => {
-                    self.read_faults = self.read_faults.saturating_add(1);
+                    count(&mut self.read_faults);
                     ReadOut::Failed
                 }
             },
@@ -122,29 +127,27 @@ impl<R: Files + Clock + Eprint + Drop> Watch for FileWatch<R> {
         if self.was_just_written(line, now) {
             return Wrote::Ok;
         }
-        if let Ok(text) = std::str::from_utf8(line) {
-            if self.rt.eprintln(text).is_ok() {
-                self.line = match now {
-                    Some(now) => KeptLine::new(self.alloc, line, now),
-                    None => None,
-                };
-                return Wrote::Ok;
-            }
+        if !note_line(&self.rt, line) {
+            count(&mut self.note_faults);
+            return Wrote::Failed;
         }
-        self.note_faults = self.note_faults.saturating_add(1);
-        Wrote::Failed
+        self.line = match now {
+            Some(now) => KeptLine::new(self.alloc, line, now),
+            None => None,
+        };
+        Wrote::Ok
     }
 
     fn saw_published(&mut self, _serial: u64) {}
 }
 
-// The first bytes of a file, as many as `MOST`.
+// The first bytes of a file, as many as `READ_BYTES`.
 fn read_limited(files: &impl Files, alloc: Global, name: &str) -> io::Result<Vec<u8>>
-    ensures { IfOk result (λ v. vec_len v ≤ 1048577) }
+    ensures { IfOk result (λ v. vec_len v ≤ READ_BYTES) }
 {
     let file = File::open(files, name)?;
     let mut bytes = Vec::new(alloc);
-    file.take(MOST as u64).read_to_end(&mut bytes)?;
-    bytes.truncate(MOST);
+    file.take(READ_BYTES as u64).read_to_end(&mut bytes)?;
+    bytes.truncate(READ_BYTES);
     Ok(bytes)
 }

@@ -149,14 +149,6 @@ impl Observed {
         left.next().is_none()
     }
 
-    /// Whether the one side sent this reply and no other, or none.
-    pub fn has_sent_once(&self, reply: Option<&[u8]>) -> bool {
-        match reply {
-            Some(reply) => self.has_sent(&[reply]),
-            None => self.has_sent(&[]),
-        }
-    }
-
     /// Whether the watch noted just these lines.
     pub fn has_noted(&self, lines: &[&str]) -> bool {
         let mut left = lines.iter();
@@ -184,15 +176,8 @@ impl Observed {
         matches!(self.host.lines(), Some([]))
     }
 
-    /// The port of the one side that was opened.
-    pub fn port(&self) -> Option<u16> {
-        match self.host.opens() {
-            Some([open]) => Some(open.port),
-            _ => None,
-        }
-    }
-
-    /// The pins of the one side, the last serial that it saw, and how many generations were published.
+    /// The pins of the one side, the last serial that it saw, and how many generations were
+    /// published.
     pub fn counts(&self) -> (u64, u64, u64) {
         match self.report.sides.as_slice() {
             [done] => (done.pins, done.seen, self.report.published),
@@ -228,21 +213,17 @@ fn watch_letter_of(mark: &WatchMark) -> u8 {
     }
 }
 
-/// A host over a host in memory, which can't open a watch, or can't tell a line. It tells nothing.
+/// A host over a host in memory that can't tell a line. It tells nothing itself.
 #[derive(Drop)]
 pub struct DeafHost {
     pub host: MemHost,
-    pub has_watch: bool,
-    open_faults: u64,
     tell_faults: u64,
 }
 
 impl DeafHost {
-    pub fn new(host: MemHost, has_watch: bool) -> DeafHost {
+    pub fn new(host: MemHost) -> DeafHost {
         DeafHost {
             host,
-            has_watch,
-            open_faults: 0,
             tell_faults: 0,
         }
     }
@@ -253,22 +234,29 @@ impl Host for DeafHost {
 
     type Watch = MemWatch;
 
-    ghost told = { λ _. None };
-
-    ghost counts = { λ h. record { opens = (⟦<MemHost as Host>⟧.counts h.host).opens + h.open_faults; tells = h.tell_faults } };
-
-    ghost supply = { λ _. None };
+    ghost state = { λ h. record {
+      told = None;
+      counts = record {
+        opens = (⟦<MemHost as Host>⟧.state h.host).counts.opens;
+        tells = h.tell_faults;
+      };
+      supply = None;
+    } };
 
     fn open_watch(&mut self) -> Result<MemWatch, OpenFault> {
-        if !self.has_watch {
-            self.open_faults = self.open_faults.saturating_add(1);
-            return Err(OpenFault::Failed);
+        match self.host.open_watch() {
+            Ok(watch) => Ok(watch),
+            Err(OpenFault::Failed) => Err(OpenFault::Failed),
+            Err(OpenFault::NoMemory) => Err(OpenFault::NoMemory),
         }
-        self.host.open_watch()
     }
 
     fn open_side(&mut self, port: u16, by: Transport, number: u32) -> Result<MemSide, OpenFault> {
-        self.host.open_side(port, by, number)
+        match self.host.open_side(port, by, number) {
+            Ok(side) => Ok(side),
+            Err(OpenFault::Failed) => Err(OpenFault::Failed),
+            Err(OpenFault::NoMemory) => Err(OpenFault::NoMemory),
+        }
     }
 
     fn tell(&mut self, _line: &[u8]) -> Wrote {

@@ -87,7 +87,8 @@ fn ran_thrice(rt: &impl Wait, alloc: Global, watch: WatchScript) -> Result<Obser
     ran(rt, alloc, SERVE, watch, side)
 }
 
-// What a look that finds this Corefile answers, where the first one serves, and how many generations are published then.
+// What a look that finds this Corefile answers, where the first one serves, and how many
+// generations are published then.
 fn looked(alloc: Global, corefile: &[u8]) -> Result<Option<(u64, u64)>, NoMemory> {
     let name = Text::from_str(alloc, "/Corefile")?;
     let mut first = MemWatch::new(alloc, finds(alloc, &[WHOAMI])?)?;

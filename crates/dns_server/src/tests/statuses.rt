@@ -1,37 +1,12 @@
-use super::hosts::{DeafHost, Observed, SERVE, finds, gets, host_of, ran, ran_once, run_by};
+use super::hosts::{DeafHost, Observed, SERVE, finds, gets, host_of, ran, run_by};
 use super::{COREFILE, QUERY};
 use crate::Status;
 use dns_data::NoMemory;
+use outside::Host;
 use outside_mem::MemHost;
 use std::alloc::Global;
 use std::sync::Wait;
 use std::test::Fail;
-
-const USAGE: &str =
-    "usage: dnschain serve --conf FILE [--port N] [--workers N] [--queries N], or dnschain load N";
-
-#[test]
-fn other_words_are_no_command(rt: HostRuntime) -> Result<(), Fail> {
-    let rows = [
-        "",
-        "serve",
-        "serve --conf",
-        "serve --conf -x",
-        "serve --conf a --conf b",
-        "serve --conf a --workers 17",
-        "serve --conf a --queries 0",
-        "serve --conf a --queries 1000000001",
-        "serve --conf a --queries 00000000001",
-        "serve --conf a --queries 1 more",
-        "load 0",
-    ];
-    for words in rows {
-        let ran = ran_twice(&rt, rt.alloc(), words)?;
-        assert!(rt; ran.is_told(USAGE), "{words}");
-        assert!(rt; matches!(ran.report.status, Status::Usage), "{words}");
-    }
-    Ok(())
-}
 
 #[test]
 fn a_worker_takes_as_many_datagrams_as_it_is_told(rt: HostRuntime) -> Result<(), Fail> {
@@ -48,45 +23,6 @@ fn a_worker_takes_as_many_datagrams_as_it_is_told(rt: HostRuntime) -> Result<(),
 }
 
 #[test]
-fn a_corefile_without_a_block_ends_at_once(rt: HostRuntime) -> Result<(), Fail> {
-    for corefile in ["", " \n\t \n\n", "# . {\n"] {
-        let ran = ran_once(&rt, rt.alloc(), corefile.as_bytes(), &QUERY)?;
-        assert!(rt; ran.has_ended() && ran.is_silent());
-        assert!(rt; ran.watch_tells("R") && ran.port().is_none());
-    }
-    Ok(())
-}
-
-#[test]
-fn what_is_no_corefile_is_refused(rt: HostRuntime) -> Result<(), Fail> {
-    let rows = [
-        (
-            b". {\nwhoamy\n}\n".as_slice(),
-            "corefile line 2: unknown directive",
-        ),
-        (b". {\nwhoami \xff\n}\n", "corefile line 2: not UTF-8"),
-        (b"# 1\n\n\n\n\n\n\n\n\n. \"", "corefile line 10: open quote"),
-        (b". {\n\"a\"b\n}\n", "corefile line 2: text after quote"),
-        (b". {\nreload\nreload\n}\n", "not built yet"),
-    ];
-    for (corefile, line) in rows {
-        let ran = ran_once(&rt, rt.alloc(), corefile, &QUERY)?;
-        assert!(rt; matches!(ran.report.status, Status::Refused(_)), "{line}");
-        assert!(rt; ran.is_told(line) && ran.port().is_none(), "{line}");
-    }
-    Ok(())
-}
-
-#[test]
-fn a_file_that_is_not_there_is_told(rt: HostRuntime) -> Result<(), Fail> {
-    let watch = finds(rt.alloc(), &[])?;
-    let side = gets(rt.alloc(), &[])?;
-    let ran = ran(&rt, rt.alloc(), SERVE, watch, side)?;
-    assert!(rt; ran.is_told("no corefile"));
-    Ok(())
-}
-
-#[test]
 fn a_file_that_is_not_read_is_told(rt: HostRuntime) -> Result<(), Fail> {
     let mut watch = finds(rt.alloc(), &[COREFILE])?;
     watch.fail_read.push(0)?;
@@ -98,23 +34,16 @@ fn a_file_that_is_not_read_is_told(rt: HostRuntime) -> Result<(), Fail> {
 
 #[test]
 fn a_line_that_does_not_go_out_is_a_status(rt: HostRuntime) -> Result<(), Fail> {
-    let mut host = DeafHost::new(host_of_one(rt.alloc())?, true);
+    let mut host = DeafHost::new(host_of_one(rt.alloc())?);
     let report = run_by(&rt, rt.alloc(), "serve --conf /none", &mut host)?;
     assert!(rt; matches!(report.status, Status::TellFailed));
     Ok(())
 }
 
 #[test]
-fn the_status_of_usage_stays_untold(rt: HostRuntime) -> Result<(), Fail> {
-    let mut host = DeafHost::new(host_of_one(rt.alloc())?, true);
-    let report = run_by(&rt, rt.alloc(), "serve", &mut host)?;
-    assert!(rt; matches!(report.status, Status::Usage));
-    Ok(())
-}
-
-#[test]
 fn what_is_not_opened_ends_the_start(rt: HostRuntime) -> Result<(), Fail> {
-    let mut host = DeafHost::new(host_of_one(rt.alloc())?, false);
+    let mut host = host_of_one(rt.alloc())?;
+    let _first = host.open_watch();
     let report = run_by(&rt, rt.alloc(), SERVE, &mut host)?;
     assert!(rt; matches!(report.status, Status::OpenFailed));
     Ok(())

@@ -3,8 +3,8 @@ use Rattle.dns_server.specs.Corefile.{lines_say}
 use Rattle.dns_server.proofs.Blocks.{too_long, by_words, bad_words}
 use Rattle.dns_server.proofs.corefile.read_corefile.Goals as goal
 
-pub returns-then-bytes-gt-MOST_BYTES : goal.returns-then-bytes-gt-MOST_BYTES
-returns-then-bytes-gt-MOST_BYTES c = too_long c.args.default_port c.args.bytes.now (omega arith)
+pub returns-then-bytes-gt-FILE_BYTES : goal.returns-then-bytes-gt-FILE_BYTES
+returns-then-bytes-gt-FILE_BYTES c = too_long c.args.default_port c.args.bytes.now (omega arith)
 
 pub returns-in-Ok-read_lines : goal.returns-in-Ok-read_lines
 returns-in-Ok-read_lines c =

@@ -1,53 +1,48 @@
-use Rattle.std.proofs.Common.{rules, sym, ◌∙◌}
-use Rattle.dns_server.proofs.Joining.{all_served, goes_below, look_on, nothing_served, tallied_first, tally_looks, tally_on, turn_on}
+use Rattle.std.proofs.Common.{sym, ◌∙◌, rules}
+use Rattle.dns_server.specs.States.{RunSetup, LookState, TurnState, RoundState, round_state, worker_state, watcher_state}
+use Rattle.dns_server.proofs.Joining.{turn_on, look_on, all_served, nothing_served, tally_on, tally_looks, tallied_first, goes_below}
 use Rattle.dns_server.proofs.rounds.serve_rounds.Goals as goal
 
 pub loop-init : goal.loop-init
 loop-init g c = record {
   can_next = search rules;
   finite = search rules;
-  served = nothing_served c.args.conf.now c.args.most (g.S.Side.journal c.args.worker.now.side) (g.W.PatternMaker.state c.args.watcher.now.watch) c.args.generations.now c.args.worker.now.tally c.args.watcher.now.starved
+  served = nothing_served c.args.conf.now c.args.most (round_state g.S.Side.state g.W.PatternMaker.state c.args.worker.now c.args.watcher.now c.args.generations.now)
       c.requires.chain c.requires.first c.requires.worker;
-  tallied = tallied_first (g.S.Side.counts c.args.worker.now.side).recv c.args.most c.args.worker.now.tally c.args.generations.now c.requires.worker c.requires.pins c.requires.idle c.requires.some;
-  later = search rules;
-  counts = search rules;
+  tallied = tallied_first (g.S.Side.state c.args.worker.now.side).counts.recv c.args.most c.args.worker.now.tally c.args.generations.now c.requires.worker c.requires.pins c.requires.idle c.requires.some;
+  watch = search rules;
 }
 
 pub returns-in-Some-end_of-clause-serves : goal.returns-in-Some-end_of-clause-serves
 returns-in-Some-end_of-clause-serves g c =
-    let served = look_on c.args.conf.now c.args.generations.now.chain.default_port c.args.most c.args.generations.now.chain.bundle (g.S.Side.journal c.args.worker.now.side) (g.S.Side.journal c.work_unless_ended-worked.new.worker.side)
-    (g.W.PatternMaker.state c.args.watcher.now.watch) (g.W.PatternMaker.state c.loop.watcher.watch) (g.W.PatternMaker.state c.look_unless_ended-watched.new.watcher.watch)
-    c.work_unless_ended-worked.new.generations c.look_unless_ended-watched.new.generations c.work_unless_ended-worked.new.worker.tally c.loop.watcher.starved c.look_unless_ended-watched.new.watcher.starved
-    c.work_unless_ended-worked.result c.loop.watched c.look_unless_ended-watched.result
-    (turn_on c.args.conf.now c.args.generations.now.chain.default_port c.args.most c.args.generations.now.chain.bundle (g.S.Side.journal c.args.worker.now.side) (g.S.Side.journal c.loop.worker.side) (g.S.Side.journal c.work_unless_ended-worked.new.worker.side)
-    (g.W.PatternMaker.state c.args.watcher.now.watch) (g.W.PatternMaker.state c.loop.watcher.watch) c.loop.generations c.work_unless_ended-worked.new.generations
-    (g.S.Side.counts c.loop.worker.side) (g.S.Side.counts c.work_unless_ended-worked.new.worker.side) c.loop.worker.tally c.work_unless_ended-worked.new.worker.tally c.loop.watcher.starved
-    c.loop.worked c.work_unless_ended-worked.result c.loop.watched c.loop.invariant.served c.work_unless_ended-worked.ensures.works (goes_below c.args.most c.loop.worker.tally c.loop.worked c.loop.invariant.tallied.stands))
-    c.look_unless_ended-watched.ensures.looks in
-    all_served c.args.conf.now c.args.generations.now.chain.default_port c.args.most c.args.generations.now.chain.bundle (g.S.Side.journal c.args.worker.now.side) (g.S.Side.journal c.work_unless_ended-worked.new.worker.side)
-    (g.W.PatternMaker.state c.args.watcher.now.watch) (g.W.PatternMaker.state c.look_unless_ended-watched.new.watcher.watch) c.look_unless_ended-watched.new.generations c.work_unless_ended-worked.new.worker.tally
-    c.look_unless_ended-watched.new.watcher.starved c.work_unless_ended-worked.result c.look_unless_ended-watched.result c.in-Some-end_of.end served (sym c.end_of.ensures ∙ c.in-Some-end_of.is)
+    let setup : RunSetup = record { conf = c.args.conf.now; default_port = c.args.generations.now.chain.default_port; most = c.args.most } in
+    let start = round_state g.S.Side.state g.W.PatternMaker.state c.args.worker.now c.args.watcher.now c.args.generations.now in
+    let before = round_state g.S.Side.state g.W.PatternMaker.state c.loop.worker c.loop.watcher c.loop.generations in
+    let turned : TurnState = record { worker = worker_state g.S.Side.state c.work_unless_ended-worked.new.worker; serving = c.work_unless_ended-worked.new.generations } in
+    let mid : RoundState = record before { worker = turned.worker; serving = turned.serving } in
+    let looked : LookState = record { watcher = watcher_state g.W.PatternMaker.state c.look_unless_ended-watched.new.watcher; serving = c.look_unless_ended-watched.new.generations } in
+    let more = goes_below c.args.most c.loop.worker.tally c.loop.worked c.loop.invariant.tallied.stands in
+    let turn = turn_on setup start before turned c.loop.worked c.work_unless_ended-worked.result c.loop.watched c.loop.invariant.served c.work_unless_ended-worked.ensures more in
+    let look = look_on setup start mid looked c.work_unless_ended-worked.result c.loop.watched c.look_unless_ended-watched.result turn c.look_unless_ended-watched.ensures.looks in
+    all_served setup start (record mid { watcher = looked.watcher; serving = looked.serving }) c.work_unless_ended-worked.result c.look_unless_ended-watched.result c.in-Some-end_of.end look (sym c.end_of.ensures ∙ c.in-Some-end_of.is)
 
 pub loop-preserved : goal.loop-preserved
-loop-preserved g c = record {
-  can_next = search rules;
-  finite = search rules;
-  served = look_on c.args.conf.now c.args.generations.now.chain.default_port c.args.most c.args.generations.now.chain.bundle (g.S.Side.journal c.args.worker.now.side) (g.S.Side.journal c.work_unless_ended-worked.new.worker.side)
-      (g.W.PatternMaker.state c.args.watcher.now.watch) (g.W.PatternMaker.state c.loop.watcher.watch) (g.W.PatternMaker.state c.look_unless_ended-watched.new.watcher.watch)
-      c.work_unless_ended-worked.new.generations c.look_unless_ended-watched.new.generations c.work_unless_ended-worked.new.worker.tally c.loop.watcher.starved c.look_unless_ended-watched.new.watcher.starved
-      c.work_unless_ended-worked.result c.loop.watched c.look_unless_ended-watched.result
-      (turn_on c.args.conf.now c.args.generations.now.chain.default_port c.args.most c.args.generations.now.chain.bundle (g.S.Side.journal c.args.worker.now.side) (g.S.Side.journal c.loop.worker.side) (g.S.Side.journal c.work_unless_ended-worked.new.worker.side)
-      (g.W.PatternMaker.state c.args.watcher.now.watch) (g.W.PatternMaker.state c.loop.watcher.watch) c.loop.generations c.work_unless_ended-worked.new.generations
-      (g.S.Side.counts c.loop.worker.side) (g.S.Side.counts c.work_unless_ended-worked.new.worker.side) c.loop.worker.tally c.work_unless_ended-worked.new.worker.tally c.loop.watcher.starved
-      c.loop.worked c.work_unless_ended-worked.result c.loop.watched c.loop.invariant.served c.work_unless_ended-worked.ensures.works (goes_below c.args.most c.loop.worker.tally c.loop.worked c.loop.invariant.tallied.stands))
-      c.look_unless_ended-watched.ensures.looks;
-  tallied = tally_looks (g.S.Side.counts c.args.worker.now.side).recv (g.S.Side.counts c.work_unless_ended-worked.new.worker.side).recv c.args.most c.work_unless_ended-worked.new.worker.tally c.args.conf.now
-      c.work_unless_ended-worked.new.generations c.look_unless_ended-watched.new.generations (g.W.PatternMaker.state c.loop.watcher.watch) (g.W.PatternMaker.state c.look_unless_ended-watched.new.watcher.watch)
-      c.loop.watcher.starved c.look_unless_ended-watched.new.watcher.starved c.work_unless_ended-worked.result c.loop.watched c.look_unless_ended-watched.result
-      (tally_on (g.S.Side.counts c.args.worker.now.side).recv c.args.most (g.S.Side.journal c.loop.worker.side) (g.S.Side.journal c.work_unless_ended-worked.new.worker.side) c.loop.generations c.work_unless_ended-worked.new.generations
-      (g.S.Side.counts c.loop.worker.side) (g.S.Side.counts c.work_unless_ended-worked.new.worker.side) c.loop.worker.tally c.work_unless_ended-worked.new.worker.tally c.loop.worked c.work_unless_ended-worked.result
-      c.loop.invariant.tallied c.work_unless_ended-worked.ensures.later.recv c.work_unless_ended-worked.ensures.works)
-      c.look_unless_ended-watched.ensures.looks;
-  later = search rules;
-  counts = search rules;
-}
+loop-preserved g c =
+    let setup : RunSetup = record { conf = c.args.conf.now; default_port = c.args.generations.now.chain.default_port; most = c.args.most } in
+    let start = round_state g.S.Side.state g.W.PatternMaker.state c.args.worker.now c.args.watcher.now c.args.generations.now in
+    let before = round_state g.S.Side.state g.W.PatternMaker.state c.loop.worker c.loop.watcher c.loop.generations in
+    let turned : TurnState = record { worker = worker_state g.S.Side.state c.work_unless_ended-worked.new.worker; serving = c.work_unless_ended-worked.new.generations } in
+    let mid : RoundState = record before { worker = turned.worker; serving = turned.serving } in
+    let unlooked : LookState = record { watcher = watcher_state g.W.PatternMaker.state c.loop.watcher; serving = turned.serving } in
+    let looked : LookState = record { watcher = watcher_state g.W.PatternMaker.state c.look_unless_ended-watched.new.watcher; serving = c.look_unless_ended-watched.new.generations } in
+    let more = goes_below c.args.most c.loop.worker.tally c.loop.worked c.loop.invariant.tallied.stands in
+    let turn = turn_on setup start before turned c.loop.worked c.work_unless_ended-worked.result c.loop.watched c.loop.invariant.served c.work_unless_ended-worked.ensures more in
+    let tally = tally_on (g.S.Side.state c.args.worker.now.side).counts.recv c.args.most (record { worker = before.worker; serving = before.serving }) turned c.loop.worked c.work_unless_ended-worked.result c.loop.invariant.tallied c.work_unless_ended-worked.ensures in
+    record {
+      can_next = search rules;
+      finite = search rules;
+      served = look_on setup start mid looked c.work_unless_ended-worked.result c.loop.watched c.look_unless_ended-watched.result turn c.look_unless_ended-watched.ensures.looks;
+      tallied = tally_looks (g.S.Side.state c.args.worker.now.side).counts.recv (g.S.Side.state c.work_unless_ended-worked.new.worker.side).counts.recv c.args.most c.work_unless_ended-worked.new.worker.tally c.args.conf.now
+          unlooked looked c.work_unless_ended-worked.result c.loop.watched c.look_unless_ended-watched.result tally c.look_unless_ended-watched.ensures.looks;
+      watch = search rules;
+    }

@@ -1,4 +1,5 @@
-use Rattle.outside.specs.Causes.{NoneFell, WatchNoneFell}
+use Rattle.outside.specs.States.{WatchStays}
+use Rattle.dns_server.specs.States.{round_state}
 use Rattle.dns_server.proofs.Joining.{HasServed, Tallied}
 use Rattle.dns_server.proofs.rounds.serve_rounds.Given as goal
 
@@ -6,9 +7,8 @@ abbrev pub invariant-loop : goal.invariant-loop
 invariant-loop g l = record {
   can_next : (goal.iterator-loop g).can_next l.iterator';
   finite : (goal.iterator-loop g).is_finite l.iterator';
-  served : HasServed 0 l.conf l.fn.generations.chain.default_port l.most l.fn.generations.chain.bundle (g.S.Side.journal l.fn.worker.side) (g.S.Side.journal l.worker.side) (g.W.PatternMaker.state l.fn.watcher.watch)
-      (g.W.PatternMaker.state l.watcher.watch) l.generations l.worker.tally l.watcher.starved l.worked l.watched;
-  tallied : Tallied (g.S.Side.counts l.fn.worker.side).recv (g.S.Side.counts l.worker.side).recv l.most l.worker.tally l.generations l.worked;
-  later : NoneFell (g.S.Side.counts l.fn.worker.side) (g.S.Side.counts l.worker.side);
-  counts : WatchNoneFell (g.W.PatternMaker.state l.fn.watcher.watch).counts (g.W.PatternMaker.state l.watcher.watch).counts;
+  served : HasServed 0 (record { conf = l.conf; default_port = l.fn.generations.chain.default_port; most = l.most })
+      (round_state g.S.Side.state g.W.PatternMaker.state l.fn.worker l.fn.watcher l.fn.generations) (round_state g.S.Side.state g.W.PatternMaker.state l.worker l.watcher l.generations) l.worked l.watched;
+  tallied : Tallied (g.S.Side.state l.fn.worker.side).counts.recv (g.S.Side.state l.worker.side).counts.recv l.most l.worker.tally l.generations l.worked;
+  watch : WatchStays (g.W.PatternMaker.state l.fn.watcher.watch) (g.W.PatternMaker.state l.watcher.watch);
 }

@@ -1,11 +1,11 @@
-"""A changed Corefile under a running server: what serves behind it, the lines that note it, and what a broken one does."""
+"""A changed Corefile under load, and ends with `reload`. tests/scenarios/reload.scenario has what each change comes to."""
 import os
 import sys
 import threading
 import time
 
 sys.path.insert(0, os.path.join(os.path.dirname(os.path.abspath(__file__)), "lib"))
-from program import SECONDS, Client, Rows, Served, free_port, needs_program  # noqa: E402
+from program import Client, Rows, Served, needs_program  # noqa: E402
 
 NAME = bytes.fromhex("076578616d706c65036f726700")
 QUERY = bytes.fromhex("123401000001000000000000") + NAME + bytes.fromhex("00010001")
@@ -14,8 +14,6 @@ REFUSED = bytes.fromhex("123481050001000000000000") + NAME + bytes.fromhex("0001
 WHOAMI = ".:{port} {\n\treload\n\twhoami\n}\n"
 EMPTY = ".:{port} {\n\treload\n}\n"
 BROKEN = ".:{port} {\n\treload\n\twhoamy\n}\n"
-QUOTED = ".:{port} {\n\treload\n\t\"whoami\n}\n"
-FIXED = ".:{port} { # no reload\n\twhoami\n}\n"
 
 
 def is_whoami(reply):
@@ -31,64 +29,6 @@ def put(server, text):
     with open(server.path + ".new", "w") as file:
         file.write(text.replace("{port}", str(server.port)))
     os.replace(server.path + ".new", server.path)
-
-
-def becomes(server, holds):
-    """Whether replies become such ones in time. A look comes behind each query, and reads at most once a second."""
-    end = time.monotonic() + SECONDS
-    with Client(server.port) as client:
-        while time.monotonic() < end:
-            if holds(client.ask(QUERY, 0.5)):
-                return True
-            time.sleep(0.1)
-    return False
-
-
-def stays(server, holds):
-    """Whether all replies of two seconds are such ones."""
-    end = time.monotonic() + 2
-    with Client(server.port) as client:
-        while time.monotonic() < end:
-            if not holds(client.ask(QUERY, 0.5)):
-                return False
-            time.sleep(0.1)
-    return True
-
-
-def changes(rows):
-    with Served(WHOAMI) as server:
-        rows.row("a Corefile with reload serves", server.is_serving(QUERY))
-        rows.row("it answers", stays(server, is_whoami))
-        put(server, EMPTY)
-        rows.row("one without whoami: REFUSED follows", becomes(server, is_refused))
-        put(server, BROKEN)
-        rows.row("a broken one changes no reply", stays(server, is_refused))
-        put(server, QUOTED)
-        rows.row("one with an open quote changes no reply", stays(server, is_refused))
-        put(server, WHOAMI)
-        rows.row("the first one again: it answers again", becomes(server, is_whoami))
-        put(server, WHOAMI.replace("{port}", str(free_port())))
-        rows.row("another port changes no reply", stays(server, is_whoami))
-        os.remove(server.path)
-        rows.row("no file changes no reply", stays(server, is_whoami))
-        os.mkdir(server.path)
-        rows.row("a folder in its place changes no reply", stays(server, is_whoami))
-        os.rmdir(server.path)
-        put(server, FIXED)
-        rows.row("one without reload answers", stays(server, is_whoami))
-        put(server, EMPTY)
-        rows.row("behind it no change is taken up", stays(server, is_whoami))
-        rows.equal("it still runs", server.process.poll(), None)
-        rows.equal("the lines that note the looks", server.noted(), [
-            "reload published 1",
-            "reload refused: corefile line 3: unknown directive",
-            "reload refused: corefile line 3: open quote",
-            "reload published 2",
-            "reload ports differ",
-            "reload refused: no corefile",
-            f"reload cannot read {server.path}",
-            "reload published 3",
-        ])
 
 
 def under_load(rows):
@@ -148,7 +88,6 @@ def ends(rows):
 def main():
     needs_program()
     rows = Rows()
-    changes(rows)
     under_load(rows)
     ends(rows)
     rows.end()

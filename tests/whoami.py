@@ -1,4 +1,4 @@
-"""The program over real sockets: one query and its reply, what gets no reply, random datagrams, and how a run ends."""
+"""The program over real sockets, beside the scenarios: the bytes of one reply, dig and kdig, random datagrams, and odd ends."""
 import os
 import random
 import shutil
@@ -33,40 +33,9 @@ def serves(rows):
     with Served(WHOAMI) as server:
         rows.row("the program serves", server.is_serving(QUERY))
         with Client(server.port) as client:
-            got = client.ask(QUERY)
-            rows.equal("a query gets the 69 bytes of its reply", got, reply(client.port, bytes([127, 0, 0, 1])))
-            rows.equal("11 bytes get no reply", client.ask(QUERY[:11], 0.3), None)
-            rows.equal("a response gets no reply", client.ask(QUERY[:2] + b"\x81" + QUERY[3:], 0.3), None)
-            rows.equal("bytes behind a query are ignored", client.ask(QUERY + b"\x00"), reply(client.port, bytes([127, 0, 0, 1])))
-            rows.equal("another opcode gets NOTIMP", client.ask(QUERY[:2] + b"\x10" + QUERY[3:]), bytes.fromhex("123490040000000000000000"))
-            to_itself = bytes.fromhex("123401000001000000000000c00c00010001")
-            rows.equal("a name that points at itself gets FORMERR", client.ask(to_itself), bytes.fromhex("123481010000000000000000"))
-            rows.equal("another class is refused", client.ask(QUERY[:-1] + b"\x03"), bytes.fromhex("123481050001000000000000") + NAME + bytes.fromhex("00010003"))
-            version = QUERY[:11] + b"\x01" + QUERY[12:] + bytes.fromhex("0000290200000100000000")
-            want = bytes.fromhex("123481000001000000000001") + QUESTION + bytes.fromhex("00002904d0010000000000")
-            rows.equal("another version of EDNS gets BADVERS", client.ask(version), want)
-            rows.equal("an empty datagram gets no reply", client.ask(b"", 0.3), None)
-        over_ipv6(rows, server)
+            rows.equal("a query gets the 69 bytes of its reply", client.ask(QUERY), reply(client.port, bytes([127, 0, 0, 1])))
         with_dig(rows, server)
         random_datagrams(rows, server)
-
-
-def refuses(rows):
-    """A block without `whoami`: REFUSED, and the question alone."""
-    with Served('".:{port}" { # nothing\r\n}\r\n') as server:
-        rows.row("a block without a plugin serves", server.is_serving(QUERY))
-        with Client(server.port) as client:
-            rows.equal("a query is refused", client.ask(QUERY), bytes.fromhex("123481050001000000000000") + QUESTION)
-
-
-def over_ipv6(rows, server):
-    try:
-        client = Client(server.port, socket.AF_INET6)
-    except OSError:
-        print("skipped: there is no IPv6 on loopback")
-        return
-    with client:
-        rows.equal("a client over IPv6 gets an AAAA record", client.ask(QUERY), reply(client.port, bytes(15) + b"\x01"))
 
 
 def dig(server, *words):
@@ -118,31 +87,10 @@ def random_datagrams(rows, server):
 
 
 def ends(rows):
-    with Served(WHOAMI, "--queries", "1") as server:
-        rows.row("--queries 1: one query is answered", server.is_serving(QUERY))
-        rows.equal("--queries 1: the run ends with status 0", server.status(), 0)
+    """What a scenario can't say: bytes that aren't text, a long file, a taken port, and a mute standard output."""
     with tempfile.TemporaryDirectory() as room:
-        for text, words, want, line in [
-            ("no words", [], 2, USAGE),
-            ("no file", ["serve", "--conf"], 2, USAGE),
-            ("a file twice", ["serve", "--conf", "a", "--conf", "b"], 2, USAGE),
-            ("help", ["--help"], 2, USAGE),
-            ("queries 0", ["serve", "--conf", "a", "--queries", "0"], 2, USAGE),
-            ("words that aren't UTF-8", ["serve", "--conf", b"\xff"], 2, USAGE),
-            ("a missing Corefile", ["serve", "--conf", os.path.join(room, "none")], 1, "no corefile"),
-            ("a Corefile that can't be read", ["serve", "--conf", room], 3, f"cannot read {room}"),
-        ]:
-            rows.equal(f"{text}: status {want} and its line", status_of(*words), told(want, line))
+        rows.equal("words that aren't UTF-8: status 2", status_of("serve", "--conf", b"\xff"), told(2, USAGE))
         for text, conf, want, line in [
-            ("an empty Corefile", "", 0, None),
-            ("a Corefile of blanks", " \n\t\n", 0, None),
-            ("a Corefile of comments", "# none\r\n  # none", 0, None),
-            ("another plugin", ".:5300 {\n\nwhoamy\n}\n", 1, "corefile line 3: unknown directive"),
-            ("an open quote", ".:5300 { # a\r\n\"whoami\r\n}\r\n", 1, "corefile line 2: open quote"),
-            ("text after a quote", ".:5300 {\n\"whoami\"}\n", 1, "corefile line 2: text after quote"),
-            ("reload twice", ".:5300 {\nreload\nreload\n}\n", 1, "not built yet"),
-            ("two blocks", ".:5300 {\nwhoami\n}\n.:5301 {\nwhoami\n}\n", 1, "not built yet"),
-            ("port 65536", ".:65536 {\nwhoami\n}\n", 1, "not built yet"),
             ("bytes that aren't UTF-8", b"\n# \xff\n", 1, "corefile line 2: not UTF-8"),
             ("more than 1 MiB", b"\n" * 1_048_577, 1, "not built yet"),
         ]:
@@ -185,7 +133,6 @@ def main():
     needs_program()
     rows = Rows()
     serves(rows)
-    refuses(rows)
     ends(rows)
     rows.end()
 

@@ -11,7 +11,7 @@ import tempfile
 import time
 
 TOP = os.path.dirname(os.path.dirname(os.path.dirname(os.path.abspath(__file__))))
-PROGRAM = os.path.join(TOP, "crates", "dnschain", "out", "dnschain")
+PROGRAM = os.environ.get("DNSCHAIN_UNDER_TEST") or os.path.join(TOP, "crates", "dnschain", "out", "dnschain")
 SECONDS = 10
 
 

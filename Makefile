@@ -4,9 +4,9 @@ CONF = examples/whoami/Corefile
 help:
 	@sed -n 's/^## //p' Makefile
 
-## make build        proves and builds the program, crates/dnschain/out/dnschain; the first time takes some minutes
+## make build        proves and builds the program, crates/dnschain/out/dnschain, and says at which crate it is
 build:
-	cd crates/dnschain && rt run -- serve --conf data/empty.corefile
+	tools/build
 
 ## make run          builds, and serves examples/whoami on port 5300; CONF=FILE serves another Corefile
 run: build

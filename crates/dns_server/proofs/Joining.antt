@@ -88,6 +88,8 @@ side_more setup bundles more looks look rounds a w None had few = record {
   row = had.row;
   whole = had.whole;
   pace = pace-look 0 looks look had.turns had.pace (omega (arith, had.few, few));
+  some = had.some;
+  met = had.met;
   few = had.few;
 }
 side_more setup bundles more looks look rounds a w (Some end) s few =

@@ -32,10 +32,10 @@ over {conf} {old} {before} {mid} {after} out answer was_read quiet again read no
 -- want of memory, behind a read
 starves : {conf : List ℕ} {old : GenerationsData} {before mid after : WatchState} (out : ReadOut) → reloads old.chain.corefile ≡ true → AddsWatch before mid (read_marks conf out) → AddsWatch mid after []
     → Starves conf old old before after
-starves readout.NoMemory again read none = record { out = None; told = watch-adds-then read none; same = refl; again = again }
-starves (readout.Got bytes) again read none = record { out = Some (readout.Got bytes); told = watch-adds-then read none; same = refl; again = again }
-starves readout.Missing again read none = record { out = Some readout.Missing; told = watch-adds-then read none; same = refl; again = again }
-starves readout.Failed again read none = record { out = Some readout.Failed; told = watch-adds-then read none; same = refl; again = again }
+starves readout.NoMemory again read none = record { out = None; read = λ e. absurd cc; told = watch-adds-then read none; same = refl; again = again }
+starves (readout.Got bytes) again read none = record { out = Some (readout.Got bytes); read = λ e. absurd cc; told = watch-adds-then read none; same = refl; again = again }
+starves readout.Missing again read none = record { out = Some readout.Missing; read = λ e. absurd cc; told = watch-adds-then read none; same = refl; again = again }
+starves readout.Failed again read none = record { out = Some readout.Failed; read = λ e. absurd cc; told = watch-adds-then read none; same = refl; again = again }
 
 -- a read that was told
 was_told : (conf : List ℕ) (out known : ReadOut) → out ≡ known → read_marks conf known ≡ Read conf known ∷ [] → read_marks conf out ≡ Read conf out ∷ []

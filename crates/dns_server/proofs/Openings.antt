@@ -26,7 +26,8 @@ use Rattle.dns_server.specs.declared.status.Status.{Status}
 use Rattle.dns_server.specs.declared.status.Status.TheVariants as status
 use Rattle.dns_server.specs.Corefile.{IsCorefile}
 use Rattle.dns_server.specs.Look.{AnswersLook, Standing}
-use Rattle.dns_server.specs.Opening.{IsOneRead, ReadsFirst, ReadsChain, endpoints_of}
+use Rattle.dns_server.specs.declared.refusal.Refusal.{Refusal}
+use Rattle.dns_server.specs.Opening.{IsOneRead, ReadsFirst, ReadsChain, Refuses, endpoints_of}
 use Rattle.dns_server.specs.Report.{RunData, CauseOf, Finishes, IsEndStatus, IsFirstStatus, IsServed, RunsBehind, RunsCommand, Supplies, SuppliesOnlySides, SuppliesSides, TellsRun, opened_by, stopped_run}
 use Rattle.dns_server.specs.States.{LookState, RunSetup, SideRun}
 use Rattle.dns_server.specs.Rounds.{EndsWatch}
@@ -40,8 +41,15 @@ pub opens_nothing : (conf : List ℕ) (journal : Option (List WatchMark)) (marks
 opens_nothing conf None marks told are = tt
 opens_nothing conf (Some journal) marks told are = subst (ReadsAtMostOnce conf) (sym told) are
 
-pub one_read : (conf : List ℕ) (out : ReadOut) → (Read conf out ∷ [] ≡ []) ⊎ IsOneRead conf (Read conf out ∷ [])
-one_read conf out = inr (record { out = out; is = refl })
+pub one_read : (conf : List ℕ) (out : ReadOut) → out ≢ readout.NoMemory → (Read conf out ∷ [] ≡ []) ⊎ IsOneRead conf (Read conf out ∷ [])
+one_read conf out read = inr (record { out = out; read = read; is = refl })
+
+-- a read that is refused gave no want of memory
+refused_out : (default_port : ℕ) (out : ReadOut) (why : Refusal) → Refuses default_port out why → out ≢ readout.NoMemory
+refused_out default_port (readout.Got bytes) why is = λ e. absurd cc
+refused_out default_port readout.Missing why is = λ e. absurd cc
+refused_out default_port readout.Failed why is = absurd is
+refused_out default_port readout.NoMemory why is = absurd is
 
 -- nothing was taken from the supply
 nothing_taken : (before after : Option SupplyData) → after ≡ before → SuppliesOnlySides before after []
@@ -171,7 +179,7 @@ serves setup before after how fresh_watch start end block opened side is same bl
               (subst (λ (l : List Bundle). EndsWatch setup.default_port l by.ending) by.bundles_are by.ends);
         };
         endpoints = record { port = block.port; by = Udp; number = 0 } ∷ [];
-        opened = record { corefile = chain.corefile; accepted = accepted; are = sym (ap endpoints_of block_is) };
+        opened = record { corefile = chain.corefile; accepted = accepted; some = λ none. absurd cc; are = sym (ap endpoints_of block_is) };
         told = opens.told;
         supplied = one_taken before.supply after.supply opened.script side opens.supply side_script;
         one_each = refl;
@@ -186,11 +194,11 @@ pub first_stops : (setup : RunSetup) (old new : WatchState) (why : FirstFault) (
     → RunsBehind setup (stopped_run how (Some new)) old host host
 first_stops setup old new (fault.Refused why) how host fresh script reads is =
     let journal = watch_tells_since fresh reads.told in
-    rw is (stops (status.Refused why) old new script (opens_nothing setup.conf new.journal _ journal (one_read setup.conf reads.out)) (host-adds-nothing host) refl
+    rw is (stops (status.Refused why) old new script (opens_nothing setup.conf new.journal _ journal (one_read setup.conf reads.out (refused_out setup.default_port reads.out why reads.refused))) (host-adds-nothing host) refl
     (record { published = refl; watch = λ e. absurd cc; why = record { out = reads.out; read = journal; refused = reads.refused } }))
 first_stops setup old new fault.ReadFailed how host fresh script reads is =
     let journal = watch_tells_since fresh reads.0 in
-    let opening = opens_nothing setup.conf new.journal _ journal (one_read setup.conf readout.Failed) in
+    let opening = opens_nothing setup.conf new.journal _ journal (one_read setup.conf readout.Failed (λ e. absurd cc)) in
     let rose : Rose 0 new.counts.reads = let none = ap (λ (c : WatchCounts). c.reads) fresh.no_fault in let r = reads.1 in omega (arith, none, r) in
     elim is [
       | inl named ↦ rw named (stops (status.ReadFailed setup.conf) old new script opening (host-adds-nothing host) refl
@@ -207,7 +215,7 @@ pub no_block_stops : (setup : RunSetup) (old new : WatchState) (chain : Chain) (
     → RunsBehind setup (stopped_run status.Ended (Some new)) old host host
 no_block_stops setup old new chain host fresh script reads none =
     let journal = watch_tells_since fresh reads.told in
-    stops status.Ended old new script (opens_nothing setup.conf new.journal _ journal (one_read setup.conf (readout.Got chain.bundle.conf))) (host-adds-nothing host) refl
+    stops status.Ended old new script (opens_nothing setup.conf new.journal _ journal (one_read setup.conf (readout.Got chain.bundle.conf) (λ e. absurd cc))) (host-adds-nothing host) refl
     (record {
       sides = tt;
       none_starved = refl;
@@ -228,7 +236,7 @@ pub read_stops : {setup : RunSetup} {old new : WatchState} {chain : Chain} {befo
     → RunsBehind setup (stopped_run how (Some new)) old before after
 read_stops {setup} {old} {new} {chain} how fresh script reads told supply cause =
     let journal = watch_tells_since fresh reads.told in
-    stops how old new script (opens_nothing setup.conf new.journal _ journal (one_read setup.conf (readout.Got chain.bundle.conf))) told supply cause
+    stops how old new script (opens_nothing setup.conf new.journal _ journal (one_read setup.conf (readout.Got chain.bundle.conf) (λ e. absurd cc))) told supply cause
 
 -- the watch could not be opened
 supply_kept : (before after : Option SupplyData) → after ≡ before → (run : RunData) → run.watch ≡ None → run.sides ≡ [] → Supplies before after run

@@ -148,7 +148,7 @@ starved_look {conf} {p} {first} {looks} {a} {b} {g} {was} {had} mid c h has w wa
             corefile = g.chain.corefile;
             accepted = subst (λ (q : ℕ). IsCorefile q g.chain.bundle.conf g.chain.corefile) w.port w.is;
             again = starves.again;
-            is = tt;
+            is = starves.read;
           })
           (ap length nothing ∙ w.count ∙ ap (λ (x : GenerationsData). x.published) (sym same))
           (nothing ∙ w.last ∙ ap (λ (x : GenerationsData). w.earlier ++ x.chain.bundle ∷ []) (sym same))

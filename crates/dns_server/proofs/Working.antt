@@ -157,6 +157,8 @@ pub record HasWorked (bundles : List Bundle) (looks : List WatchTurn) (default_p
   pub row : last_row 0 turns + one_if t.has_starved ≤ t.failures
   pub whole : t.has_starved ≡ false → last_row 0 turns ≡ t.failures
   pub pace : KeepsPace 0 looks turns
+  pub some : t.has_starved ≡ true → 0 < t.starved
+  pub met : t.failures ≤ last_row 0 turns + t.starved
   pub few : length turns ≤ rounds
 
 pub starts : {bundles : List Bundle} {default_port : ℕ} (a : SideState) (t : Tally) → IsIdle t → HasWorked bundles [] default_port 0 a a t
@@ -169,6 +171,8 @@ starts {bundles} {default_port} a t idle = subst (HasWorked bundles [] default_p
   row = omega arith;
   whole = λ e. refl;
   pace = tt;
+  some = λ e. absurd cc;
+  met = omega arith;
   few = omega arith;
 })
 
@@ -203,6 +207,8 @@ takes {bundles} {g} {looks} {p} {rounds} {a} {b} {c} {t} s want at port rises ah
       row = omega (arith, row_by 0 w.turns g.chain.bundle p s turn is);
       whole = λ e. row_by 0 w.turns g.chain.bundle p s turn is;
       pace = pace-turn 0 looks w.turns turn w.pace (λ low le. from_by g.chain.bundle p s turn is low (omega (arith, le, ahead, serial)));
+      some = λ e. absurd cc;
+      met = omega arith;
       few = omega (arith, length-push w.turns turn, w.few);
     }
 
@@ -241,6 +247,8 @@ fails {looks = looks} {t = t} w adds few = record {
   row = omega (arith, w.row, row_failed 0 w.turns);
   whole = λ e. let whole = w.whole e in omega (arith, whole, row_failed 0 w.turns);
   pace = failed_pace looks w.turns w.pace;
+  some = w.some;
+  met = omega (arith, w.met, row_failed 0 w.turns);
   few = omega (arith, length-push w.turns failed, w.few);
 }
 
@@ -256,6 +264,8 @@ meets_want {a = a} {c = c} w adds = record {
   row = omega (arith, w.row);
   whole = λ e. absurd cc;
   pace = w.pace;
+  some = λ e. omega arith;
+  met = omega (arith, w.met);
   few = omega (arith, w.few);
 }
 
@@ -338,7 +348,14 @@ fails_with_want {looks = looks} {t = t} setup w adds last has_starved le = recor
       at_most = le;
       seen_all = failed_seen t.seen w.turns w.seen;
       pace = failed_pace looks w.turns w.pace;
-      ends = (no_row_failed 0 w.turns w.no_row (omega (arith, w.row, last, one_of_true t.has_starved has_starved)), refl);
+      ends = (
+        record {
+          first = no_row_failed 0 w.turns w.no_row (omega (arith, w.row, last, one_of_true t.has_starved has_starved));
+          some = w.some has_starved;
+          row = omega (arith, w.met, last, row_failed 0 w.turns);
+        },
+        refl,
+      );
     };
   };
   few = omega (arith, length-push w.turns failed, w.few);
@@ -346,8 +363,8 @@ fails_with_want {looks = looks} {t = t} setup w adds last has_starved le = recor
 
 -- the 64th receive in a row met want of memory
 meets_last_want : {bundles : List Bundle} {looks : List WatchTurn} {rounds : ℕ} {a b c : SideState} {t : Tally} (setup : RunSetup)
-    → HasWorked bundles looks setup.default_port rounds a b t → Adds b c [] → t.pins ≤ setup.most → Stopped setup bundles looks (rounds + 1) a c (with_miss (starved_in_row t)) ends.NoMemory
-meets_last_want setup w adds le =
+    → HasWorked bundles looks setup.default_port rounds a b t → Adds b c [] → t.failures + 1 ≡ 64 → t.pins ≤ setup.most → Stopped setup bundles looks (rounds + 1) a c (with_miss (starved_in_row t)) ends.NoMemory
+meets_last_want setup w adds last le =
     let h = meets_want w adds in
     record {
       run = record {
@@ -361,7 +378,7 @@ meets_last_want setup w adds le =
           at_most = le;
           seen_all = h.seen;
           pace = h.pace;
-          ends = (h.no_row, refl);
+          ends = (record { first = h.no_row; some = h.some refl; row = omega (arith, h.met, last) }, refl);
         };
       };
       few = h.few;
@@ -397,7 +414,7 @@ stops setup g turned.RecvFailed ends.RecvFailed at port rises ahead more w grows
 stops setup g turned.RecvFailed ends.NoMemory at port rises ahead more w grows last = fails_with_want setup w (adds_just grows) last.0 last.1 (omega (arith, more))
 stops setup g turned.RecvStarved ends.End at port rises ahead more w grows last = absurd last
 stops setup g turned.RecvStarved ends.RecvFailed at port rises ahead more w grows last = absurd (let none_starved = last.1 in cc)
-stops setup g turned.RecvStarved ends.NoMemory at port rises ahead more w grows last = meets_last_want setup w (adds_just grows) (omega (arith, more))
+stops setup g turned.RecvStarved ends.NoMemory at port rises ahead more w grows last = meets_last_want setup w (adds_just grows) last.0 (omega (arith, more))
 stops setup g turned.RecvEnd ends.End at port rises ahead more w grows last = ends_with setup w (adds_just grows) (omega (arith, more))
 stops setup g turned.RecvEnd ends.RecvFailed at port rises ahead more w grows last = absurd cc
 stops setup g turned.RecvEnd ends.NoMemory at port rises ahead more w grows last = absurd cc

@@ -139,6 +139,7 @@ read_at_most conf (Some out) = Read conf out ∷ []
 pub record Starves (conf : List ℕ) (old new : GenerationsData) (before after : WatchState)
     : Type 0 where
   pub out : Option ReadOut
+  pub read : out ≢ Some readout.NoMemory
   pub told : AddsWatch before after (read_at_most conf out)
   pub same : new ≡ old
   pub again : reloads old.chain.corefile ≡ true

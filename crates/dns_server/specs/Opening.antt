@@ -1,6 +1,6 @@
 -- The opening of a run: the read that gives the first bundle, and the sides that it wants. This
 -- server's own rule.
-use Rattle.std.specs.Prelude.{◌≡◌, ◌⊎◌, ℕ, List, [], ◌∷◌, Option, Some, None, Result, Ok, Err}
+use Rattle.std.specs.Prelude.{◌≡◌, ◌≢◌, ◌⊎◌, ℕ, List, [], ◌∷◌, Option, Some, None, Result, Ok, Err}
 use Rattle.dns_data.specs.declared.message.Transport.TheVariants.{Udp}
 use Rattle.outside.specs.declared.watch.ReadOut.{ReadOut}
 use Rattle.outside.specs.declared.watch.ReadOut.TheVariants as readout
@@ -23,9 +23,10 @@ use Rattle.dns_server.specs.declared.refusal.Refusal.TheVariants.{NoCorefile}
 use Rattle.dns_server.specs.Corefile.{IsRefusedText}
 use Rattle.dns_server.specs.Serve.{IsAccepted, IsChain}
 
--- the one read of the Corefile, whatever it gave
+-- the one read of the Corefile, whatever it gave but want of memory
 pub record IsOneRead (conf : List ℕ) (journal : List WatchMark) : Type 0 where
   pub out : ReadOut
+  pub read : out ≢ readout.NoMemory
   pub is : journal ≡ Read conf out ∷ []
 
 -- the sides of a Corefile: one for the port of its block
@@ -37,6 +38,7 @@ endpoints_of (Some block) = record { port = block.port; by = Udp; number = 0 } �
 pub record WantsSides (default_port : ℕ) (bundle : Bundle) (sides : List OpenedSide) : Type 0 where
   pub corefile : Corefile
   pub accepted : IsAccepted bundle default_port corefile
+  pub some : corefile.block ≢ None
   pub are : sides ≡ endpoints_of corefile.block
 
 abbrev pub OpensSides : ℕ → List Bundle → List OpenedSide → Type 0

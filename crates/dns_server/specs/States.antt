@@ -3,16 +3,13 @@
 use Rattle.std.specs.Prelude.{ℕ, List, map}
 use Rattle.outside.specs.States.{SideState, WatchState}
 use Rattle.dns_server.specs.declared.report.Done.{Done}
+use Rattle.dns_server.specs.declared.running.TheConstants as ports
 use Rattle.dns_server.specs.declared.watcher.Watcher.{Watcher}
 use Rattle.dns_server.specs.declared.worker.Tally.{Tally}
 use Rattle.dns_server.specs.declared.worker.WorkEnd.{WorkEnd}
 use Rattle.dns_server.specs.declared.worker.Worker.{Worker}
 use Rattle.dns_server.specs.Command.{CommandData}
 use Rattle.dns_server.specs.Generation.{GenerationsData}
-
--- the port of keys that name none (RFC 1035, section 4.2)
-abbrev pub default_port : ℕ
-default_port = 53
 
 -- what a run is set to: the file to serve by, the port of keys that name none, and how many
 -- datagrams a worker takes at most
@@ -22,7 +19,8 @@ pub record RunSetup : Type 0 where
   pub most : ℕ
 
 abbrev pub setup_of : CommandData → RunSetup
-setup_of command = record { conf = command.conf; default_port = default_port; most = command.most }
+setup_of command =
+    record { conf = command.conf; default_port = ports.DEFAULT_PORT; most = command.most }
 
 -- a worker: its side, and what it has counted
 pub record WorkerState : Type 0 where

@@ -1,6 +1,6 @@
 -- One turn of the watch, as a value: a look for a changed configuration, and the marks by which the
 -- watch tells it. This server's own rule.
-use Rattle.std.specs.Prelude.{◌≡◌, ℕ, ◌+◌, Bool, true, List, [], ◌∷◌, ◌++◌, length, Option}
+use Rattle.std.specs.Prelude.{◌≡◌, ◌≢◌, ℕ, ◌+◌, Bool, true, List, [], ◌∷◌, ◌++◌, length, Option, Some}
 use Rattle.std.specs.List.{flat_map}
 use Rattle.dns_server.specs.declared.watcher.TheConstants as waits
 use Rattle.outside.specs.declared.mark.WatchMark.{WatchMark}
@@ -78,7 +78,7 @@ IsLook conf default_port bundles (looked out answer flag) =
       published = length bundles;
     }) out answer)
 IsLook conf default_port bundles (starved out) =
-    IsLooked default_port bundles (λ last corefile. Unit {0})
+    IsLooked default_port bundles (λ last corefile. out ≢ Some readout.NoMemory)
 
 -- turns one after another, behind these published bundles
 abbrev pub AreLooks : List ℕ → ℕ → List Bundle → List WatchTurn → Type 0

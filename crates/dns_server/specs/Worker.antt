@@ -135,12 +135,19 @@ pub record EndsInLongRow (turns : List Turn) : Type 0 where
   pub row : last_row 0 before + 1 ≡ limits.FAILURES
   pub first : HasNoLongRow 0 before
 
+-- the last `FAILURES` calls of `recv` in a row failed or met want of memory, and one at least met
+-- that. Such a call leaves no turn, and is among those that were counted.
+pub record EndsStarved (turns : List Turn) (starved : ℕ) : Type 0 where
+  pub first : HasNoLongRow 0 turns
+  pub some : 0 < starved
+  pub row : limits.FAILURES ≤ last_row 0 turns + starved
+
 -- how a worker ended: what its journal has behind the turns, and how the turns end
-abbrev pub Ending : ℕ → ℕ → List Turn → WorkEnd → List Mark → Type 0
-Ending most taken turns ends.End marks =
-    HasNoLongRow 0 turns × ((marks ≡ RecvEnd ∷ []) ⊎ ((marks ≡ []) × (taken ≡ most)))
-Ending most taken turns ends.RecvFailed marks = EndsInLongRow turns × (marks ≡ [])
-Ending most taken turns ends.NoMemory marks = HasNoLongRow 0 turns × (marks ≡ [])
+abbrev pub Ending : ℕ → Worked → List Turn → WorkEnd → List Mark → Type 0
+Ending most worked turns ends.End marks =
+    HasNoLongRow 0 turns × ((marks ≡ RecvEnd ∷ []) ⊎ ((marks ≡ []) × (worked.taken ≡ most)))
+Ending most worked turns ends.RecvFailed marks = EndsInLongRow turns × (marks ≡ [])
+Ending most worked turns ends.NoMemory marks = EndsStarved turns worked.starved × (marks ≡ [])
 
 -- the journal is that of a worker which took so many datagrams, as many as the run is set to at
 -- most, saw no serial above this one, met want of memory so often at most, and ended so, in rounds
@@ -154,4 +161,4 @@ pub record WorkerRun (setup : RunSetup) (bundles : List Bundle) (looks : List Wa
   pub at_most : worked.taken ≤ setup.most
   pub seen_all : AllByRecursion (λ serial. serial ≤ worked.seen) (flat_map serials turns)
   pub pace : KeepsPace 0 looks turns
-  pub ends : Ending setup.most worked.taken turns worked.end ending
+  pub ends : Ending setup.most worked turns worked.end ending

@@ -32,7 +32,7 @@ pub struct Upstream {
     pub port: u16,
 }
 
-/// What a look for the next datagram gave. End is for good.
+/// What a look for the next datagram gave. End: there is none any more.
 #[derive(Debug, Drop)]
 pub enum Received {
     Got(Datagram),

@@ -26,7 +26,7 @@ impl Copies for ReadOut {
     }
 }
 
-/// Whether there is a further look. End is for good.
+/// Whether there is a further look. End: there is none any more.
 #[derive(Clone, Copy, Debug, PartialEq, Eq)]
 pub enum Look {
     Look,

@@ -71,11 +71,18 @@ impl Host for MemHost {
 
     type Watch = MemWatch;
 
+    ghost use Rattle.std.specs.Prelude.{[], None, IfErr};
+    ghost use Rattle.outside.specs.Hosts.{OpenedSide as OpenedData, OpensSide, OpensWatch};
     ghost use Rattle.outside_mem.specs.Supply.{host_state};
+    ghost use Rattle.outside_mem.specs.Unused.{side_state, watch_state};
 
     ghost state = { host_state };
 
-    fn open_watch(&mut self) -> Result<MemWatch, OpenFault> {
+    /// Fails exactly where the watch was given before.
+    fn open_watch(&mut self) -> Result<MemWatch, OpenFault>
+        ensures opens { OpensWatch watch_state (host_state self.old) (host_state self.new) result }
+        ensures spent { IfErr result (λ _. self.old.watch ≡ None) }
+    {
         match self.watch.take() {
             Some(watch) => {
                 tell_watch(&mut self.told);
@@ -88,7 +95,12 @@ impl Host for MemHost {
         }
     }
 
-    fn open_side(&mut self, port: u16, by: Transport, number: u32) -> Result<MemSide, OpenFault> {
+    /// Fails exactly where each side was given before.
+    fn open_side(&mut self, port: u16, by: Transport, number: u32) -> Result<MemSide, OpenFault>
+        ensures opens { let place : OpenedData = record { port = port; by = by; number = number } in
+            OpensSide side_state (host_state self.old) (host_state self.new) place result }
+        ensures spent { IfErr result (λ _. into_iter_items self.old.sides ≡ []) }
+    {
         match self.sides.next() {
             Some(side) => {
                 tell_opened(&mut self.told, OpenedSide { port, by, number });

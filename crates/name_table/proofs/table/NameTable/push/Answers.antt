@@ -1,0 +1,21 @@
+use Rattle.std.proofs.Common.{arith, length, ◌≡◌, ap, ◌∙◌, subst, sym}
+use Rattle.name_table.specs.Table.{IsMissing}
+use Rattle.name_table.specs.Hash.{hash_of}
+use Rattle.name_table.proofs.Tables.{table_after, more_after}
+use Rattle.name_table.proofs.table.NameTable.push.Goals as goal
+
+pub invariant_of-self-in_err-push-2 : goal.invariant_of-self-in_err-push-2
+invariant_of-self-in_err-push-2 c =
+    let is = c.in_ok-push.ensures.ok in
+    rw c.in_err-push-2.ensures.items (table_after _ _ c.place_of-place.result _ c.index_mut.result.now c.push.new.self c.self.invariant (omega arith) c.index_mut.ensures.value is)
+
+pub invariant_of-self-2 : goal.invariant_of-self-2
+invariant_of-self-2 c =
+    let number : c.len-number.result ≡ length c.self.inside.names.items = omega arith in
+    let count : c.len.result ≡ length c.self.inside.buckets.items = omega arith in
+    let is = rw number at c.in_ok-push.ensures.ok in
+    let place = rw count at c.place_of-place.ensures.value in
+    let hash = c.hash_of-hash.ensures ∙ ap hash_of c.as_wire.ensures.value in
+    rw c.in_ok-push-2.ensures.items
+    (more_after _ _ c.place_of-place.result c.hash_of-hash.result c.index_mut.result.now c.push.new.self c.args.name c.self.invariant (omega arith) c.index_mut.ensures.value is
+    hash c.as_wire.ensures.proper place (subst (λ names. IsMissing names c.args.name) (sym c.self.view_is) c.requires))

@@ -1,0 +1,12 @@
+//! Names to numbers: a hash table over wire formats, which also finds the longest suffix that it
+//! has.
+#![tactic(auto)]
+
+mod bucket;
+mod hash;
+mod letters;
+mod table;
+#[cfg(test)]
+mod tests;
+
+pub use table::{Longest, NameTable};

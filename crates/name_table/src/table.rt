@@ -1,0 +1,194 @@
+ghost use Rattle.std.specs.Prelude.{◌≡◌, ◌++◌, [], ◌∷◌, ℕ, ◌≤◌, length, drop};
+ghost use Rattle.std.specs.Prelude.{IsTrue, IsFalse, IfSome, IfNone, IfOk, OnOk, OnErr, ◌↔◌};
+ghost use Rattle.dns_data.specs.{lowered, spelled};
+ghost use Rattle.name_table.specs.Hash.{hash_of};
+ghost use Rattle.name_table.specs.Table.{Holds, IsEntryOf, IsNamed, IsNumberOf, IsMissing};
+ghost use Rattle.name_table.specs.Table.{IsLongest, entry_of};
+
+use crate::bucket::{Bucket, Entry};
+use crate::hash::{hash_of, place_of};
+use crate::letters::same_letters;
+use dns_data::{Labels, Name, NoMemory};
+use std::alloc::Global;
+use std::marker::Model;
+
+/// Names, no two of which are the same, ASCII case aside. Contracts see their list: the number of
+/// a name is its place there.
+#[derive(Debug, Drop)]
+pub struct NameTable {
+    names: Vec<Name>,
+    buckets: Vec<Bucket>,
+}
+
+impl Model for NameTable {
+    ghost use Rattle.std.specs.Prelude.{ℕ, List};
+    ghost use Rattle.name_table.specs.Table.{IsTable};
+
+    ghost Value = { List (List (List ℕ)) };
+
+    ghost view = { λ t. t.names.items };
+
+    ghost invariant = { λ t. IsTable t.names.items t.buckets.items };
+}
+
+/// A suffix that a table has: how many labels of the whole name stand above it, and its number.
+#[derive(Clone, Copy, Debug, PartialEq, Eq)]
+pub struct Longest {
+    pub above: usize,
+    pub number: usize,
+}
+
+impl NameTable {
+    /// A table without names. It is fastest with at most so many, and takes more.
+    pub fn new(alloc: Global, names: u32) -> Result<NameTable, NoMemory>
+        ensures { IfOk result (λ t. t ≡ []) }
+    {
+        let count = names as usize + 1;
+        let mut buckets = Vec::with_capacity(alloc, count)?;
+        for made in 0..count {
+            let _ = made;
+            buckets.push(Bucket::new(alloc))?;
+        }
+        Ok(NameTable {
+            names: Vec::new(alloc),
+            buckets,
+        })
+    }
+
+    /// How many names.
+    pub fn len(&self) -> usize
+        ensures { result ≡ length self.now }
+    {
+        self.names.len()
+    }
+
+    /// Adds a name that isn't there, whose number is how many there were.
+    pub fn push(&mut self, name: Name) -> Result<(), NoMemory>
+        requires { IsMissing self.old name }
+        ensures ok { OnOk result (self.new ≡ self.old ++ name ∷ []) }
+        ensures err { OnErr result (self.new ≡ self.old) }
+    {
+        let hash = hash_of(name.as_wire(), false);
+        let place = place_of(hash, self.buckets.len());
+        let number = self.names.len();
+        self.buckets[place].push(Entry { hash, number })?;
+        self.names.push(name)?;
+        Ok(())
+    }
+
+    /// The number of a name, ASCII case aside.
+    #[inline]
+    pub fn find(&self, key: &Labels<'_>) -> Option<usize>
+        ensures found { IfSome result (λ i. IsNumberOf self.now key.now i) }
+        ensures none { IfNone result (IsMissing self.now key.now) }
+    {
+        self.find_cased(key, false)
+    }
+
+    /// The same of a name without capitals, in less time.
+    #[inline]
+    pub fn find_lower(&self, key: &Labels<'_>) -> Option<usize>
+        requires { lowered key.now ≡ key.now }
+        ensures found { IfSome result (λ i. IsNumberOf self.now key.now i) }
+        ensures none { IfNone result (IsMissing self.now key.now) }
+    {
+        self.find_cased(key, true)
+    }
+
+    /// The longest suffix of a name that the table has, ASCII case aside.
+    #[inline]
+    pub fn find_longest(&self, name: &Name) -> Option<Longest>
+        ensures found { IfSome result (λ found. IsLongest self.now name.now found) }
+        ensures none { IfNone result
+            ((k : ℕ) → k ≤ length name.now → IsMissing self.now (drop k name.now)) }
+    {
+        self.find_longest_cased(name, false)
+    }
+
+    /// The same of a name without capitals, in less time.
+    #[inline]
+    pub fn find_longest_lower(&self, name: &Name) -> Option<Longest>
+        requires { lowered name.now ≡ name.now }
+        ensures found { IfSome result (λ found. IsLongest self.now name.now found) }
+        ensures none { IfNone result
+            ((k : ℕ) → k ≤ length name.now → IsMissing self.now (drop k name.now)) }
+    {
+        self.find_longest_cased(name, true)
+    }
+
+    #[inline]
+    fn find_longest_cased(&self, name: &Name, is_lower: bool) -> Option<Longest>
+        requires { IsTrue is_lower → lowered name.now ≡ name.now }
+        ensures found { IfSome result (λ found. IsLongest self.now name.now found) }
+        ensures none { IfNone result
+            ((k : ℕ) → k ≤ length name.now → IsMissing self.now (drop k name.now)) }
+    {
+        let _most = name.as_wire().len();
+        let mut above = 0;
+        let mut rest = name.labels();
+        loop {
+            if let Some(number) = self.find_cased(&rest, is_lower) {
+                return Some(Longest { above, number });
+            }
+            let Some(_) = rest.next() else {
+                return None;
+            };
+            above += 1;
+        }
+    }
+
+    #[inline]
+    fn find_cased(&self, key: &Labels<'_>, is_lower: bool) -> Option<usize>
+        requires { IsTrue is_lower → lowered key.now ≡ key.now }
+        ensures found { IfSome result (λ i. IsNumberOf self.now key.now i) }
+        ensures none { IfNone result (IsMissing self.now key.now) }
+    {
+        let hash = hash_of(key.as_wire(), is_lower);
+        self.find_hashed(key, hash)
+    }
+
+    #[inline]
+    fn find_hashed(&self, key: &Labels<'_>, hash: u32) -> Option<usize>
+        requires { hash ≡ hash_of (spelled key.now) }
+        ensures found { IfSome result (λ i. IsNumberOf self.now key.now i) }
+        ensures none { IfNone result (IsMissing self.now key.now) }
+    {
+        let _ = key.as_wire();
+        let place = place_of(hash, self.buckets.len());
+        find_among(&self.names, self.buckets[place].as_slice(), key, hash)
+    }
+}
+
+#[inline]
+fn find_among(names: &[Name], entries: &[Entry], key: &Labels<'_>, hash: u32) -> Option<usize>
+    ensures found { IfSome result (λ i. IsNamed names.now i key.now) }
+    ensures none { IfNone result ((i : ℕ) → Holds entries.now (entry_of hash i)
+        → IsNamed names.now i key.now → ⊥) }
+{
+    for entry in entries {
+        if is_entry_of(names, entry, key, hash) {
+            return Some(entry.number);
+        }
+    }
+    None
+}
+
+#[inline]
+fn is_entry_of(names: &[Name], entry: &Entry, key: &Labels<'_>, hash: u32) -> bool
+    ensures { IsTrue result ↔ IsEntryOf names.now entry.now key.now hash }
+{
+    if entry.hash != hash {
+        return false;
+    }
+    is_named(names, entry.number, key)
+}
+
+#[inline]
+fn is_named(names: &[Name], number: usize, key: &Labels<'_>) -> bool
+    ensures { IsTrue result ↔ IsNamed names.now number key.now }
+{
+    if names.len() <= number {
+        return false;
+    }
+    same_letters(names[number].as_wire(), key.as_wire())
+}

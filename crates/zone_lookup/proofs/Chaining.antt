@@ -1,0 +1,150 @@
+-- Runs of CNAME records, and the tests of names.
+use Rattle.std.proofs.Common.{◌≡◌, ◌↔◌, ℕ, zero, suc, ◌+◌, ◌-◌, ◌<◌, ◌≤◌, Bool, true, false, cond, IsTrue, nat_eq, List, [], ◌∷◌, ◌++◌, length, drop, get_or, Option, Some, None, refl, sym, ap, subst, ◌∙◌, arith, map, length-append, append_assoc, rules}
+use Rattle.std.specs.Prelude.{not}
+use Rattle.std.proofs.lemmas.List.{length-map, drop_more}
+use Rattle.std.proofs.lemmas.Bool.Decides.{same_from_decides, Decides-eqb}
+use Rattle.std.proofs.lemmas.Slice.Eq.{slice_eq-Decides}
+use Rattle.std.specs.Char.{to_ascii_lowercase}
+use Rattle.dns_data.specs.Name.{lowered, IsWithin}
+use Rattle.dns_data.specs.Record.{RecordData}
+use Rattle.dns_data.specs.declared.zone.Zone.{Zone}
+use Rattle.zone_lookup.specs.declared.find.Find.{Find}
+use Rattle.zone_lookup.specs.declared.answering.End.{End}
+use Rattle.dns_data.specs.Message.{AnswerData}
+use Rattle.dns_data.specs.declared.kind.TheConstants as kinds
+use Rattle.zone_lookup.specs.Zone.{is_under, has_items, cut_of, set_at}
+use Rattle.zone_lookup.specs.declared.find.Step.TheVariants as step
+use Rattle.zone_lookup.specs.ZoneAnswer.{Finds, Chain, Ends, found, chain, is_followed, with_hosts, with_addresses, host_of, referral, positive, additional, the_answer, rcode_of, authority, own_answer, whole_chain, answer_under, zone_answer, sought, Steps, StepsAt}
+
+length_drop : {X : Type 0} (n : ℕ) (xs : List X) → n ≤ length xs → length (drop n xs) + n ≡ length xs
+length_drop zero xs h = omega arith
+length_drop (suc n) [] h = absurd (omega arith)
+length_drop (suc n) (x ∷ xs) h = omega (arith, length_drop n xs (omega arith))
+
+within_is : (name top : List (List ℕ)) → IsWithin name top → lowered (drop (length name - length top) name) ≡ lowered top
+within_is name top w =
+    let long : length (lowered (drop w.above name)) ≡ length (lowered top) = ap length w.same in
+    let above : w.above ≡ length name - length top =
+    omega (arith, long, length-map (drop w.above name) (λ (label : List ℕ). map to_ascii_lowercase label), length-map top (λ (label : List ℕ). map to_ascii_lowercase label), length_drop w.above name w.inside, w.inside) in
+    subst (λ (n : ℕ). lowered (drop n name) ≡ lowered top) above w.same
+
+pub decides_under : (name top : List (List ℕ)) (b : Bool) → (IsTrue b ↔ IsWithin name top) → b ≡ is_under name top
+unfolding is_under
+decides_under name top b e =
+    let both : IsTrue b ↔ (lowered (drop (length name - length top) name) ≡ lowered top) = (λ t. within_is name top (e.0 t), λ h. e.1 (record { above = length name - length top; inside = omega arith; same = h })) in
+    same_from_decides _ _ both (slice_eq-Decides (λ a b. slice_eq-Decides Decides-eqb a b _ refl) (lowered (drop (length name - length top) name)) (lowered top) _ refl)
+
+no_more : (old new rs : List RecordData) → new ≡ old ++ rs → nat_eq (length new) (length old) ≡ not (has_items rs)
+no_more old new [] e =
+    let none : List RecordData = [] in
+    let same : length new ≡ length old = omega (arith, ap length e, length-append old none) in
+    rw same (search rules)
+no_more old new (r ∷ rs) e = let longer : length old < length new = omega (arith, ap length e, length-append old (r ∷ rs)) in search rules
+
+pub ends_last : (left : ℕ) (zone : Zone) (kind : ℕ) (name : List (List ℕ)) (find : Find) (end : End) (old new : List RecordData) → Finds (found zone name kind) find old new → find.target ≡ None
+    → end.absent ≡ find.absent → end.denied ≡ nat_eq (length new) (length old) → Ends (chain left zone kind name) end old new
+unfolding chain
+ends_last zero zone kind name find end old new f none absent denied =
+    let last : (found zone name kind).target ≡ None = sym f.target ∙ none in
+    rw last (record { absent = absent ∙ f.absent; denied = denied ∙ no_more old new _ f.records; records = f.records })
+ends_last (suc left) zone kind name find end old new f none absent denied =
+    let last : (found zone name kind).target ≡ None = sym f.target ∙ none in
+    rw last (record { absent = absent ∙ f.absent; denied = denied ∙ no_more old new _ f.records; records = f.records })
+
+pub ends_at_limit : (left : ℕ) (zone : Zone) (kind : ℕ) (name target : List (List ℕ)) (find : Find) (end : End) (old new : List RecordData) → Finds (found zone name kind) find old new
+    → find.target ≡ Some target → left ≡ 0 → end ≡ record { absent = false; denied = false } → Ends (chain left zone kind name) end old new
+unfolding chain
+ends_at_limit zero zone kind name target find end old new f some h e =
+    let last : (found zone name kind).target ≡ Some target = sym f.target ∙ some in
+    rw (last, e) (record { absent = refl; denied = refl; records = f.records })
+ends_at_limit (suc left) zone kind name target find end old new f some h e = absurd (omega arith)
+
+pub ends_outside : (left : ℕ) (zone : Zone) (kind : ℕ) (name target : List (List ℕ)) (find : Find) (end : End) (old new : List RecordData) → Finds (found zone name kind) find old new
+    → find.target ≡ Some target → 0 < left → is_followed zone target ≡ false → end ≡ record { absent = false; denied = false } → Ends (chain left zone kind name) end old new
+unfolding chain
+ends_outside zero zone kind name target find end old new f some h out e = absurd (omega arith)
+ends_outside (suc left) zone kind name target find end old new f some h out e =
+    let last : (found zone name kind).target ≡ Some target = sym f.target ∙ some in
+    rw (last, out, e) (record { absent = refl; denied = refl; records = f.records })
+
+pub goes_on : (left less : ℕ) (zone : Zone) (kind : ℕ) (name target : List (List ℕ)) (find : Find) (end : End) (old new last : List RecordData) → Finds (found zone name kind) find old new
+    → find.target ≡ Some target → left ≡ less + 1 → is_followed zone target ≡ true → Ends (chain less zone kind target) end new last → Ends (chain left zone kind name) end old last
+unfolding chain
+goes_on zero less zone kind name target find end old new last f some h inside e = absurd (omega arith)
+goes_on (suc left) less zone kind name target find end old new last f some h inside e =
+    let same : less ≡ left = omega arith in
+    let next : (found zone name kind).target ≡ Some target = sym f.target ∙ some in
+    let rest : Ends (chain left zone kind target) end new last = subst (λ (n : ℕ). Ends (chain n zone kind target) end new last) same e in
+    rw (next, inside) (record {
+      absent = rest.absent;
+      denied = rest.denied;
+      records = rest.records ∙ ap (λ (rs : List RecordData). rs ++ (chain left zone kind target).records) f.records ∙ append_assoc old (found zone name kind).records (chain left zone kind target).records;
+    })
+
+pub no_hosts : (zone : Zone) (answer added : List RecordData) → with_hosts zone answer added [] ≡ added
+unfolding with_hosts
+no_hosts zone answer added = refl
+
+pub hosts_step : (zone : Zone) (answer added : List RecordData) (r : RecordData) (rs : List RecordData) (i : ℕ) → r ≡ get_or rs i r → i < length rs
+    → with_hosts zone answer added (drop i rs) ≡ with_hosts zone answer (with_addresses zone answer added (host_of r.rdata)) (drop (i + 1) rs)
+unfolding with_hosts
+hosts_step zone answer added r rs i e inside =
+    let here : drop i rs ≡ r ∷ drop (i + 1) rs = drop_more rs i r inside ∙ ap (λ (x : RecordData). x ∷ drop (i + 1) rs) (sym e) in
+    rw here refl
+
+pub referral_is : (zone : Zone) (servers answer authority additional : List RecordData) → answer ≡ [] → authority ≡ servers → additional ≡ with_hosts zone answer [] authority
+    → the_answer false 0 answer authority additional ≡ referral zone servers
+unfolding referral additional with_hosts
+referral_is zone servers answer authority additional none same glue = rw (glue, same, none) refl
+
+pub positive_is : (zone : Zone) (c : Chain) (end : End) (servers answer authority middle additional : List RecordData) → Ends c end [] answer → authority ≡ servers → middle ≡ with_hosts zone answer [] answer
+    → additional ≡ with_hosts zone answer middle authority → the_answer true (rcode_of c.absent) answer authority additional ≡ positive zone c servers
+unfolding positive additional
+positive_is zone c end servers answer authority middle additional e same first second = rw (second, first, same, e.records) refl
+
+pub own_is : (zone : Zone) (name : List (List ℕ)) (kind : ℕ) (a : AnswerData) → a ≡ positive zone (whole_chain zone name kind) (authority zone name kind (whole_chain zone name kind).denied)
+    → a ≡ own_answer zone name kind
+unfolding own_answer
+own_is zone name kind a e = e
+
+cut_at : (zone : Zone) (name : List (List ℕ)) (kind : ℕ) (cut : Option (List (List ℕ))) (new : List RecordData) → StepsAt cut (sought zone name kind) step.Cut [] new
+    → referral zone new ≡ answer_under zone name kind cut
+unfolding answer_under sought
+cut_at zone name kind (Some cut) new s = ap (referral zone) s
+cut_at zone name kind None new s = absurd s
+
+-- the step came to a cut
+pub step_cut : (zone : Zone) (name : List (List ℕ)) (kind : ℕ) (new : List RecordData) → Steps (sought zone name kind) step.Cut [] new → referral zone new ≡ zone_answer zone name kind
+unfolding zone_answer sought
+step_cut zone name kind new s = cut_at zone name kind (cut_of zone name) new s
+
+found_at_none : (zone : Zone) (name : List (List ℕ)) (kind : ℕ) (cut : Option (List (List ℕ))) (find : Find) (new : List RecordData) → StepsAt cut (sought zone name kind) (step.Found find) [] new
+    → Finds (found zone name kind) find [] new
+unfolding sought
+found_at_none zone name kind (Some cut) find new s = absurd s
+found_at_none zone name kind None find new s = s
+
+pub step_found : (zone : Zone) (name : List (List ℕ)) (kind : ℕ) (find : Find) (new : List RecordData) → Steps (sought zone name kind) (step.Found find) [] new → Finds (found zone name kind) find [] new
+unfolding sought
+step_found zone name kind find new s = found_at_none zone name kind (cut_of zone name) find new s
+
+own_at : (zone : Zone) (name : List (List ℕ)) (kind : ℕ) (cut : Option (List (List ℕ))) (find : Find) (new : List RecordData) → StepsAt cut (sought zone name kind) (step.Found find) [] new
+    → own_answer zone name kind ≡ answer_under zone name kind cut
+unfolding answer_under sought
+own_at zone name kind (Some cut) find new s = absurd s
+own_at zone name kind None find new s = refl
+
+-- the step came to no cut
+pub found_under : (zone : Zone) (name : List (List ℕ)) (kind : ℕ) (find : Find) (new : List RecordData) → Steps (sought zone name kind) (step.Found find) [] new → own_answer zone name kind ≡ zone_answer zone name kind
+unfolding zone_answer sought
+found_under zone name kind find new s = own_at zone name kind (cut_of zone name) find new s
+
+-- what a step appends, by its cut
+pub steps_cut : (zone : Zone) (name cut : List (List ℕ)) (kind : ℕ) (old new : List RecordData) → cut_of zone name ≡ Some cut → new ≡ old ++ set_at zone cut kinds.NS → Steps (sought zone name kind) step.Cut old new
+unfolding sought
+steps_cut zone name cut kind old new e is = rw e is
+
+pub steps_found : (zone : Zone) (name : List (List ℕ)) (kind : ℕ) (find : Find) (old new : List RecordData) → cut_of zone name ≡ None → Finds (found zone name kind) find old new
+    → Steps (sought zone name kind) (step.Found find) old new
+unfolding sought
+steps_found zone name kind find old new e f = rw e f

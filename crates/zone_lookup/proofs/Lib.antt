@@ -1,0 +1,4 @@
+mod Suffixes
+mod Finding
+mod Chaining
+mod PlainList

@@ -1,0 +1,221 @@
+ghost use Rattle.std.specs.Prelude.{◌≡◌, ◌<◌, ◌++◌, ◌&&◌, ◌==◌, [], false, OnOk, IfOk};
+ghost use Rattle.dns_data.specs.declared.kind.TheConstants as kinds;
+ghost use Rattle.dns_data.specs.declared.rcode.TheConstants as rcodes;
+ghost use Rattle.zone_lookup.specs.Zone.{is_same};
+ghost use Rattle.zone_lookup.specs.ZoneAnswer.{chain, is_followed, authority, referral, rcode_of};
+ghost use Rattle.zone_lookup.specs.ZoneAnswer.{own_answer, zone_answer, whole_chain, found};
+ghost use Rattle.zone_lookup.specs.ZoneAnswer.{Ends, Finds};
+
+use crate::ZoneStore;
+use crate::find::{Find, Step};
+use crate::hosts::push_hosts;
+use crate::names::{is_under, same};
+use dns_data::{Answer, Name, NoMemory, Records, Seq, kind, rcode};
+use std::alloc::Global;
+
+/// CNAME records that are followed at most, the first one among them.
+const STEPS: u32 = 8;
+
+/// How a run of CNAME records ends: whether its last name is absent, and whether that has no
+/// records.
+#[derive(Clone, Copy, Debug, PartialEq, Eq)]
+pub struct End {
+    pub absent: bool,
+    pub denied: bool,
+}
+
+/// The answer of a zone to a question for a name within it.
+pub fn lookup<Z: ZoneStore>(
+    alloc: Global,
+    zone: &Z,
+    name: &Name,
+    kind: u16,
+) -> Result<Answer, NoMemory>
+    ensures { IfOk result (λ answer. answer ≡ zone_answer (Z.zone zone.now) name.now kind) }
+{
+    let mut records = Seq::new(alloc);
+    match zone.step(alloc, name, kind, &mut records)? {
+        // What was found is the cut's NS set, which stands in authority.
+        Step::Cut => referral(alloc, zone, records),
+        Step::Found(find) => positive(alloc, zone, name, kind, find, records),
+    }
+}
+
+fn referral<Z: ZoneStore>(alloc: Global, zone: &Z, servers: Records) -> Result<Answer, NoMemory>
+    ensures { IfOk result (λ made. made ≡ referral (Z.zone zone.now) servers) }
+{
+    let answer = Seq::new(alloc);
+    let mut additional = Seq::new(alloc);
+    push_hosts(
+        alloc,
+        zone,
+        answer.as_slice(),
+        servers.as_slice(),
+        &mut additional,
+    )?;
+    Ok(Answer {
+        rcode: rcode::NOERROR,
+        aa: false,
+        ra: false,
+        tc: false,
+        answer,
+        authority: servers,
+        additional,
+    })
+}
+
+// The answer from what the name itself gave.
+fn positive<Z: ZoneStore>(
+    alloc: Global,
+    zone: &Z,
+    name: &Name,
+    kind: u16,
+    find: Find,
+    records: Records,
+) -> Result<Answer, NoMemory>
+    requires { Finds (found (Z.zone zone.now) name.now kind) find [] records }
+    ensures { IfOk result (λ made. made ≡ own_answer (Z.zone zone.now) name.now kind) }
+{
+    let mut answer = records;
+    let mut authority = Seq::new(alloc);
+    let mut additional = Seq::new(alloc);
+    let end = follow(alloc, zone, kind, name, find, &mut answer)?;
+    push_authority(alloc, zone, name, kind, end.denied, &mut authority)?;
+    push_hosts(
+        alloc,
+        zone,
+        answer.as_slice(),
+        answer.as_slice(),
+        &mut additional,
+    )?;
+    push_hosts(
+        alloc,
+        zone,
+        answer.as_slice(),
+        authority.as_slice(),
+        &mut additional,
+    )?;
+    Ok(Answer {
+        rcode: rcode_of(end.absent),
+        aa: true,
+        ra: false,
+        tc: false,
+        answer,
+        authority,
+        additional,
+    })
+}
+
+fn rcode_of(absent: bool) -> u8
+    ensures value { result ≡ rcode_of absent }
+    ensures small { result < 16 }
+{
+    if absent {
+        rcode::NXDOMAIN
+    } else {
+        rcode::NOERROR
+    }
+}
+
+// Follows CNAME records from what the first name gave on.
+fn follow<Z: ZoneStore>(
+    alloc: Global,
+    zone: &Z,
+    kind: u16,
+    name: &Name,
+    find: Find,
+    out: &mut Records,
+) -> Result<End, NoMemory>
+    requires { Finds (found (Z.zone zone.now) name.now kind) find [] out.old }
+    ensures { IfOk result
+        (λ end. Ends (whole_chain (Z.zone zone.now) name.now kind) end [] out.new) }
+{
+    let _ = name;
+    let Some(target) = find.target else {
+        return Ok(End {
+            absent: find.absent,
+            denied: out.len() == 0,
+        });
+    };
+    if !is_followed(alloc, zone, &target)? {
+        return Ok(cut_off());
+    }
+    chain(alloc, zone, STEPS - 1, kind, &target, out)
+}
+
+// Appends what a name gives, and follows CNAME records for at most so many more steps.
+fn chain<Z: ZoneStore>(
+    alloc: Global,
+    zone: &Z,
+    left: u32,
+    kind: u16,
+    name: &Name,
+    out: &mut Records,
+) -> Result<End, NoMemory>
+    ensures { IfOk result
+        (λ end. Ends (chain left (Z.zone zone.now) kind name.now) end out.old out.new) }
+{
+    let start = out.len();
+    let find = zone.find(alloc, name, kind, out)?;
+    let Some(target) = find.target else {
+        return Ok(End {
+            absent: find.absent,
+            denied: out.len() == start,
+        });
+    };
+    if left == 0 {
+        return Ok(cut_off());
+    }
+    if !is_followed(alloc, zone, &target)? {
+        return Ok(cut_off());
+    }
+    chain(alloc, zone, left - 1, kind, &target, out)
+}
+
+fn cut_off() -> End
+    ensures { result ≡ record { absent = false; denied = false } }
+{
+    End {
+        absent: false,
+        denied: false,
+    }
+}
+
+// Whether a name is in the zone and under no cut.
+#[tactic(auto, unfolding(crate::specs::ZoneAnswer::is_followed))]
+fn is_followed<Z: ZoneStore>(alloc: Global, zone: &Z, name: &Name) -> Result<bool, NoMemory>
+    ensures { IfOk result (λ is. is ≡ is_followed (Z.zone zone.now) name.now) }
+{
+    if !is_under(name, zone.origin()) {
+        return Ok(false);
+    }
+    Ok(zone.cut(alloc, name)?.is_none())
+}
+
+#[tactic(auto, unfolding(crate::specs::ZoneAnswer::authority))]
+fn push_authority<Z: ZoneStore>(
+    alloc: Global,
+    zone: &Z,
+    name: &Name,
+    kind: u16,
+    denied: bool,
+    out: &mut Records,
+) -> Result<(), NoMemory>
+    ensures { OnOk result
+        (out.new ≡ out.old ++ authority (Z.zone zone.now) name.now kind denied) }
+{
+    if denied {
+        return zone.copy_denial(alloc, out);
+    }
+    if is_question(zone.origin(), name, kind) {
+        return Ok(());
+    }
+    zone.copy_set(alloc, zone.origin(), kind::NS, out)
+}
+
+// Whether the question is for the origin's NS.
+fn is_question(origin: &Name, name: &Name, kind: u16) -> bool
+    ensures { result ≡ (is_same name.now origin.now && kind == kinds.NS) }
+{
+    same(name, origin) && kind == kind::NS
+}

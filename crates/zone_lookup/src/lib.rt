@@ -1,0 +1,16 @@
+//! The answer of a zone to a question (RFC 1034, section 4.3.2), from any store of its records.
+#![tactic(auto)]
+
+mod answering;
+mod find;
+mod hosts;
+mod names;
+mod plain;
+mod store;
+#[cfg(test)]
+mod tests;
+
+pub use answering::lookup;
+pub use find::{Find, Step};
+pub use plain::PlainZone;
+pub use store::ZoneStore;

@@ -1,0 +1,10 @@
+//! The words of the command line: what the program is asked to do.
+#![tactic(auto)]
+
+mod choice;
+mod command;
+mod given;
+#[cfg(test)]
+mod tests;
+
+pub use command::{Command, DEFAULT_PORT, DEFAULT_WORKERS, LOAD, Serve, WORKERS, read_command};

@@ -1,0 +1,24 @@
+ghost use Rattle.std.specs.Prelude.{◌≡◌, ◌≤◌};
+ghost use Rattle.numbers.specs.Number.{number_of};
+
+/// The number that a text of one to `most` decimal digits spells, zeros in front among them. `most`
+/// is 18 at most, so that every such number has room.
+pub fn read_number(text: &[u8], most: usize) -> Option<u64>
+    requires { most ≤ 18 }
+    ensures { result ≡ number_of most text.now }
+{
+    if text.len() == 0 || most < text.len() {
+        return None;
+    }
+    let mut number: u64 = 0;
+    for byte in text {
+        if *byte < b'0' {
+            return None;
+        }
+        if b'9' < *byte {
+            return None;
+        }
+        number = 10 * number + (*byte - b'0') as u64;
+    }
+    Some(number)
+}

@@ -1,0 +1,22 @@
+//! Records in master file format, one to a text (RFC 1035, section 5.1), and the words that they
+//! are made of.
+#![tactic(auto)]
+
+mod escape;
+mod fault;
+mod fields;
+mod form;
+mod hex;
+mod read;
+mod rows;
+mod string;
+#[cfg(test)]
+mod tests;
+mod ttl;
+mod word;
+
+pub use fault::RecordFault;
+pub use form::{Form, Place};
+pub use read::{read_of_owner, read_owned, read_record};
+pub use ttl::read_ttl;
+pub use word::{Word, Words, first_word, read_name};

@@ -1,0 +1,2 @@
+pub mod DecimalNumbers
+pub mod PrintedKinds

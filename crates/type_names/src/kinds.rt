@@ -1,0 +1,124 @@
+ghost use Rattle.std.specs.Prelude.{Some, ◌≡◌, ◌++◌, codes, string_bytes, option_map, IfOk, OnOk};
+ghost use Rattle.std.specs.Fmt.{decimal};
+ghost use Rattle.type_names.specs.Kinds.{kind_of_text, kind_text, name_of, named, numbered};
+
+use crate::read_number;
+use dns_data::{NoMemory, Text, kind};
+use std::alloc::Global;
+use std::fmt::Write;
+
+/// The type that a text names: a type's name in any letters, or `TYPE` and a number. OPT has no
+/// name.
+#[tactic(auto, unfolding(crate::specs::Kinds::kind_of_text))]
+pub fn read_kind(text: &[u8]) -> Option<u16>
+    ensures { result ≡ kind_of_text text.now }
+{
+    match named(text) {
+        Some(kind) => Some(kind),
+        None => numbered(text),
+    }
+}
+
+fn named(text: &[u8]) -> Option<u16>
+    ensures { result ≡ named text.now }
+{
+    if text.eq_ignore_ascii_case(b"A") {
+        return Some(kind::A);
+    }
+    if text.eq_ignore_ascii_case(b"NS") {
+        return Some(kind::NS);
+    }
+    if text.eq_ignore_ascii_case(b"CNAME") {
+        return Some(kind::CNAME);
+    }
+    if text.eq_ignore_ascii_case(b"SOA") {
+        return Some(kind::SOA);
+    }
+    if text.eq_ignore_ascii_case(b"PTR") {
+        return Some(kind::PTR);
+    }
+    if text.eq_ignore_ascii_case(b"HINFO") {
+        return Some(kind::HINFO);
+    }
+    if text.eq_ignore_ascii_case(b"MX") {
+        return Some(kind::MX);
+    }
+    if text.eq_ignore_ascii_case(b"TXT") {
+        return Some(kind::TXT);
+    }
+    if text.eq_ignore_ascii_case(b"AAAA") {
+        return Some(kind::AAAA);
+    }
+    if text.eq_ignore_ascii_case(b"SRV") {
+        return Some(kind::SRV);
+    }
+    if text.eq_ignore_ascii_case(b"ANY") {
+        return Some(kind::ANY);
+    }
+    if text.eq_ignore_ascii_case(b"CAA") {
+        return Some(kind::CAA);
+    }
+    None
+}
+
+fn numbered(text: &[u8]) -> Option<u16>
+    ensures { result ≡ numbered text.now }
+{
+    if text.len() < 4 {
+        return None;
+    }
+    if !text[..4].eq_ignore_ascii_case(b"TYPE") {
+        return None;
+    }
+    Some(read_number(&text[4..], 65536)? as u16)
+}
+
+/// A type, printed: its name where it has one, else `TYPE` and its number.
+pub fn kind_text(alloc: Global, kind: u16) -> Result<Text, NoMemory>
+    ensures text { IfOk result (λ text. text ≡ kind_text kind) }
+    ensures read { IfOk result (λ text. kind_of_text text ≡ Some kind) }
+{
+    printed(alloc, kind)
+}
+
+#[tactic(auto, unfolding(crate::specs::Kinds::kind_text))]
+fn printed(alloc: Global, kind: u16) -> Result<Text, NoMemory>
+    ensures { IfOk result (λ text. text ≡ kind_text kind) }
+{
+    let mut text = String::with_capacity(alloc, 9)?;
+    match name_of(kind) {
+        Some(name) => text.push_str(name)?,
+        None => put_number(&mut text, kind)?,
+    }
+    Ok(Text::of(text))
+}
+
+fn put_number(text: &mut String, kind: u16) -> Result<(), NoMemory>
+    ensures { OnOk result (
+        string_bytes text.new ≡ string_bytes text.old ++ (codes "TYPE" ++ decimal kind)) }
+{
+    match write!(text, "TYPE{kind}") {
+        Ok(()) => Ok(()),
+        Err(_) => Err(NoMemory),
+    }
+}
+
+fn name_of(kind: u16) -> Option<&'static str>
+    ensures { option_map (λ name. name.now) result ≡ name_of kind }
+{
+    match kind {
+        kind::A => Some("A"),
+        kind::NS => Some("NS"),
+        kind::CNAME => Some("CNAME"),
+        kind::SOA => Some("SOA"),
+        kind::PTR => Some("PTR"),
+        kind::HINFO => Some("HINFO"),
+        kind::MX => Some("MX"),
+        kind::TXT => Some("TXT"),
+        kind::AAAA => Some("AAAA"),
+        kind::SRV => Some("SRV"),
+        kind::ANY => Some("ANY"),
+        kind::CAA => Some("CAA"),
+        _ => None,
+    }
+}

@@ -12,5 +12,6 @@ mod variable;
 mod word;
 
 pub use fault::WordsFault;
+pub use lines::first_line;
 pub use reading::read_words;
 pub use word::{Pair, Pairs, Word, WordLine, WordLines, Words};

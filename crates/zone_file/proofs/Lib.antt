@@ -1,0 +1,5 @@
+pub mod ScannedLines
+pub mod EntryLines
+pub mod KeptSets
+pub mod ZoneNames
+pub mod ZoneSteps

@@ -1,0 +1,6 @@
+pub mod Entries
+pub mod Keys
+pub mod Zones
+pub mod Kept
+-- what public clauses cite
+pub use Rattle.zone_file.specs.Zones.{ReadsZone, zone_of}

@@ -1,0 +1,15 @@
+//! Zone files (RFC 1035, section 5.1): the records of a zone, or the first line that is refused.
+#![tactic(auto)]
+
+mod entry;
+mod fault;
+mod kept;
+mod key;
+mod read;
+mod scan;
+mod state;
+#[cfg(test)]
+mod tests;
+
+pub use fault::{ZoneFault, ZoneWhy};
+pub use read::read_zone;

@@ -1,5 +1,5 @@
 -- Tables of names: what their buckets hold.
-use Rattle.std.proofs.Common.{◌≡◌, ◌↔◌, ℕ, zero, suc, ◌+◌, ◌<◌, ◌≤◌, List, [], ◌∷◌, ◌++◌, length, drop, take, map, get_or, ◌-◌, ◌*◌, ◌/◌, ◌%◌, ◌^◌, cond, Option, Some, None, refl, inl, inr, sym, ap, subst, ◌∙◌, arith, add-one, Bool, IsTrue}
+use Rattle.std.proofs.Common.{◌≡◌, ◌↔◌, ℕ, zero, suc, ◌+◌, ◌<◌, ◌≤◌, List, [], ◌∷◌, ◌++◌, length, drop, take, map, get_or, ◌-◌, ◌*◌, ◌/◌, ◌%◌, ◌^◌, cond, Option, Some, None, refl, inl, inr, sym, ap, subst, ◌∙◌, arith, add-one}
 use Rattle.std.specs.Prelude.{slice_get, slice_set, ◌⊎◌, IfNone, IfSome, slice_index, slice_range, nat_lt}
 use Rattle.std.specs.Option.{option_map}
 use Rattle.std.proofs.lemmas.Option.{slice_get_past, slice_get_within, slice_get-get_or, get_or_from_slice_get}
@@ -8,11 +8,15 @@ use Rattle.std.specs.Int.{w64, from_le_bytes}
 use Rattle.std.specs.Char.{to_ascii_lowercase}
 use Rattle.std.proofs.lemmas.Bool.{cases_lt}
 use Rattle.dns_data.specs.Name.{IsName, spelled, lowered}
-use Rattle.dns_data.specs.NameLaws.{same_case, spelled-lowered}
-use Rattle.name_table.specs.Hash.{word_at, mixed, words_to, bytes_to, sum_of, hash_of, place_of}
-use Rattle.name_table.specs.Table.{Holds, IsNamed, IsNumberOf, IsLongest, IsTable, IsKept, IsEntryOf, NoneAmong, IsMissing, PassedTo, entry_of}
+use Rattle.dns_data.specs.NameLaws.{same_case}
+use Rattle.name_table.specs.Hash.{small, word_at, mixed, words_to, bytes_to, sum_of, hash_of, place_of}
+use Rattle.name_table.specs.Table.{AreWithin, Holds, IsNamed, IsNumberOf, IsLongest, IsTable, IsKept, IsEntryOf, NoneAmong, IsMissing, PassedTo, entry_of}
+use Rattle.std.specs.Int.Bits.{bit_or}
+use Rattle.std.proofs.lemmas.Nat.{or_block}
+use Rattle.std.proofs.lemmas.Bool.{agree_below_at}
+use Rattle.std.proofs.Common.{eqb, eqb-true, true, false, rules, length-take, length-drop, length-append}
+use Rattle.name_table.specs.declared.hash.TheConstants.{SMALL}
 use Rattle.name_table.specs.declared.bucket.Entry.{Entry}
-use Rattle.name_table.specs.declared.table.Longest.{Longest}
 
 pub not_there : (names : List (List (List ℕ))) (i : ℕ) (key : List (List ℕ)) → length names ≤ i → IsNamed names i key → ⊥
 not_there names i key past n = let none = slice_get_past names i past in absurd cc
@@ -27,19 +31,41 @@ is_there names i name key inside e p q =
       λ s. ap (option_map lowered) here ∙ ap Some (both.0 s),
     )
 
-part : (a : List ℕ) (at : ℕ) → map to_ascii_lowercase (slice_range a at (at + 8)) ≡ take (at + 8 - at) (drop at (map to_ascii_lowercase a))
-part a at = sym (take-map to_ascii_lowercase (at + 8 - at) (drop at a)) ∙ ap (take (at + 8 - at)) (sym (drop-map to_ascii_lowercase at a))
+-- a letter and its capital are one, with that bit set
+small_case : (x : ℕ) → small (to_ascii_lowercase x) ≡ small x
+small_case x = elim (cases_lt x 91) [
+  | inl lt ↦ eqb-true (small (to_ascii_lowercase x)) (small x) (agree_below_at (λ (d : ℕ). eqb (small (to_ascii_lowercase d)) (small d)) (λ _. true) 91 x refl lt)
+  | inr past ↦
+      let e : nat_lt x 65 ≡ false = search rules in
+      let f : nat_lt x 91 ≡ false = search rules in
+      rw (e, f) refl
+]
+
+small_as : (x y : ℕ) → to_ascii_lowercase x ≡ to_ascii_lowercase y → small x ≡ small y
+small_as x y e = sym (small_case x) ∙ ap small e ∙ small_case y
+
+smalls : (a b : List ℕ) → map to_ascii_lowercase a ≡ map to_ascii_lowercase b → map small a ≡ map small b
+smalls [] [] e = refl
+smalls [] (y ∷ b) e = absurd cc
+smalls (x ∷ a) [] e = absurd cc
+smalls (x ∷ a) (y ∷ b) e =
+    let head : to_ascii_lowercase x ≡ to_ascii_lowercase y = cc in
+    let rest : map to_ascii_lowercase a ≡ map to_ascii_lowercase b = cc in
+    λ i. small_as x y head i ∷ smalls a b rest i
+
+part : (a : List ℕ) (at : ℕ) → map small (slice_range a at (at + 8)) ≡ take (at + 8 - at) (drop at (map small a))
+part a at = sym (take-map small (at + 8 - at) (drop at a)) ∙ ap (take (at + 8 - at)) (sym (drop-map small at a))
 
 -- what the hash takes of bytes is the same, case aside
 word_case : (a b : List ℕ) (at : ℕ) → map to_ascii_lowercase a ≡ map to_ascii_lowercase b → word_at a at ≡ word_at b at
 unfolding word_at
-word_case a b at e = ap (from_le_bytes w64) (part a at ∙ ap (λ (t : List ℕ). take (at + 8 - at) (drop at t)) e ∙ sym (part b at))
+word_case a b at e = ap (from_le_bytes w64) (part a at ∙ ap (λ (t : List ℕ). take (at + 8 - at) (drop at t)) (smalls a b e) ∙ sym (part b at))
 
-byte_case : (a b : List ℕ) (i : ℕ) → map to_ascii_lowercase a ≡ map to_ascii_lowercase b → to_ascii_lowercase (slice_index a i) ≡ to_ascii_lowercase (slice_index b i)
+byte_case : (a b : List ℕ) (i : ℕ) → map to_ascii_lowercase a ≡ map to_ascii_lowercase b → small (slice_index a i) ≡ small (slice_index b i)
 byte_case [] [] i e = refl
 byte_case [] (y ∷ b) i e = absurd cc
 byte_case (x ∷ a) [] i e = absurd cc
-byte_case (x ∷ a) (y ∷ b) zero e = cc
+byte_case (x ∷ a) (y ∷ b) zero e = small_as x y (let head : to_ascii_lowercase x ≡ to_ascii_lowercase y = cc in head)
 byte_case (x ∷ a) (y ∷ b) (suc i) e = byte_case a b i (let rest : map to_ascii_lowercase a ≡ map to_ascii_lowercase b = cc in rest)
 
 length_case : (a b : List ℕ) → map to_ascii_lowercase a ≡ map to_ascii_lowercase b → length a ≡ length b
@@ -271,18 +297,79 @@ at_end names name rest above p none e k h =
       | inr past ↦ subst (λ (r : List (List ℕ)). IsMissing names r) (e ∙ sym (drop_all k name (let long = ended above name (sym p.is ∙ e) in omega arith))) none
     ]
 
--- a word of bytes without capitals
-pub lower_word : (bytes : List ℕ) (at : ℕ) (word : ℕ) → map to_ascii_lowercase bytes ≡ bytes → word ≡ from_le_bytes w64 (slice_range bytes at (at + 8)) → word ≡ word_at bytes at
+at_small : (bytes : List ℕ) (i : ℕ) → i < length bytes → slice_index (map small bytes) i ≡ small (slice_index bytes i)
+at_small [] i l = absurd (omega arith)
+at_small (x ∷ bytes) zero l = refl
+at_small (x ∷ bytes) (suc i) l = at_small bytes i (omega arith)
+
+-- a byte more, below others
+below : (a m byte : ℕ) → byte < 256 → bit_or (a * 256 + byte) (m * 256 + 32) ≡ bit_or a m * 256 + small byte
+below a m byte h = or_block 8 a m byte 32 h (omega arith)
+
+-- a number by its bytes, lowest first
+abbrev word_of : ℕ → ℕ → ℕ → ℕ → ℕ → ℕ → ℕ → ℕ → ℕ
+word_of a b c d e f g h = ((((((h * 256 + g) * 256 + f) * 256 + e) * 256 + d) * 256 + c) * 256 + b) * 256 + a
+
+set_each : (a b c d e f g h : ℕ) → a < 256 → b < 256 → c < 256 → d < 256 → e < 256 → f < 256 → g < 256 → bit_or (word_of a b c d e f g h) SMALL ≡ word_of (small a) (small b) (small c) (small d) (small e) (small f) (small g) (small h)
+set_each a b c d e f g h a_few b_few c_few d_few e_few f_few g_few = below ((((((h * 256 + g) * 256 + f) * 256 + e) * 256 + d) * 256 + c) * 256 + b) 9042521604759584 a a_few ∙ ap (λ (t : ℕ). t * 256 + small a)
+    (below (((((h * 256 + g) * 256 + f) * 256 + e) * 256 + d) * 256 + c) 35322350018592 b b_few ∙ ap (λ (t : ℕ). t * 256 + small b)
+    (below ((((h * 256 + g) * 256 + f) * 256 + e) * 256 + d) 137977929760 c c_few ∙ ap (λ (t : ℕ). t * 256 + small c)
+    (below (((h * 256 + g) * 256 + f) * 256 + e) 538976288 d d_few ∙ ap (λ (t : ℕ). t * 256 + small d)
+    (below ((h * 256 + g) * 256 + f) 2105376 e e_few ∙ ap (λ (t : ℕ). t * 256 + small e)
+    (below (h * 256 + g) 8224 f f_few ∙ ap (λ (t : ℕ). t * 256 + small f)
+    (below (h) 32 g g_few))))))
+
+-- the bit of eight bytes is set in each
+pub small_word : (bytes : List ℕ) → length bytes ≡ 8 → ((i : ℕ) → slice_index bytes i < 256) → bit_or (from_le_bytes w64 bytes) SMALL ≡ from_le_bytes w64 (map small bytes)
+small_word bytes long few =
+    let b = λ (i : ℕ). slice_index bytes i in
+    let left : from_le_bytes w64 bytes ≡ word_of (b 0) (b 1) (b 2) (b 3) (b 4) (b 5) (b 6) (b 7) = omega arith in
+    let at = λ (i : ℕ) (l : i < 8). at_small bytes i (omega (arith, l, long)) in
+    let right : word_of (small (b 0)) (small (b 1)) (small (b 2)) (small (b 3)) (small (b 4)) (small (b 5)) (small (b 6)) (small (b 7)) ≡ from_le_bytes w64 (map small bytes) =
+    omega (arith, at 0 (omega arith), at 1 (omega arith), at 2 (omega arith), at 3 (omega arith), at 4 (omega arith), at 5 (omega arith), at 6 (omega arith), at 7 (omega arith)) in
+    ap (λ (t : ℕ). bit_or t SMALL) left ∙ set_each (b 0) (b 1) (b 2) (b 3) (b 4) (b 5) (b 6) (b 7) (few 0) (few 1) (few 2) (few 3) (few 4) (few 5) (few 6) ∙ right
+
+none_there : (at count i : ℕ) → slice_index (take count (drop at [])) i ≡ 0
+none_there zero zero i = refl
+none_there zero (suc count) i = refl
+none_there (suc at) zero i = refl
+none_there (suc at) (suc count) i = refl
+
+range_few : (bytes : List ℕ) (at count : ℕ) → ((i : ℕ) → slice_index bytes i < 256) → (i : ℕ) → slice_index (take count (drop at bytes)) i < 256
+range_few [] at count few i = omega (arith, none_there at count i)
+range_few (x ∷ bytes) zero zero few i = omega arith
+range_few (x ∷ bytes) zero (suc count) few zero = few zero
+range_few (x ∷ bytes) zero (suc count) few (suc i) = range_few bytes zero count (λ j. few (suc j)) i
+range_few (x ∷ bytes) (suc at) count few i = range_few bytes at count (λ j. few (suc j)) i
+
+pub small_range : (bytes : List ℕ) (at word : ℕ) → at + 8 ≤ length bytes → ((i : ℕ) → slice_index bytes i < 256) → word ≡ from_le_bytes w64 (slice_range bytes at (at + 8)) → bit_or word SMALL ≡ word_at bytes at
 unfolding word_at
-lower_word bytes at word e is = is ∙ ap (from_le_bytes w64) (sym (part bytes at ∙ ap (λ (t : List ℕ). take (at + 8 - at) (drop at t)) e))
+small_range bytes at word inside few e =
+    let long : length (slice_range bytes at (at + 8)) ≡ 8 = omega (arith, length-take (at + 8 - at) (drop at bytes), length-drop at bytes, inside) in
+    ap (λ (t : ℕ). bit_or t SMALL) e ∙ small_word (slice_range bytes at (at + 8)) long (range_few bytes at (at + 8 - at) few)
 
--- a spelling without capitals
-pub lower_spelling : (key : List (List ℕ)) (wire : List ℕ) → wire ≡ spelled key → IsName key → lowered key ≡ key → map to_ascii_lowercase wire ≡ wire
-lower_spelling key wire e p low = ap (map to_ascii_lowercase) e ∙ spelled-lowered key p.each ∙ ap spelled low ∙ sym e
+length_lowered : (name : List (List ℕ)) → length (spelled (lowered name)) ≡ length (spelled name)
+length_lowered [] = refl
+length_lowered (label ∷ name) =
+    let low = map to_ascii_lowercase label in
+    omega (arith, length-append low (spelled (lowered name)), length-append label (spelled name), length-map label to_ascii_lowercase, length_lowered name)
 
-lowered_drop : (n : ℕ) (name : List (List ℕ)) → lowered name ≡ name → lowered (drop n name) ≡ drop n name
-lowered_drop n name e = sym (drop-map (λ (label : List ℕ). map to_ascii_lowercase label) n name) ∙ ap (drop n) e
+-- a name that has more bytes than any isn't there
+too_long : (most : ℕ) (o : Option (List (List ℕ))) (key : List (List ℕ)) → ((name : List (List ℕ)) → o ≡ Some name → length (spelled name) ≤ most) → option_map lowered o ≡ Some (lowered key) → length (spelled key) ≤ most
+too_long most None key h e = absurd cc
+too_long most (Some name) key h e =
+    let same : lowered name ≡ lowered key = cc in
+    let both : length (spelled (lowered name)) ≡ length (spelled (lowered key)) = ap (λ (n : List (List ℕ)). length (spelled n)) same in
+    omega (arith, h name refl, both, length_lowered name, length_lowered key)
 
-pub lower_rest : (names : List (List (List ℕ))) (name rest : List (List ℕ)) (above : ℕ) (is_lower : Bool) → PassedTo names name above rest → (IsTrue is_lower → lowered name ≡ name) → IsTrue is_lower
-    → lowered rest ≡ rest
-lower_rest names name rest above is_lower p e h = ap lowered p.is ∙ lowered_drop above name (e h) ∙ sym p.is
+pub none_longer : (names : List (List (List ℕ))) (most : ℕ) (key : List (List ℕ)) (wire : List ℕ) → AreWithin names most → wire ≡ spelled key → most < length wire → IsMissing names key
+none_longer names most key wire within is long i n = let short = too_long most (slice_get names i) key (within i) n in let same = ap length is in absurd (omega (arith, short, same, long))
+
+pub within_more : (names : List (List (List ℕ))) (before after : ℕ) → AreWithin names before → before ≤ after → AreWithin names after
+within_more names before after within le i name at = omega (arith, within i name at, le)
+
+pub within_push : (names : List (List (List ℕ))) (name : List (List ℕ)) (most : ℕ) → AreWithin names most → length (spelled name) ≤ most → AreWithin (names ++ name ∷ []) most
+within_push names name most within le i other at = elim (either names name other i at) [
+  | inl old ↦ within i other old
+  | inr new ↦ let same = ap (λ (n : List (List ℕ)). length (spelled n)) new.1 in omega (arith, le, same)
+]

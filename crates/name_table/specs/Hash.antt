@@ -2,13 +2,17 @@
 -- rule.
 use Rattle.std.specs.Prelude.{ℕ, zero, suc, ◌+◌, ◌-◌, ◌*◌, ◌/◌, ◌%◌, ◌^◌, cond, nat_lt}
 use Rattle.std.specs.Prelude.{List, length, map, slice_index, slice_range}
-use Rattle.std.specs.Char.{to_ascii_lowercase}
 use Rattle.std.specs.Int.{w64, from_le_bytes}
+use Rattle.std.specs.Int.Bits.{bit_or}
 use Rattle.name_table.specs.declared.hash.TheConstants.{FACTOR}
 
--- the eight bytes from an offset on, in lower case, as a number
+-- a byte with the bit set by which a small letter differs from its capital
+abbrev pub small : ℕ → ℕ
+small byte = bit_or byte 32
+
+-- the eight bytes from an offset on, each so, as a number
 unfoldable pub word_at : List ℕ → ℕ → ℕ
-word_at bytes at = from_le_bytes w64 (map to_ascii_lowercase (slice_range bytes at (at + 8)))
+word_at bytes at = from_le_bytes w64 (map small (slice_range bytes at (at + 8)))
 
 -- the product of what is added with the factor, of which both halves are of 32 bits
 unfoldable pub product_of : ℕ → ℕ → ℕ
@@ -26,7 +30,7 @@ words_to (suc i) bytes = mixed (words_to i bytes) (word_at bytes (8 * i))
 -- after so many bytes
 unfoldable pub bytes_to : ℕ → List ℕ → ℕ
 bytes_to zero bytes = length bytes
-bytes_to (suc i) bytes = mixed (bytes_to i bytes) (to_ascii_lowercase (slice_index bytes i))
+bytes_to (suc i) bytes = mixed (bytes_to i bytes) (small (slice_index bytes i))
 
 -- of eight bytes or more: whole words, and the last eight bytes, which may overlap them
 unfoldable pub sum_of : List ℕ → ℕ

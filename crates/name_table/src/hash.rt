@@ -1,9 +1,11 @@
-ghost use Rattle.std.specs.Char.{to_ascii_lowercase};
-ghost use Rattle.std.specs.Prelude.{map, ◌≡◌, ◌+◌, ◌*◌, ◌^◌, ◌<◌, ◌≤◌, ◌/◌, length, IsTrue};
+ghost use Rattle.std.specs.Prelude.{◌≡◌, ◌+◌, ◌*◌, ◌^◌, ◌<◌, ◌≤◌, ◌/◌, length};
 ghost use Rattle.name_table.specs.Hash.{word_at, mixed, words_to, bytes_to, hash_of, place_of};
 
 /// 2^64 divided by the golden ratio: its products differ in their upper half.
 pub const FACTOR: u64 = 11_400_714_819_323_198_485;
+
+/// The bit of each of eight bytes by which a small letter differs from its capital.
+const SMALL: u64 = 0x2020_2020_2020_2020;
 
 /// The place of a hash among so many buckets.
 #[inline]
@@ -17,29 +19,27 @@ pub fn place_of(hash: u32, count: usize) -> usize
     (u64::from(hash) * count as u64 / 4_294_967_296) as usize
 }
 
-/// The hash of a wire format, ASCII case aside. One that has no capitals takes less time.
+/// The hash of a wire format, ASCII case aside.
 #[inline]
 #[tactic(auto, unfolding(crate::specs::Hash::hash_of, crate::specs::Hash::sum_of))]
-pub fn hash_of(bytes: &[u8], is_lower: bool) -> u32
-    requires { IsTrue is_lower → map to_ascii_lowercase bytes.now ≡ bytes.now }
+pub fn hash_of(bytes: &[u8]) -> u32
     ensures { result ≡ hash_of bytes.now }
 {
     if bytes.len() < 8 {
         return (bytes_of(bytes) % 4_294_967_296) as u32;
     }
-    let last = word_at(bytes, bytes.len() - 8, is_lower);
-    (mixed(words_of(bytes, is_lower), last) % 4_294_967_296) as u32
+    let last = word_at(bytes, bytes.len() - 8);
+    (mixed(words_of(bytes), last) % 4_294_967_296) as u32
 }
 
 #[inline]
 #[tactic(auto, unfolding(crate::specs::Hash::words_to))]
-fn words_of(bytes: &[u8], is_lower: bool) -> u64
-    requires { IsTrue is_lower → map to_ascii_lowercase bytes.now ≡ bytes.now }
+fn words_of(bytes: &[u8]) -> u64
     ensures { result ≡ words_to (length bytes.now / 8) bytes.now }
 {
     let mut hash = bytes.len() as u64;
     for i in 0..bytes.len() / 8 {
-        hash = mixed(hash, word_at(bytes, 8 * i, is_lower));
+        hash = mixed(hash, word_at(bytes, 8 * i));
     }
     hash
 }
@@ -51,7 +51,7 @@ fn bytes_of(bytes: &[u8]) -> u64
 {
     let mut hash = bytes.len() as u64;
     for i in 0..bytes.len() {
-        hash = mixed(hash, u64::from(bytes[i].to_ascii_lowercase()));
+        hash = mixed(hash, u64::from(bytes[i] | 32));
     }
     hash
 }
@@ -66,36 +66,11 @@ fn mixed(hash: u64, word: u64) -> u64
 }
 
 #[inline]
-fn word_at(bytes: &[u8], at: usize, is_lower: bool) -> u64
-    requires inside { at + 8 ≤ length bytes.now }
-    requires lower { IsTrue is_lower → map to_ascii_lowercase bytes.now ≡ bytes.now }
-    ensures { result ≡ word_at bytes.now at }
-{
-    if is_lower {
-        return lower_word_at(bytes, at);
-    }
-    any_word_at(bytes, at)
-}
-
-#[inline]
-fn lower_word_at(bytes: &[u8], at: usize) -> u64
-    requires inside { at + 8 ≤ length bytes.now }
-    requires lower { map to_ascii_lowercase bytes.now ≡ bytes.now }
-    ensures { result ≡ word_at bytes.now at }
-{
-    let mut word = [0; 8];
-    word.copy_from_slice(&bytes[at..at + 8]);
-    u64::from_le_bytes(word)
-}
-
-#[inline]
-#[tactic(auto, unfolding(crate::specs::Hash::word_at))]
-fn any_word_at(bytes: &[u8], at: usize) -> u64
+fn word_at(bytes: &[u8], at: usize) -> u64
     requires { at + 8 ≤ length bytes.now }
     ensures { result ≡ word_at bytes.now at }
 {
     let mut word = [0; 8];
     word.copy_from_slice(&bytes[at..at + 8]);
-    word.as_mut_slice().make_ascii_lowercase();
-    u64::from_le_bytes(word)
+    u64::from_le_bytes(word) | SMALL
 }

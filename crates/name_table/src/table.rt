@@ -18,17 +18,20 @@ use std::marker::Model;
 pub struct NameTable {
     names: Vec<Name>,
     buckets: Vec<Bucket>,
+    /// No name has more bytes in wire format.
+    most: usize,
 }
 
 impl Model for NameTable {
     ghost use Rattle.std.specs.Prelude.{ℕ, List};
-    ghost use Rattle.name_table.specs.Table.{IsTable};
+    ghost use Rattle.name_table.specs.Table.{AreWithin, IsTable};
 
     ghost Value = { List (List (List ℕ)) };
 
     ghost view = { λ t. t.names.items };
 
-    ghost invariant = { λ t. IsTable t.names.items t.buckets.items };
+    ghost invariant = { λ t. IsTable t.names.items t.buckets.items
+        × AreWithin t.names.items t.most };
 }
 
 /// A suffix that a table has: how many labels of the whole name stand above it, and its number.
@@ -52,6 +55,7 @@ impl NameTable {
         Ok(NameTable {
             names: Vec::new(alloc),
             buckets,
+            most: 0,
         })
     }
 
@@ -68,7 +72,9 @@ impl NameTable {
         ensures ok { OnOk result (self.new ≡ self.old ++ name ∷ []) }
         ensures err { OnErr result (self.new ≡ self.old) }
     {
-        let hash = hash_of(name.as_wire(), false);
+        let wire = name.as_wire();
+        let hash = hash_of(wire);
+        self.most = self.most.max(wire.len());
         let place = place_of(hash, self.buckets.len());
         let number = self.names.len();
         self.buckets[place].push(Entry { hash, number })?;
@@ -82,17 +88,11 @@ impl NameTable {
         ensures found { IfSome result (λ i. IsNumberOf self.now key.now i) }
         ensures none { IfNone result (IsMissing self.now key.now) }
     {
-        self.find_cased(key, false)
-    }
-
-    /// The same of a name without capitals, in less time.
-    #[inline]
-    pub fn find_lower(&self, key: &Labels<'_>) -> Option<usize>
-        requires { lowered key.now ≡ key.now }
-        ensures found { IfSome result (λ i. IsNumberOf self.now key.now i) }
-        ensures none { IfNone result (IsMissing self.now key.now) }
-    {
-        self.find_cased(key, true)
+        let wire = key.as_wire();
+        if self.most < wire.len() {
+            return None;
+        }
+        self.find_hashed(key, hash_of(wire))
     }
 
     /// The longest suffix of a name that the table has, ASCII case aside.
@@ -102,32 +102,11 @@ impl NameTable {
         ensures none { IfNone result
             ((k : ℕ) → k ≤ length name.now → IsMissing self.now (drop k name.now)) }
     {
-        self.find_longest_cased(name, false)
-    }
-
-    /// The same of a name without capitals, in less time.
-    #[inline]
-    pub fn find_longest_lower(&self, name: &Name) -> Option<Longest>
-        requires { lowered name.now ≡ name.now }
-        ensures found { IfSome result (λ found. IsLongest self.now name.now found) }
-        ensures none { IfNone result
-            ((k : ℕ) → k ≤ length name.now → IsMissing self.now (drop k name.now)) }
-    {
-        self.find_longest_cased(name, true)
-    }
-
-    #[inline]
-    fn find_longest_cased(&self, name: &Name, is_lower: bool) -> Option<Longest>
-        requires { IsTrue is_lower → lowered name.now ≡ name.now }
-        ensures found { IfSome result (λ found. IsLongest self.now name.now found) }
-        ensures none { IfNone result
-            ((k : ℕ) → k ≤ length name.now → IsMissing self.now (drop k name.now)) }
-    {
         let _most = name.as_wire().len();
         let mut above = 0;
         let mut rest = name.labels();
         loop {
-            if let Some(number) = self.find_cased(&rest, is_lower) {
+            if let Some(number) = self.find(&rest) {
                 return Some(Longest { above, number });
             }
             let Some(_) = rest.next() else {
@@ -135,16 +114,6 @@ impl NameTable {
             };
             above += 1;
         }
-    }
-
-    #[inline]
-    fn find_cased(&self, key: &Labels<'_>, is_lower: bool) -> Option<usize>
-        requires { IsTrue is_lower → lowered key.now ≡ key.now }
-        ensures found { IfSome result (λ i. IsNumberOf self.now key.now i) }
-        ensures none { IfNone result (IsMissing self.now key.now) }
-    {
-        let hash = hash_of(key.as_wire(), is_lower);
-        self.find_hashed(key, hash)
     }
 
     #[inline]

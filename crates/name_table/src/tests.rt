@@ -22,18 +22,15 @@ fn a_name_and_its_longest_suffix_are_found(rt: HostRuntime) -> Result<(), Fail> 
 
 type Answers = (usize, Option<usize>, Option<Longest>);
 
-// How many names a table of two has, and what it answers of a name, where both ways are one.
-#[tactic(auto, using(crate::specs::Laws::lower_is))]
+// How many names a table of two has, and what it answers of a name.
 fn answers(alloc: Global, labels: &[&[u8]]) -> Result<Answers, NoMemory> {
     let table = table(alloc)?;
     let key = name(alloc, labels)?;
-    let lower = key.lower(alloc)?;
-    let found = table.find(&key.labels());
-    let longest = table.find_longest(&key);
-    if found != table.find_lower(&lower.labels()) || longest != table.find_longest_lower(&lower) {
-        return Ok((0, None, None));
-    }
-    Ok((table.len(), found, longest))
+    Ok((
+        table.len(),
+        table.find(&key.labels()),
+        table.find_longest(&key),
+    ))
 }
 
 // `Org`, and a name below it of more than eight bytes.

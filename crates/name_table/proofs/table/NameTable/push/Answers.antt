@@ -1,13 +1,15 @@
-use Rattle.std.proofs.Common.{arith, length, ◌≡◌, ap, ◌∙◌, subst, sym}
+use Rattle.std.proofs.Common.{◌≤◌, arith, length, ◌≡◌, ap, ◌∙◌, subst, sym}
+use Rattle.dns_data.specs.{spelled}
 use Rattle.name_table.specs.Table.{IsMissing}
 use Rattle.name_table.specs.Hash.{hash_of}
-use Rattle.name_table.proofs.Tables.{table_after, more_after}
+use Rattle.name_table.proofs.Tables.{table_after, more_after, within_more, within_push}
 use Rattle.name_table.proofs.table.NameTable.push.Goals as goal
 
 pub invariant_of-self-in_err-push-2 : goal.invariant_of-self-in_err-push-2
 invariant_of-self-in_err-push-2 c =
     let is = c.in_ok-push.ensures.ok in
-    rw c.in_err-push-2.ensures.items (table_after _ _ c.place_of-place.result _ c.index_mut.result.now c.push.new.self c.self.invariant (omega arith) c.index_mut.ensures.value is)
+    let table = table_after _ _ c.place_of-place.result _ c.index_mut.result.now c.push.new.self c.self.invariant.0 (omega arith) c.index_mut.ensures.value is in
+    rw c.in_err-push-2.ensures.items (table, within_more _ _ c.max-self-inside.result c.self.invariant.1 (omega arith))
 
 pub invariant_of-self-2 : goal.invariant_of-self-2
 invariant_of-self-2 c =
@@ -15,7 +17,11 @@ invariant_of-self-2 c =
     let count : c.len.result ≡ length c.self.inside.buckets.items = omega arith in
     let is = rw number at c.in_ok-push.ensures.ok in
     let place = rw count at c.place_of-place.ensures.value in
-    let hash = c.hash_of-hash.ensures ∙ ap hash_of c.as_wire.ensures.value in
-    rw c.in_ok-push-2.ensures.items
-    (more_after _ _ c.place_of-place.result c.hash_of-hash.result c.index_mut.result.now c.push.new.self c.args.name c.self.invariant (omega arith) c.index_mut.ensures.value is
-    hash c.as_wire.ensures.proper place (subst (λ names. IsMissing names c.args.name) (sym c.self.view_is) c.requires))
+    let hash = c.hash_of-hash.ensures ∙ ap hash_of c.as_wire-wire.ensures.value in
+    let wire : length (spelled c.args.name) ≤ c.max-self-inside.result = omega (arith, ap length c.as_wire-wire.ensures.value) in
+    let within = within_push c.self.inside.names.items c.args.name c.max-self-inside.result (within_more _ _ c.max-self-inside.result c.self.invariant.1 (omega arith)) wire in
+    rw c.in_ok-push-2.ensures.items (
+      more_after _ _ c.place_of-place.result c.hash_of-hash.result c.index_mut.result.now c.push.new.self c.args.name c.self.invariant.0 (omega arith) c.index_mut.ensures.value is
+          hash c.as_wire-wire.ensures.proper place (subst (λ names. IsMissing names c.args.name) (sym c.self.view_is) c.requires),
+      within,
+    )

@@ -1,0 +1,10 @@
+use Rattle.std.proofs.Common.{◌≡◌, length}
+use Rattle.plugin_api.specs.Index.{block_in}
+use Rattle.plugin_api.specs.Picking.{longest_of}
+use Rattle.plugin_api.proofs.index.BlockIndex.find.Given as goal
+
+abbrev pub invariant-loop-block : goal.invariant-loop-block
+invariant-loop-block l = longest_of (block_in l.self l.port) l.rest ≡ longest_of (block_in l.self l.port) l.name
+
+abbrev pub decreases-loop-block : goal.decreases-loop-block
+decreases-loop-block l = length l.rest

@@ -1,0 +1,103 @@
+ghost use Rattle.std.specs.Prelude.{◌≡◌, ◌<◌, ◌^◌, List, length, IfOk, [], ◌∷◌};
+ghost use Rattle.dns_data.specs.declared.block.Block.{Block as BlockData};
+ghost use Rattle.plugin_api.specs.Index.{AddsKeys, IsIndexOf, block_in};
+ghost use Rattle.plugin_api.specs.Picking.{picked};
+
+use crate::services::{Service, Services};
+use dns_data::{BlockKey, Blocks, Copies, Labels, Name, NoMemory};
+use name_table::NameTable;
+use std::alloc::Global;
+use std::marker::Model;
+
+/// The blocks of a Corefile by zone and port, for `find`.
+#[derive(Debug, Drop)]
+pub struct BlockIndex {
+    zones: NameTable,
+    services: Vec<Services>,
+}
+
+impl Model for BlockIndex {
+    ghost use Rattle.std.specs.Prelude.{◌≡◌, length};
+    ghost use Rattle.plugin_api.specs.Index.{IndexData};
+
+    ghost Value = { IndexData };
+
+    ghost view = { λ x. record { zones = x.zones; services = x.services.items } };
+
+    ghost invariant = { λ x. length x.zones ≡ length x.services.items };
+}
+
+impl BlockIndex {
+    /// An index of blocks.
+    pub fn new(alloc: Global, blocks: &Blocks) -> Result<BlockIndex, NoMemory>
+        requires few { length blocks.now < 2 ^ 32 }
+        ensures { IfOk result (λ index. IsIndexOf index blocks.now) }
+    {
+        let mut index = BlockIndex {
+            zones: NameTable::new(alloc, blocks.len() as u32)?,
+            services: Vec::new(alloc),
+        };
+        for number in 0..blocks.len() {
+            index = index.with_keys(alloc, blocks.at(number).keys.as_slice(), number as u32)?;
+        }
+        Ok(index)
+    }
+
+    /// The block that `pick` picks among the blocks from which the index was made.
+    #[inline]
+    #[tactic(auto, unfolding(crate::specs::Picking::longest_of))]
+    pub fn find(&self, port: u16, name: &Name) -> Option<u32>
+        ensures { (blocks : List BlockData) → IsIndexOf self.now blocks
+            → result ≡ picked blocks port name.now }
+    {
+        let mut rest = name.labels();
+        loop {
+            if let Some(block) = self.block_in(port, &rest) {
+                return Some(block);
+            }
+            let Some(_) = rest.next() else {
+                return None;
+            };
+        }
+    }
+
+    // Adds the keys of a block.
+    fn with_keys(self, alloc: Global, keys: &[BlockKey], block: u32) -> Result<BlockIndex, NoMemory>
+        ensures { IfOk result (λ index. AddsKeys self index keys.now block) }
+    {
+        let mut index = self;
+        for key in keys {
+            index = index.with_key(alloc, key, block)?;
+        }
+        Ok(index)
+    }
+
+    // Adds a key of a block. What is found is the first block with its zone and port.
+    fn with_key(self, alloc: Global, key: &BlockKey, block: u32) -> Result<BlockIndex, NoMemory>
+        ensures { IfOk result (λ index. AddsKeys self index (key.now ∷ []) block) }
+    {
+        let BlockIndex {
+            mut zones,
+            mut services,
+        } = self;
+        let service = Service {
+            port: key.port,
+            block,
+        };
+        let Some(number) = zones.find(&key.zone.labels()) else {
+            services.push(Services::of(alloc, service)?)?;
+            zones.push(key.zone.copy(alloc)?)?;
+            return Ok(BlockIndex { zones, services });
+        };
+        services[number].push(service)?;
+        Ok(BlockIndex { zones, services })
+    }
+
+    #[inline]
+    fn block_in(&self, port: u16, zone: &Labels<'_>) -> Option<u32>
+        ensures { result ≡ block_in self.now port zone.now }
+    {
+        let number = self.zones.find(zone)?;
+        self.services[number].on(port)
+    }
+}

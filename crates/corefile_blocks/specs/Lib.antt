@@ -1,0 +1,12 @@
+pub mod LineForms
+pub mod Keys
+pub mod WantedFiles
+pub mod PlacedLines
+pub mod Blocks
+pub mod Readable
+pub mod Reader
+pub mod Ports
+-- what public clauses cite
+pub use Rattle.corefile_blocks.specs.Blocks.{ReadsBlocks, blocks_of, wants_of}
+pub use Rattle.corefile_blocks.specs.Ports.{ArePorts, key_ports}
+pub use Rattle.corefile_blocks.specs.Readable.{IsReadable}

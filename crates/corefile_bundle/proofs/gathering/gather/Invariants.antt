@@ -1,0 +1,16 @@
+use Rattle.std.proofs.Common.{◌-◌, ◌+◌, length}
+use Rattle.dns_data.specs.declared.limit.TheConstants as limits
+use Rattle.outside.specs.{WatchStays}
+use Rattle.corefile_bundle.specs.Gathering.{source_of}
+use Rattle.corefile_bundle.proofs.Gathered.{HasGathered, IsSmall}
+use Rattle.corefile_bundle.proofs.gathering.gather.Given as goal
+
+abbrev pub invariant-loop-name : goal.invariant-loop-name
+invariant-loop-name g l = record {
+  gathered : HasGathered (source_of l.fn.conf l.fn.env) (g.W.PatternMaker.state l.fn.watch) (g.W.PatternMaker.state l.watch) l.bundle;
+  small : IsSmall l.bundle;
+  stays : WatchStays (g.W.PatternMaker.state l.fn.watch) (g.W.PatternMaker.state l.watch);
+}
+
+abbrev pub decreases-loop-name : goal.decreases-loop-name
+decreases-loop-name g l = limits.FILES + 1 - length l.bundle.files

@@ -92,7 +92,7 @@ def ends(rows):
         rows.equal("words that aren't UTF-8: status 2", status_of("serve", "--conf", b"\xff"), told(2, USAGE))
         for text, conf, want, line in [
             ("bytes that aren't UTF-8", b"\n# \xff\n", 1, "corefile line 2: not UTF-8"),
-            ("more than 1 MiB", b"\n" * 1_048_577, 1, "not built yet"),
+            ("more than 1 MiB", b"\n" * 1_048_577, 1, "too many file bytes: 1048577"),
         ]:
             got = status_of("serve", "--conf", corefile(room, conf))
             rows.equal(f"{text}: status {want} and its line", got, told(want, line))

@@ -1,5 +1,5 @@
 -- How the rounds of a run go on: a turn of the side, and a look.
-use Rattle.std.proofs.Common.{◌≡◌, ◌≤◌, ◌<◌, ℕ, ◌+◌, ◌-◌, ◌*◌, ◌^◌, min, true, false, List, [], ◌∷◌, ◌++◌, length, Option, Some, None, slice_get, length-append, refl, sym, ap, subst, ◌∙◌, arith, inl, inr}
+use Rattle.std.proofs.Common.{Result, Ok, Err, ◌≡◌, ◌≤◌, ◌<◌, ℕ, ◌+◌, ◌-◌, ◌*◌, ◌^◌, min, true, false, List, [], ◌∷◌, ◌++◌, length, Option, Some, None, slice_get, length-append, refl, sym, ap, subst, ◌∙◌, arith, inl, inr}
 use Rattle.std.specs.Prelude.{IfNone}
 use Rattle.std.specs.List.{flat_map, AllByRecursion}
 use Rattle.std.proofs.lemmas.List.{get_or_append_left}
@@ -9,13 +9,13 @@ use Rattle.std.proofs.Math.Seq.{get_or-append_seam}
 use Rattle.outside.specs.declared.mark.Mark.{Mark}
 use Rattle.outside.specs.declared.mark.WatchMark.{WatchMark}
 use Rattle.outside.specs.declared.mark.WatchMark.TheVariants.{End}
-use Rattle.outside.specs.declared.watch.ReadOut.{ReadOut}
-use Rattle.outside.specs.declared.watch.ReadOut.TheVariants as readout
 use Rattle.outside.specs.Causes.{Rose, raised}
 use Rattle.outside.specs.Journals.{watch-adds-then}
 use Rattle.outside.specs.States.{SideState, WatchState}
 use Rattle.outside.specs.WatchMarks.{AddsWatch}
-use Rattle.dns_server.specs.declared.corefile.Bundle.{Bundle}
+use Rattle.corefile_blocks.specs.declared.bundle.Bundle.{Bundle}
+use Rattle.corefile_bundle.specs.declared.fault.GatherFault.{GatherFault}
+use Rattle.corefile_bundle.specs.Gathering.{Source}
 use Rattle.dns_server.specs.declared.looking.Looking.{Looking}
 use Rattle.dns_server.specs.declared.looking.Looking.TheVariants as looking
 use Rattle.dns_server.specs.declared.watcher.WatchEnd.{WatchEnd}
@@ -25,12 +25,12 @@ use Rattle.dns_server.specs.declared.worker.Turned.{Turned}
 use Rattle.dns_server.specs.declared.worker.Turned.TheVariants as turned
 use Rattle.dns_server.specs.declared.worker.WorkEnd.{WorkEnd}
 use Rattle.dns_server.specs.declared.worker.WorkEnd.TheVariants as ends
-use Rattle.dns_server.specs.Corefile.{IsCorefile}
+use Rattle.dns_server.specs.Accepting.{IsAccepted}
 use Rattle.dns_server.specs.Generation.{GenerationsData}
-use Rattle.dns_server.specs.Look.{LooksOnce, ServesRead}
+use Rattle.dns_server.specs.Look.{LooksOnce, ServesGathered}
 use Rattle.dns_server.specs.Rounds.{WorksUnlessEnded, LooksUnlessEnded, EndsWatch, ServedRounds, end_of, left_by}
 use Rattle.dns_server.specs.Serve.{IsChain}
-use Rattle.dns_server.specs.States.{RunSetup, WorkerState, LookState, RoundState, TurnState, turn_of, look_of}
+use Rattle.dns_server.specs.States.{single_setup, RunSetup, WorkerState, LookState, RoundState, TurnState, turn_of, look_of}
 use Rattle.dns_server.specs.Tally.{TurnEnds, IsIdle, tallied}
 use Rattle.dns_server.specs.Turn.{Turn, failed, replied, silenced, starved, IsLawful, IsPublished}
 use Rattle.dns_server.specs.WatchTurn.{WatchTurn, published_by, bundles_of}
@@ -124,13 +124,13 @@ left_part setup bundles looks rounds a w (Some end) part = record {
 -- the looks of a watcher that has ended
 pub record WatchStopped (setup : RunSetup) (first : Bundle) (looks : List WatchTurn) (a : WatchState) (was : ℕ) (now : LookState) : Type 0 where
   pub mid : WatchState
-  pub watched : HasWatched setup.conf setup.default_port first looks a mid now.serving was now.watcher.starved
+  pub watched : HasWatched setup.source setup.default_port first looks a mid now.serving was now.watcher.starved
   pub ending : List WatchMark
   pub told : AddsWatch mid now.watcher.watch ending
   pub ends : EndsWatch setup.default_port (bundles_of first looks) ending
 
 abbrev pub WatchPart : RunSetup → Bundle → List WatchTurn → WatchState → ℕ → LookState → Option WatchEnd → Type 0
-WatchPart setup first looks a was now None = HasWatched setup.conf setup.default_port first looks a now.watcher.watch now.serving was now.watcher.starved
+WatchPart setup first looks a was now None = HasWatched setup.source setup.default_port first looks a now.watcher.watch now.serving was now.watcher.starved
 WatchPart setup first looks a was now (Some end) = WatchStopped setup first looks a was now
 
 -- what is known of what serves, whether the watcher has ended or not
@@ -166,6 +166,11 @@ pub record HasServed (behind : ℕ) (setup : RunSetup) (start now : RoundState) 
 published_count : (looks : List WatchTurn) → length (flat_map published_by looks) ≡ count_published looks
 published_count [] = refl
 published_count (look ∷ looks) = ap length (flat_map-cons published_by look looks) ∙ length-append (published_by look) (flat_map published_by looks) ∙ ap (λ (n : ℕ). length (published_by look) + n) (published_count looks)
+
+-- what serves is a chain
+pub chain_behind : {behind : ℕ} {setup : RunSetup} {start now : RoundState} {worked : Option WorkEnd} {watched : Option WatchEnd} → HasServed behind setup start now worked watched → IsChain now.serving.chain
+chain_behind {behind} {setup} {start} {now} {worked} {watched} has =
+    (serving_of setup start.serving.chain.bundle has.looks start.watcher.watch start.watcher.starved (look_of now) watched has.watch).is
 
 -- the last published bundle stands at the last serial
 serves_at : {p : ℕ} {first : Bundle} {looks : List WatchTurn} {g : GenerationsData} → Serving p first looks g → slice_get (bundles_of first looks) (g.published - 1) ≡ Some g.chain.bundle
@@ -277,7 +282,7 @@ turn_on setup start before after (Some end) result watched has works more = rw (
 
 -- a look was made
 look_made : (setup : RunSetup) (start before : RoundState) (after : LookState) (worked : Option WorkEnd) → (has : HasServed 1 setup start before worked None)
-    → Again setup.conf setup.default_port start.serving.chain.bundle has.looks start.watcher.watch after.watcher.watch after.serving start.watcher.starved after.watcher.starved
+    → Again setup.source setup.default_port start.serving.chain.bundle has.looks start.watcher.watch after.watcher.watch after.serving start.watcher.starved after.watcher.starved
     → HasServed 0 setup start (record before { watcher = after.watcher; serving = after.serving }) worked None
 look_made setup start before after worked has again =
     let first = start.serving.chain.bundle in
@@ -303,7 +308,7 @@ look_made setup start before after worked has again =
 
 -- a look
 pub look_on : (setup : RunSetup) (start before : RoundState) (after : LookState) (worked : Option WorkEnd) (watched result : Option WatchEnd)
-    → HasServed 1 setup start before worked watched → LooksUnlessEnded setup.conf (look_of before) after watched result
+    → HasServed 1 setup start before worked watched → LooksUnlessEnded setup.source (look_of before) after watched result
     → HasServed 0 setup start (record before { watcher = after.watcher; serving = after.serving }) worked result
 look_on setup start before after worked None None has looks =
     look_made setup start before after worked has (looks_on (look_of before) after has.watch looks)
@@ -332,8 +337,8 @@ look_on setup start before after worked None (Some watchend.NoReload) has looks 
         before = has.watch.earlier;
         last = before.serving.chain.bundle;
         last_is = has.watch.last;
-        corefile = before.serving.chain.corefile;
-        accepted = subst (λ (q : ℕ). IsCorefile q before.serving.chain.bundle.conf before.serving.chain.corefile) has.watch.port has.watch.is;
+        blocks = before.serving.chain.blocks;
+        accepted = subst (λ (q : ℕ). IsAccepted q before.serving.chain.bundle before.serving.chain.blocks) has.watch.port has.watch.is.accepted;
         no_reload = looks.no_reload;
       },
     );
@@ -355,9 +360,9 @@ look_on setup start before after worked (Some end) result has looks = rw (looks.
 })
 
 -- nothing was served yet
-pub nothing_served : (conf : List ℕ) (most : ℕ) (start : RoundState) → IsChain start.serving.chain → start.serving.published ≡ 1 → IsIdle start.worker.tally
-    → HasServed 0 (record { conf = conf; default_port = start.serving.chain.default_port; most = most }) start start None None
-nothing_served conf most start is one idle = record {
+pub nothing_served : (source : Source) (most : ℕ) (start : RoundState) → IsChain start.serving.chain → start.serving.published ≡ 1 → IsIdle start.worker.tally
+    → HasServed 0 (single_setup source start.serving.chain.default_port most) start start None None
+nothing_served source most start is one idle = record {
   looks = [];
   rounds = 0;
   side = starts start.worker.side start.worker.tally idle;
@@ -479,33 +484,31 @@ pub record KeepsPins (h k : GenerationsData) : Type 0 where
 same_pins : {h k : GenerationsData} → k ≡ h → KeepsPins h k
 same_pins same = record { pins = ap (λ (x : GenerationsData). x.pins) same; idle = ap (λ (x : GenerationsData). x.pinned) same }
 
-read_pins : {h k : GenerationsData} (out : ReadOut) → ServesRead h k out → KeepsPins h k
-read_pins (readout.Got bytes) is = record { pins = is.pins; idle = is.pinned }
-read_pins readout.Missing is = absurd is
-read_pins readout.Failed is = absurd is
-read_pins readout.NoMemory is = absurd is
+read_pins : {h k : GenerationsData} (gives : Result Bundle GatherFault) → ServesGathered h k gives → KeepsPins h k
+read_pins (Ok bundle) is = record { pins = is.pins; idle = is.pinned }
+read_pins (Err fault) is = absurd is
 
-once_pins : (conf : List ℕ) (h k : GenerationsData) (w v : WatchState) (answer : Looking) → LooksOnce conf h k w v answer → KeepsPins h k
-once_pins conf h k w v looking.NoReload looks = same_pins looks.same
-once_pins conf h k w v (looking.ReadFailed name) looks = same_pins looks.behind
-once_pins conf h k w v looking.Same looks = same_pins looks.behind
-once_pins conf h k w v (looking.Refused why) looks = same_pins looks.behind
-once_pins conf h k w v (looking.PortsDiffer ports others) looks = same_pins looks.behind
-once_pins conf h k w v looking.SerialsSpent looks = same_pins looks.behind
-once_pins conf h k w v (looking.Published serial) looks = read_pins looks.out looks.behind
-once_pins conf h k w v looking.NoMemory looks = same_pins looks.same
+once_pins : (source : Source) (h k : GenerationsData) (w v : WatchState) (answer : Looking) → LooksOnce source h k w v answer → KeepsPins h k
+once_pins source h k w v looking.NoReload looks = same_pins looks.same
+once_pins source h k w v (looking.ReadFailed name) looks = same_pins looks.behind
+once_pins source h k w v looking.Same looks = same_pins looks.behind
+once_pins source h k w v (looking.Refused why) looks = same_pins looks.behind
+once_pins source h k w v (looking.PortsDiffer ports others) looks = same_pins looks.behind
+once_pins source h k w v looking.SerialsSpent looks = same_pins looks.behind
+once_pins source h k w v (looking.Published serial) looks = read_pins looks.gives looks.behind
+once_pins source h k w v looking.NoMemory looks = same_pins looks.same
 
-look_pins : (conf : List ℕ) (before after : LookState) (watched result : Option WatchEnd) → LooksUnlessEnded conf before after watched result → KeepsPins before.serving after.serving
-look_pins conf before after None None looks = once_pins conf before.serving after.serving looks.waited after.watcher.watch looks.answer looks.looks
-look_pins conf before after None (Some watchend.End) looks = same_pins looks.stays.serving
-look_pins conf before after None (Some watchend.NoReload) looks = same_pins looks.stays.serving
-look_pins conf before after (Some end) result looks = same_pins (ap (λ (x : LookState). x.serving) looks.1)
+look_pins : (source : Source) (before after : LookState) (watched result : Option WatchEnd) → LooksUnlessEnded source before after watched result → KeepsPins before.serving after.serving
+look_pins source before after None None looks = once_pins source before.serving after.serving looks.waited after.watcher.watch looks.answer looks.looks
+look_pins source before after None (Some watchend.End) looks = same_pins looks.stays.serving
+look_pins source before after None (Some watchend.NoReload) looks = same_pins looks.stays.serving
+look_pins source before after (Some end) result looks = same_pins (ap (λ (x : LookState). x.serving) looks.1)
 
 -- the tally behind a look
-pub tally_looks : (first next most : ℕ) (u : Tally) (conf : List ℕ) (before after : LookState) (worked : Option WorkEnd) (watched result : Option WatchEnd)
-    → Tallied first next most u before.serving worked → LooksUnlessEnded conf before after watched result → Tallied first next most u after.serving worked
-tally_looks first next most u conf before after worked watched result t looks =
-    let keeps = look_pins conf before after watched result looks in
+pub tally_looks : (first next most : ℕ) (u : Tally) (source : Source) (before after : LookState) (worked : Option WorkEnd) (watched result : Option WatchEnd)
+    → Tallied first next most u before.serving worked → LooksUnlessEnded source before after watched result → Tallied first next most u after.serving worked
+tally_looks first next most u source before after worked watched result t looks =
+    let keeps = look_pins source before after watched result looks in
     record { is = t.is; stands = t.stands; pins = keeps.pins ∙ t.pins; idle = keeps.idle ∙ t.idle }
 
 -- whether a worker goes on below its bound

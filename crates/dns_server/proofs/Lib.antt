@@ -1,9 +1,7 @@
 pub mod Answering
-pub mod Blocks
 pub mod Generating
 pub mod Joining
 pub mod Looks
-pub mod Numbers
 pub mod Openings
 pub mod Working
 pub mod Watching

@@ -1,55 +1,67 @@
 -- How a run opens and ends.
-use Rattle.std.proofs.Common.{◌≡◌, ◌≢◌, ◌⊎◌, ℕ, List, [], ◌∷◌, ◌++◌, length, Option, Some, None, Err, refl, sym, ap, subst, ◌∙◌, inl, inr, arith}
-use Rattle.std.specs.Prelude.{IfSome}
+use Rattle.std.proofs.Common.{◌≡◌, ◌≢◌, ◌≤◌, ℕ, zero, suc, ◌*◌, List, [], ◌∷◌, ◌++◌, length, get_or, Option, Some, None, Result, Ok, Err, refl, sym, ap, subst, ◌∙◌, inl, inr, arith}
+use Rattle.std.specs.Prelude.{IfSome, codes}
 use Rattle.std.specs.List.{flat_map, AllByRecursion}
 use Rattle.std.proofs.lemmas.List.Concat.{flat_map-cons}
+use Rattle.dns_data.specs.declared.block.Block.{Block}
 use Rattle.dns_data.specs.declared.message.Transport.TheVariants.{Udp}
-use Rattle.outside.specs.declared.watch.ReadOut.{ReadOut}
-use Rattle.outside.specs.declared.watch.ReadOut.TheVariants as readout
 use Rattle.outside.specs.declared.mark.WatchMark.{WatchMark}
-use Rattle.outside.specs.declared.mark.WatchMark.TheVariants.{Read, Published}
+use Rattle.outside.specs.declared.mark.WatchMark.TheVariants.{Published}
 use Rattle.outside.specs.Causes.{Rose, RoseJust, HostCounts, WatchCounts}
 use Rattle.outside.specs.Hosts.{HostState, OpenedSide, SupplyData, AddsHost, IsFreshWatch, OpensOneSide, OpensTheWatch, TakesSide, TakesWatch, all_told, no_telling, told_watch}
 use Rattle.outside.specs.Journals.{host-adds-nothing, host-adds-then, watch-adds-then, watch_tells_since}
 use Rattle.outside.specs.Script.{SideScriptData}
 use Rattle.outside.specs.States.{SideState, WatchState}
 use Rattle.outside.specs.WatchMarks.{AddsWatch}
+use Rattle.command_line.specs.Command.{ServeData, IsCommand, serve, load}
+use Rattle.corefile_blocks.specs.declared.bundle.Bundle.{Bundle}
+use Rattle.corefile_bundle.specs.declared.fault.GatherFault.{GatherFault}
+use Rattle.corefile_bundle.specs.declared.fault.GatherFault.TheVariants as unread
+use Rattle.corefile_bundle.specs.Gathering.{GathersFrom, OneRead, Source, TellsGathering, marks_of}
 use Rattle.dns_server.specs.declared.chain.Chain.{Chain}
-use Rattle.dns_server.specs.declared.corefile.Block.{Block}
-use Rattle.dns_server.specs.declared.corefile.Bundle.{Bundle}
-use Rattle.dns_server.specs.declared.corefile.Corefile.{Corefile}
 use Rattle.dns_server.specs.declared.first.FirstFault.{FirstFault}
 use Rattle.dns_server.specs.declared.first.FirstFault.TheVariants as fault
 use Rattle.dns_server.specs.declared.looking.Looking.{Looking}
 use Rattle.dns_server.specs.declared.looking.Looking.TheVariants as looking
 use Rattle.dns_server.specs.declared.status.Status.{Status}
 use Rattle.dns_server.specs.declared.status.Status.TheVariants as status
-use Rattle.dns_server.specs.Corefile.{IsCorefile}
+use Rattle.dns_server.specs.Accepting.{IsAccepted}
 use Rattle.dns_server.specs.Look.{AnswersLook, Standing}
 use Rattle.dns_server.specs.declared.refusal.Refusal.{Refusal}
-use Rattle.dns_server.specs.Opening.{IsOneRead, ReadsFirst, ReadsChain, Refuses, endpoints_of}
-use Rattle.dns_server.specs.Report.{RunData, CauseOf, Finishes, IsEndStatus, IsFirstStatus, IsServed, RunsBehind, RunsCommand, Supplies, SuppliesOnlySides, SuppliesSides, TellsRun, opened_by, stopped_run}
+use Rattle.dns_server.specs.Opening.{IsReading, ReadsFirst, ReadsChain, RefusesSides, endpoints_of}
+use Rattle.dns_server.specs.Report.{RunData, CauseOf, Finishes, IsEndStatus, IsFirstStatus, IsServed, ReadGave, RunsBehind, RunsCommand, Supplies, SuppliesOnlySides, SuppliesSides, TellsRun, WasAccepted, opened_by, stopped_run}
 use Rattle.dns_server.specs.States.{LookState, RunSetup, SideRun}
 use Rattle.dns_server.specs.Rounds.{EndsWatch}
 use Rattle.dns_server.specs.Serve.{IsChain}
-use Rattle.dns_server.specs.WatchRun.{Tells, TellsLooks, ReadsAtMostOnce}
-use Rattle.dns_server.specs.WatchTurn.{WatchTurn, looked, starved, watch_marks, read_bundle, published_as, published_by, bundles_of, all_starved, AreLooks, IsLook}
+use Rattle.dns_server.specs.WatchRun.{Tells, TellsLooks}
+use Rattle.dns_server.specs.WatchTurn.{WatchTurn, looked, starved, watch_marks, gathered, published_as, published_by, bundles_of, all_starved, AreLooks, IsLook}
 
--- at most one read was told, and nothing was published
-pub opens_nothing : (conf : List ℕ) (journal : Option (List WatchMark)) (marks : List WatchMark) → IfSome journal (λ told. told ≡ marks) → (marks ≡ []) ⊎ IsOneRead conf marks
-    → IfSome journal (ReadsAtMostOnce conf)
-opens_nothing conf None marks told are = tt
-opens_nothing conf (Some journal) marks told are = subst (ReadsAtMostOnce conf) (sym told) are
+first_byte : List (List ℕ) → ℕ
+first_byte [] = 0
+first_byte (word ∷ words) = get_or word 0 0
 
-pub one_read : (conf : List ℕ) (out : ReadOut) → out ≢ readout.NoMemory → (Read conf out ∷ [] ≡ []) ⊎ IsOneRead conf (Read conf out ∷ [])
-one_read conf out read = inr (record { out = out; read = read; is = refl })
+-- words that ask for a load ask for no serving
+pub no_serving : (words : List (List ℕ)) (number : ℕ) (how : ServeData) → IsCommand words (load number) → IsCommand words (serve how) → ⊥
+unfolding first_byte
+no_serving words number how one two =
+    let same : codes "load" ∷ one.others ≡ codes "serve" ∷ two.others = sym one.words_are ∙ two.words_are in
+    let first = ap first_byte same in
+    omega (arith, first)
 
--- a read that is refused gave no want of memory
-refused_out : (default_port : ℕ) (out : ReadOut) (why : Refusal) → Refuses default_port out why → out ≢ readout.NoMemory
-refused_out default_port (readout.Got bytes) why is = λ e. absurd cc
-refused_out default_port readout.Missing why is = λ e. absurd cc
-refused_out default_port readout.Failed why is = absurd is
-refused_out default_port readout.NoMemory why is = absurd is
+-- the reads were told, and nothing was published
+reading_told : (source : Source) (journal : Option (List WatchMark)) (reads : List OneRead) (gives : Result Bundle GatherFault) → GathersFrom source reads gives → IfSome journal (λ told. told ≡ marks_of reads)
+    → IfSome journal (IsReading source)
+reading_told source None reads gives gathers told = tt
+reading_told source (Some journal) reads gives gathers told = record { reads = reads; gives = gives; gathers = gathers; is = told }
+
+pub opens_nothing : (source : Source) (old new : WatchState) (gives : Result Bundle GatherFault) → IsFreshWatch old → TellsGathering source old new gives → Tells (Some new) (IsReading source)
+opens_nothing source old new gives fresh tells = reading_told source new.journal tells.reads gives tells.gathers (watch_tells_since fresh tells.told)
+
+-- what the reads gave
+gave : (setup : RunSetup) (old new : WatchState) (how : Status) (gives : Result Bundle GatherFault) (P : Result Bundle GatherFault → Type 0) → IsFreshWatch old → TellsGathering setup.source old new gives → P gives
+    → ReadGave setup (stopped_run how (Some new)) P
+gave setup old new how gives P fresh tells is =
+    record { reads = tells.reads; read = watch_tells_since fresh tells.told; gives = gives; gathers = tells.gathers; is = is }
 
 -- nothing was taken from the supply
 nothing_taken : (before after : Option SupplyData) → after ≡ before → SuppliesOnlySides before after []
@@ -60,7 +72,7 @@ nothing_taken (Some before) (Some after) same =
     (ap (λ (x : SupplyData). x.watch) is, record { taken = []; before_is = sym (ap (λ (x : SupplyData). x.sides) is); scripts = refl })
 
 -- a run that stopped before it served, behind the opening of its watch
-pub stops : {setup : RunSetup} {before after : HostState} (how : Status) (watch back : WatchState) → back.script ≡ watch.script → Tells (Some back) (ReadsAtMostOnce setup.conf)
+pub stops : {setup : RunSetup} {before after : HostState} (how : Status) (watch back : WatchState) → back.script ≡ watch.script → Tells (Some back) (IsReading setup.source)
     → AddsHost before after no_telling → after.supply ≡ before.supply → CauseOf how setup (stopped_run how (Some back)) before.counts after.counts
     → RunsBehind setup (stopped_run how (Some back)) watch before after
 stops {setup} {before} {after} how watch back script opening told supply cause = record {
@@ -97,44 +109,43 @@ end_cause setup before after watch side published starving status.Ended some is 
     record { sides = (record { end = is.0; none_starved = is.1 }, tt); none_starved = is.2; nothing = λ e. absurd (some e) }
 
 -- what a look publishes is accepted
-read_accepted : (default_port : ℕ) (out : ReadOut) (bytes : List ℕ) (corefile : Corefile) → out ≡ readout.Got bytes → IsCorefile default_port bytes corefile → AllByRecursion (IsServed default_port) (read_bundle out)
-read_accepted default_port (readout.Got other) bytes corefile got is =
-    let same : other ≡ bytes = cc in
-    (record { corefile = corefile; accepted = subst (λ (b : List ℕ). IsCorefile default_port b corefile) (sym same) is }, tt)
-read_accepted default_port readout.Missing bytes corefile got is = tt
-read_accepted default_port readout.Failed bytes corefile got is = tt
-read_accepted default_port readout.NoMemory bytes corefile got is = tt
+gathered_accepted : (default_port : ℕ) (gives : Result Bundle GatherFault) (bundle : Bundle) (blocks : List Block) → gives ≡ Ok bundle → IsAccepted default_port bundle blocks → AllByRecursion (IsServed default_port) (gathered gives)
+gathered_accepted default_port (Ok other) bundle blocks got is =
+    let same : other ≡ bundle = cc in
+    (record { blocks = blocks; accepted = subst (λ (b : Bundle). IsAccepted default_port b blocks) (sym same) is }, tt)
+gathered_accepted default_port (Err fault) bundle blocks got is = tt
 
-answer_accepted : (conf : List ℕ) (standing : Standing) (out : ReadOut) (answer : Looking) → AnswersLook conf standing out answer
-    → AllByRecursion (IsServed standing.default_port) (published_as out answer)
-answer_accepted conf standing out looking.NoReload is = tt
-answer_accepted conf standing out (looking.ReadFailed name) is = tt
-answer_accepted conf standing out looking.Same is = tt
-answer_accepted conf standing out (looking.Refused why) is = tt
-answer_accepted conf standing out (looking.PortsDiffer ports others) is = tt
-answer_accepted conf standing out looking.SerialsSpent is = tt
-answer_accepted conf standing out (looking.Published serial) is = read_accepted standing.default_port out is.bytes is.corefile is.got is.accepted
-answer_accepted conf standing out looking.NoMemory is = tt
+answer_accepted : (standing : Standing) (gives : Result Bundle GatherFault) (answer : Looking) → AnswersLook standing gives answer
+    → AllByRecursion (IsServed standing.default_port) (published_as gives answer)
+answer_accepted standing gives looking.NoReload is = tt
+answer_accepted standing gives (looking.ReadFailed name) is = tt
+answer_accepted standing gives looking.Same is = tt
+answer_accepted standing gives (looking.Refused why) is = tt
+answer_accepted standing gives (looking.PortsDiffer ports others) is = tt
+answer_accepted standing gives looking.SerialsSpent is = tt
+answer_accepted standing gives (looking.Published serial) is = gathered_accepted standing.default_port gives is.bundle is.blocks is.got is.accepted
+answer_accepted standing gives looking.NoMemory is = tt
 
-look_accepted : (conf : List ℕ) (default_port : ℕ) (bundles : List Bundle) (look : WatchTurn) → IsLook conf default_port bundles look → AllByRecursion (IsServed default_port) (published_by look)
-look_accepted conf default_port bundles (looked out answer flag) is = answer_accepted conf (record { default_port = default_port; conf = is.last.conf; corefile = is.corefile; published = length bundles }) out answer is.is
-look_accepted conf default_port bundles (starved out) is = tt
+look_accepted : (source : Source) (default_port : ℕ) (bundles : List Bundle) (look : WatchTurn) → IsLook source default_port bundles look → AllByRecursion (IsServed default_port) (published_by look)
+look_accepted source default_port bundles (looked reads gives answer flag) is =
+    answer_accepted (record { default_port = default_port; bundle = is.1.last; blocks = is.1.blocks; published = length bundles }) gives answer is.1.is
+look_accepted source default_port bundles (starved reads gives) is = tt
 
 both_accepted : (default_port : ℕ) (xs ys : List Bundle) → AllByRecursion (IsServed default_port) xs → AllByRecursion (IsServed default_port) ys → AllByRecursion (IsServed default_port) (xs ++ ys)
 both_accepted default_port [] ys first then = then
 both_accepted default_port (x ∷ xs) ys first then = (first.0, both_accepted default_port xs ys first.1 then)
 
-looks_accepted : (conf : List ℕ) (default_port : ℕ) (bundles : List Bundle) (looks : List WatchTurn) → AreLooks conf default_port bundles looks → AllByRecursion (IsServed default_port) (flat_map published_by looks)
-looks_accepted conf default_port bundles [] are = tt
-looks_accepted conf default_port bundles (look ∷ looks) are =
+looks_accepted : (source : Source) (default_port : ℕ) (bundles : List Bundle) (looks : List WatchTurn) → AreLooks source default_port bundles looks → AllByRecursion (IsServed default_port) (flat_map published_by looks)
+looks_accepted source default_port bundles [] are = tt
+looks_accepted source default_port bundles (look ∷ looks) are =
     subst (AllByRecursion (IsServed default_port)) (sym (flat_map-cons published_by look looks))
-    (both_accepted default_port (published_by look) (flat_map published_by looks) (look_accepted conf default_port bundles look are.0) (looks_accepted conf default_port (bundles ++ published_by look) looks are.1))
+    (both_accepted default_port (published_by look) (flat_map published_by looks) (look_accepted source default_port bundles look are.0) (looks_accepted source default_port (bundles ++ published_by look) looks are.1))
 
-tells_looks : (conf : List ℕ) (default_port : ℕ) (first : Bundle) (looks : List WatchTurn) (ending : List WatchMark) (journal : Option (List WatchMark))
-    → IfSome journal (λ told. told ≡ Read conf (readout.Got first.conf) ∷ Published 0 ∷ (flat_map (watch_marks conf) looks ++ ending)) → EndsWatch default_port (bundles_of first looks) ending
-    → IfSome journal (TellsLooks conf default_port first looks)
-tells_looks conf default_port first looks ending None told ends = tt
-tells_looks conf default_port first looks ending (Some journal) told ends = record { ending = ending; told = told; ends = ends }
+tells_looks : (source : Source) (default_port : ℕ) (first : Bundle) (looks : List WatchTurn) (ending : List WatchMark) (journal : Option (List WatchMark)) (reads : List OneRead) → GathersFrom source reads (Ok first)
+    → IfSome journal (λ told. told ≡ marks_of reads ++ Published 0 ∷ (flat_map watch_marks looks ++ ending)) → EndsWatch default_port (bundles_of first looks) ending
+    → IfSome journal (TellsLooks source default_port first looks)
+tells_looks source default_port first looks ending None reads gathers told ends = tt
+tells_looks source default_port first looks ending (Some journal) reads gathers told ends = record { reads = reads; gathers = gathers; ending = ending; told = told; ends = ends }
 
 -- one side was taken from the supply
 one_taken : (before after : Option SupplyData) (script : Option SideScriptData) (side : SideRun) → TakesSide before after script → side.state.script ≡ script → SuppliesOnlySides before after (side ∷ [])
@@ -150,23 +161,44 @@ one_taken (Some before) (Some after) script side takes same =
       },
     )
 
+-- at least one worker a port makes no fewer sides than ports
+fewer : (ports workers : ℕ) → 1 ≤ workers → ports * workers ≤ 1 → ports ≤ 1
+fewer zero workers some few = omega arith
+fewer (suc zero) workers some few = omega arith
+fewer (suc (suc ports)) workers some few = absurd (omega (arith, some, few))
+
+pub one_worker : (ports others : List ℕ) (port workers : ℕ) → ports ≡ port ∷ others → 1 ≤ workers → length ports * workers ≤ 1 → 1 ≡ workers
+one_worker [] others port workers are some few = absurd cc
+one_worker (p ∷ ports) others port workers are some few = omega (arith, some, few)
+
+pub empty_ports : (ports : List ℕ) → length ports ≡ 0 → ports ≡ []
+empty_ports [] none = refl
+empty_ports (port ∷ ports) none = absurd (omega (arith, none))
+
+-- one port
+pub one_port : (ports others : List ℕ) (port workers : ℕ) → ports ≡ port ∷ others → 1 ≤ workers → length ports * workers ≤ 1 → ports ≡ port ∷ []
+one_port ports [] port workers are some few = are
+one_port ports (other ∷ others) port workers are some few =
+    absurd (let size = ap length are in let one = fewer (length ports) workers some few in omega (arith, size, one))
+
 -- a run that served
-pub serves : (setup : RunSetup) (before after : HostState) (how : Status) (fresh_watch : WatchState) (start end : LookState) (block : Block) (opened : SideState) (side : SideRun)
-    → IsChain start.serving.chain → start.serving.chain.default_port ≡ setup.default_port → start.serving.chain.corefile.block ≡ Some block → IsFreshWatch fresh_watch → start.watcher.starved ≡ 0
-    → AddsWatch fresh_watch start.watcher.watch (Read setup.conf (readout.Got start.serving.chain.bundle.conf) ∷ Published 0 ∷ []) → end.watcher.watch.script ≡ fresh_watch.script
-    → OpensOneSide before after (record { port = block.port; by = Udp; number = 0 }) opened → side.state.script ≡ opened.script
+pub serves : (setup : RunSetup) (before after : HostState) (how : Status) (fresh_watch read_watch : WatchState) (start end : LookState) (port : ℕ) (opened : SideState) (side : SideRun)
+    → IsChain start.serving.chain → start.serving.chain.default_port ≡ setup.default_port → start.serving.chain.ports ≡ port ∷ [] → IsFreshWatch fresh_watch → start.watcher.starved ≡ 0
+    → TellsGathering setup.source fresh_watch read_watch (Ok start.serving.chain.bundle) → AddsWatch read_watch start.watcher.watch (Published 0 ∷ []) → end.watcher.watch.script ≡ fresh_watch.script
+    → OpensOneSide before after (record { port = port; by = Udp; number = 0 }) opened → side.state.script ≡ opened.script
     → Finishes setup start end side → IsEndStatus side.worked.end side.worked.starved end.watcher.starved how
     → RunsBehind setup (record { status = how; sides = side ∷ []; watch = Some end.watcher.watch; published = end.serving.published; starved = end.watcher.starved }) fresh_watch before after
-serves setup before after how fresh_watch start end block opened side is same block_is fresh none opening script opens side_script by stands =
+serves setup before after how fresh_watch read_watch start end port opened side is same ports_are fresh none tells published script opens side_script by stands =
     let chain = start.serving.chain in
-    let accepted : IsCorefile setup.default_port chain.bundle.conf chain.corefile = subst (λ (p : ℕ). IsCorefile p chain.bundle.conf chain.corefile) same is in
+    let accepted : IsAccepted setup.default_port chain.bundle chain.blocks = subst (λ (p : ℕ). IsAccepted p chain.bundle chain.blocks) same is.accepted in
     let count : length (bundles_of chain.bundle by.looks) ≡ end.serving.published = ap length (sym by.bundles_are) ∙ by.count in
     let some : end.serving.published ≢ 0 = λ e. omega (arith, e, count) in
+    let told = watch-adds-then tells.told (watch-adds-then published by.told) in
     record {
       served = record {
         bundles = bundles_of chain.bundle by.looks;
         count = count;
-        accepted = (record { corefile = chain.corefile; accepted = accepted }, looks_accepted setup.conf setup.default_port (chain.bundle ∷ []) by.looks by.are);
+        accepted = (record { blocks = chain.blocks; accepted = accepted }, looks_accepted setup.source setup.default_port (chain.bundle ∷ []) by.looks by.are);
         back = end.watcher.watch;
         watch_is = refl;
         script = script;
@@ -175,11 +207,11 @@ serves setup before after how fresh_watch start end block opened side is same bl
           published = refl;
           are = by.are;
           starved_is = subst (λ (n : ℕ). RoseJust (all_starved by.looks) n end.watcher.starved) none by.starved;
-          told = tells_looks setup.conf setup.default_port chain.bundle by.looks by.ending end.watcher.watch.journal (watch_tells_since fresh (watch-adds-then opening by.told))
+          told = tells_looks setup.source setup.default_port chain.bundle by.looks by.ending end.watcher.watch.journal tells.reads tells.gathers (watch_tells_since fresh told)
               (subst (λ (l : List Bundle). EndsWatch setup.default_port l by.ending) by.bundles_are by.ends);
         };
-        endpoints = record { port = block.port; by = Udp; number = 0 } ∷ [];
-        opened = record { corefile = chain.corefile; accepted = accepted; some = λ none. absurd cc; are = sym (ap endpoints_of block_is) };
+        endpoints = record { port = port; by = Udp; number = 0 } ∷ [];
+        opened = record { blocks = chain.blocks; accepted = accepted; ports = chain.ports; ports_are = is.ports; some = λ empty. absurd (let e = sym ports_are ∙ empty in cc); are = sym (ap endpoints_of ports_are) };
         told = opens.told;
         supplied = one_taken before.supply after.supply opened.script side opens.supply side_script;
         one_each = refl;
@@ -188,55 +220,59 @@ serves setup before after how fresh_watch start end block opened side is same bl
       cause = end_cause setup before.counts after.counts (Some end.watcher.watch) side end.serving.published end.watcher.starved how some stands;
     }
 
--- the first read gave no chain
+-- the first reads gave no chain
 pub first_stops : (setup : RunSetup) (old new : WatchState) (why : FirstFault) (how : Status) (host : HostState)
-    → IsFreshWatch old → new.script ≡ old.script → ReadsFirst setup.conf setup.default_port old new (Err why) → IsFirstStatus why setup.conf how
+    → IsFreshWatch old → new.script ≡ old.script → ReadsFirst setup.source setup.default_port old new (Err why) → IsFirstStatus why how
     → RunsBehind setup (stopped_run how (Some new)) old host host
 first_stops setup old new (fault.Refused why) how host fresh script reads is =
-    let journal = watch_tells_since fresh reads.told in
-    rw is (stops (status.Refused why) old new script (opens_nothing setup.conf new.journal _ journal (one_read setup.conf reads.out (refused_out setup.default_port reads.out why reads.refused))) (host-adds-nothing host) refl
-    (record { published = refl; watch = λ e. absurd cc; why = record { out = reads.out; read = journal; refused = reads.refused } }))
-first_stops setup old new fault.ReadFailed how host fresh script reads is =
-    let journal = watch_tells_since fresh reads.0 in
-    let opening = opens_nothing setup.conf new.journal _ journal (one_read setup.conf readout.Failed (λ e. absurd cc)) in
+    rw is (stops (status.Refused why) old new script (opens_nothing setup.source old new reads.gives fresh reads.tells) (host-adds-nothing host) refl
+    (record { published = refl; watch = λ e. absurd cc; why = gave setup old new (status.Refused why) reads.gives _ fresh reads.tells (inl reads.is) }))
+first_stops setup old new (fault.ReadFailed name) how host fresh script reads is =
     let rose : Rose 0 new.counts.reads = let none = ap (λ (c : WatchCounts). c.reads) fresh.no_fault in let r = reads.1 in omega (arith, none, r) in
-    elim is [
-      | inl named ↦ rw named (stops (status.ReadFailed setup.conf) old new script opening (host-adds-nothing host) refl
-          (refl, record { published = refl; watch = λ e. absurd cc; why = rose }))
-      | inr want ↦ rw want (stops status.NoMemory old new script opening (host-adds-nothing host) refl tt)
-    ]
+    rw is (stops (status.ReadFailed name) old new script (opens_nothing setup.source old new (Err (unread.ReadFailed name)) fresh reads.0) (host-adds-nothing host) refl
+    (record { published = refl; watch = λ e. absurd cc; why = (rose, gave setup old new (status.ReadFailed name) (Err (unread.ReadFailed name)) (λ gives. gives ≡ Err (unread.ReadFailed name)) fresh reads.0 refl) }))
 first_stops setup old new fault.NoMemory how host fresh script reads is =
-    let journal = watch_tells_since fresh reads.told in
-    rw is (stops status.NoMemory old new script (opens_nothing setup.conf new.journal reads.marks journal reads.are) (host-adds-nothing host) refl tt)
+    rw is (stops status.NoMemory old new script (opens_nothing setup.source old new reads.gives fresh reads.tells) (host-adds-nothing host) refl tt)
 
--- the first chain has no block, so that nothing is to be served
-pub no_block_stops : (setup : RunSetup) (old new : WatchState) (chain : Chain) (host : HostState)
-    → IsFreshWatch old → new.script ≡ old.script → ReadsChain setup.conf setup.default_port old new chain → chain.corefile.block ≡ None
+-- the first bundle is accepted, with these ports
+accepted_ports : (setup : RunSetup) (chain : Chain) (P : List ℕ → Type 0) → chain.default_port ≡ setup.default_port → IsChain chain → P chain.ports → WasAccepted setup (Ok chain.bundle) P
+accepted_ports setup chain P same is holds =
+    record { bundle = chain.bundle; got = refl; blocks = chain.blocks; accepted = subst (λ (p : ℕ). IsAccepted p chain.bundle chain.blocks) same is.accepted; ports = chain.ports; ports_are = is.ports; is = holds }
+
+-- the first chain has no port, so that nothing is to be served
+pub no_port_stops : (setup : RunSetup) (old new : WatchState) (chain : Chain) (host : HostState)
+    → IsFreshWatch old → new.script ≡ old.script → ReadsChain setup.source setup.default_port old new chain → chain.ports ≡ []
     → RunsBehind setup (stopped_run status.Ended (Some new)) old host host
-no_block_stops setup old new chain host fresh script reads none =
-    let journal = watch_tells_since fresh reads.told in
-    stops status.Ended old new script (opens_nothing setup.conf new.journal _ journal (one_read setup.conf (readout.Got chain.bundle.conf) (λ e. absurd cc))) (host-adds-nothing host) refl
+no_port_stops setup old new chain host fresh script reads none =
+    stops status.Ended old new script (opens_nothing setup.source old new (Ok chain.bundle) fresh reads.tells) (host-adds-nothing host) refl
     (record {
       sides = tt;
       none_starved = refl;
       nothing = λ e. record {
         watch = λ f. absurd cc;
-        conf = chain.bundle.conf;
-        read = journal;
-        corefile = chain.corefile;
-        is = subst (λ (p : ℕ). IsCorefile p chain.bundle.conf chain.corefile) reads.port reads.is;
-        no_block = none;
+        gave = gave setup old new status.Ended (Ok chain.bundle) _ fresh reads.tells (accepted_ports setup chain (λ ports. ports ≡ []) reads.port reads.is none);
       };
     })
 
--- nothing could be opened, or memory ran out, behind the first read
+-- the sides of the first chain are refused
+pub sides_stop : (setup : RunSetup) (old new : WatchState) (chain : Chain) (why : Refusal) (host : HostState)
+    → IsFreshWatch old → new.script ≡ old.script → ReadsChain setup.source setup.default_port old new chain → RefusesSides chain.ports setup.workers why
+    → RunsBehind setup (stopped_run (status.Refused why) (Some new)) old host host
+sides_stop setup old new chain why host fresh script reads refused =
+    stops (status.Refused why) old new script (opens_nothing setup.source old new (Ok chain.bundle) fresh reads.tells) (host-adds-nothing host) refl
+    (record {
+      published = refl;
+      watch = λ e. absurd cc;
+      why = gave setup old new (status.Refused why) (Ok chain.bundle) _ fresh reads.tells (inr (accepted_ports setup chain (λ ports. RefusesSides ports setup.workers why) reads.port reads.is refused));
+    })
+
+-- nothing could be opened, or memory ran out, behind the first reads
 pub read_stops : {setup : RunSetup} {old new : WatchState} {chain : Chain} {before after : HostState} (how : Status)
-    → IsFreshWatch old → new.script ≡ old.script → ReadsChain setup.conf setup.default_port old new chain → AddsHost before after no_telling → after.supply ≡ before.supply
+    → IsFreshWatch old → new.script ≡ old.script → ReadsChain setup.source setup.default_port old new chain → AddsHost before after no_telling → after.supply ≡ before.supply
     → CauseOf how setup (stopped_run how (Some new)) before.counts after.counts
     → RunsBehind setup (stopped_run how (Some new)) old before after
 read_stops {setup} {old} {new} {chain} how fresh script reads told supply cause =
-    let journal = watch_tells_since fresh reads.told in
-    stops how old new script (opens_nothing setup.conf new.journal _ journal (one_read setup.conf (readout.Got chain.bundle.conf) (λ e. absurd cc))) told supply cause
+    stops how old new script (opens_nothing setup.source old new (Ok chain.bundle) fresh reads.tells) told supply cause
 
 -- the watch could not be opened
 supply_kept : (before after : Option SupplyData) → after ≡ before → (run : RunData) → run.watch ≡ None → run.sides ≡ [] → Supplies before after run

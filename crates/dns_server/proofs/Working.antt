@@ -8,7 +8,7 @@ use Rattle.outside.specs.declared.mark.Mark.TheVariants.{RecvEnd, RecvFailed}
 use Rattle.outside.specs.Marks.{Adds, Grows}
 use Rattle.outside.specs.Journals.{adds-nothing, adds-then}
 use Rattle.outside.specs.States.{SideState}
-use Rattle.dns_server.specs.declared.corefile.Bundle.{Bundle}
+use Rattle.corefile_blocks.specs.declared.bundle.Bundle.{Bundle}
 use Rattle.dns_server.specs.declared.worker.WorkEnd.TheVariants as ends
 use Rattle.dns_server.specs.Turn.{Turn, failed, replied, silenced, starved, marks_of, IsLawful, datagrams, starved_in, serials, NeverFall, total}
 use Rattle.dns_server.specs.declared.worker.Tally.{Tally}

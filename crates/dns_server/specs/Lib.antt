@@ -1,6 +1,4 @@
-pub mod Number
-pub mod Command
-pub mod Corefile
+pub mod Accepting
 pub mod Whoami
 pub mod Serve
 pub mod Generation
@@ -18,11 +16,10 @@ pub mod WatchRun
 pub mod Report
 pub mod Telling
 -- what public clauses cite
-pub use Rattle.dns_server.specs.Command.{CommandData, IsCommand}
-pub use Rattle.dns_server.specs.Corefile.{ReadsCorefile}
+pub use Rattle.dns_server.specs.Accepting.{IsAccepted, bundle_says}
 pub use Rattle.dns_server.specs.Generation.{GenerationsData}
 pub use Rattle.dns_server.specs.Look.{LooksOnce}
-pub use Rattle.dns_server.specs.Opening.{ReadsFirst}
+pub use Rattle.dns_server.specs.Opening.{MakesChain, ReadsFirst}
 pub use Rattle.dns_server.specs.Report.{RunData}
 pub use Rattle.dns_server.specs.Rounds.{ServedRounds}
 pub use Rattle.dns_server.specs.Serve.{IsChain, Serves}

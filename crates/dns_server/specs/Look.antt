@@ -1,88 +1,84 @@
 -- One look for a changed configuration: what it answers, the marks that it leaves, and what serves
 -- behind it. This server's own rule. The answers are tried in the order in which they stand here.
-use Rattle.std.specs.Prelude.{◌≡◌, ◌≢◌, ◌<◌, ◌⊎◌, ℕ, ◌+◌, Bool, true, false, List, [], ◌∷◌, ◌++◌, Option, Some, None}
+use Rattle.std.specs.Prelude.{◌≡◌, ◌≢◌, ◌<◌, ◌⊎◌, ℕ, ◌+◌, Bool, true, false}
+use Rattle.std.specs.Prelude.{List, [], ◌∷◌, ◌++◌, codes, Result, Ok, Err}
+use Rattle.std.specs.List.{list_any}
+use Rattle.dns_data.specs.declared.block.Block.{Block}
 use Rattle.pin_core.specs.declared.slots.TheConstants as pins
 use Rattle.outside.specs.declared.mark.WatchMark.{WatchMark}
-use Rattle.outside.specs.declared.mark.WatchMark.TheVariants.{Read, Noted, Published}
-use Rattle.outside.specs.declared.watch.ReadOut.{ReadOut}
-use Rattle.outside.specs.declared.watch.ReadOut.TheVariants as readout
+use Rattle.outside.specs.declared.mark.WatchMark.TheVariants.{Noted, Published}
 use Rattle.outside.specs.States.{WatchState}
 use Rattle.outside.specs.WatchMarks.{AddsWatch}
+use Rattle.corefile_blocks.specs.declared.bundle.Bundle.{Bundle}
+use Rattle.corefile_blocks.specs.Ports.{ArePorts}
+use Rattle.corefile_bundle.specs.declared.fault.GatherFault.{GatherFault}
+use Rattle.corefile_bundle.specs.declared.fault.GatherFault.TheVariants as unread
+use Rattle.corefile_bundle.specs.Gathering.{GathersFrom, OneRead, Source, marks_of}
 use Rattle.dns_server.specs.declared.chain.Chain.{Chain}
-use Rattle.dns_server.specs.declared.corefile.Block.{Block}
-use Rattle.dns_server.specs.declared.corefile.Corefile.{Corefile}
 use Rattle.dns_server.specs.declared.look.Found.{Found}
 use Rattle.dns_server.specs.declared.look.Found.TheVariants.{Kept, Next}
 use Rattle.dns_server.specs.declared.looking.Looking.{Looking}
 use Rattle.dns_server.specs.declared.looking.Looking.TheVariants as looking
-use Rattle.dns_server.specs.Corefile.{IsCorefile}
+use Rattle.dns_server.specs.Accepting.{IsAccepted, has_name}
 use Rattle.dns_server.specs.Generation.{GenerationsData}
 use Rattle.dns_server.specs.Messages.{look_text}
-use Rattle.dns_server.specs.Opening.{Refuses}
+use Rattle.dns_server.specs.Opening.{GathersThat, Refuses}
 use Rattle.dns_server.specs.Serve.{IsChain}
 
--- whether the block has `reload`
-abbrev pub block_reloads : Option Block → Bool
-block_reloads None = false
-block_reloads (Some block) = block.reload
+-- whether blocks are to be looked at again: one of them has `reload`
+abbrev pub reloads : List Block → Bool
+reloads blocks = list_any (λ block. has_name block.directives (codes "reload")) blocks
 
--- whether a Corefile is to be looked at again
-abbrev pub reloads : Corefile → Bool
-reloads corefile = block_reloads corefile.block
+-- two lists of blocks have the same ports
+pub record SamePorts (a b : List Block) : Type 0 where
+  pub ports : List ℕ
+  pub first : ArePorts a ports
+  pub second : ArePorts b ports
 
-abbrev pub block_ports : Option Block → List ℕ
-block_ports None = []
-block_ports (Some block) = block.port ∷ []
-
--- the ports of a Corefile, in ascending order
-abbrev pub ports_of : Corefile → List ℕ
-ports_of corefile = block_ports corefile.block
-
--- the read gave a Corefile that is accepted and isn't this one
-pub record GaveOther (default_port : ℕ) (was : List ℕ) (out : ReadOut)
-    (P : List ℕ → Corefile → Type 0) : Type 0 where
-  pub bytes : List ℕ
-  pub got : out ≡ readout.Got bytes
-  pub differs : bytes ≢ was
-  pub corefile : Corefile
-  pub accepted : IsCorefile default_port bytes corefile
-  pub is : P bytes corefile
-
--- what serves, as far as a look's answer depends on it: the bytes of the Corefile, what they mean
--- with this default port, and how many generations were published
+-- what serves, as far as a look's answer depends on it: the bundle, its blocks with this default
+-- port, and how many generations were published
 pub record Standing : Type 0 where
   pub default_port : ℕ
-  pub conf : List ℕ
-  pub corefile : Corefile
+  pub bundle : Bundle
+  pub blocks : List Block
   pub published : ℕ
 
 abbrev pub standing_of : Chain → ℕ → Standing
 standing_of chain published = record {
   default_port = chain.default_port;
-  conf = chain.bundle.conf;
-  corefile = chain.corefile;
+  bundle = chain.bundle;
+  blocks = chain.blocks;
   published = published;
 }
 
--- what a look answers where the read of the Corefile `conf` gave this
-abbrev pub AnswersLook : List ℕ → Standing → ReadOut → Looking → Type 0
-AnswersLook conf standing out looking.NoReload = ⊥
-AnswersLook conf standing out (looking.ReadFailed name) = (out ≡ readout.Failed) × (name ≡ conf)
-AnswersLook conf standing out looking.Same = out ≡ readout.Got standing.conf
-AnswersLook conf standing out (looking.Refused why) =
-    Refuses standing.default_port out why × (out ≢ readout.Got standing.conf)
-AnswersLook conf standing out (looking.PortsDiffer kept read) =
-    GaveOther standing.default_port standing.conf out
-    (λ _ other. (kept ≡ ports_of standing.corefile) × (read ≡ ports_of other) × (kept ≢ read))
-AnswersLook conf standing out looking.SerialsSpent =
-    GaveOther standing.default_port standing.conf out
-    (λ _ other. (ports_of other ≡ ports_of standing.corefile)
-    × (standing.published ≡ pins.MOST_SERIALS))
-AnswersLook conf standing out (looking.Published serial) =
-    GaveOther standing.default_port standing.conf out
-    (λ _ other. (ports_of other ≡ ports_of standing.corefile)
+-- the gathering gave a bundle that is accepted and isn't the one that serves
+pub record GaveOther (standing : Standing) (gives : Result Bundle GatherFault)
+    (P : List Block → Type 0) : Type 0 where
+  pub bundle : Bundle
+  pub got : gives ≡ Ok bundle
+  pub differs : bundle ≢ standing.bundle
+  pub blocks : List Block
+  pub accepted : IsAccepted standing.default_port bundle blocks
+  pub is : P blocks
+
+-- what a look answers where the gathering came to this
+abbrev pub AnswersLook : Standing → Result Bundle GatherFault → Looking → Type 0
+AnswersLook standing gives looking.NoReload = ⊥
+AnswersLook standing gives (looking.ReadFailed name) = gives ≡ Err (unread.ReadFailed name)
+AnswersLook standing gives looking.Same = gives ≡ Ok standing.bundle
+AnswersLook standing gives (looking.Refused why) =
+    Refuses standing.default_port gives why × (gives ≢ Ok standing.bundle)
+AnswersLook standing gives (looking.PortsDiffer kept read) =
+    GaveOther standing gives
+    (λ other. ArePorts standing.blocks kept × ArePorts other read × (kept ≢ read))
+AnswersLook standing gives looking.SerialsSpent =
+    GaveOther standing gives
+    (λ other. SamePorts other standing.blocks × (standing.published ≡ pins.MOST_SERIALS))
+AnswersLook standing gives (looking.Published serial) =
+    GaveOther standing gives
+    (λ other. SamePorts other standing.blocks
     × (standing.published < pins.MOST_SERIALS) × (serial ≡ standing.published))
-AnswersLook conf standing out looking.NoMemory = ⊥
+AnswersLook standing gives looking.NoMemory = ⊥
 
 -- an empty line is not noted
 abbrev pub note_marks : List ℕ → Bool → List WatchMark
@@ -93,84 +89,78 @@ abbrev pub publication : Looking → List WatchMark
 publication (looking.Published serial) = Published serial ∷ []
 publication other = []
 
--- the marks of a look: its read, its publication, and the line that notes it, with whether that
+-- the marks of a look: its reads, its publication, and the line that notes it, with whether that
 -- went out
-abbrev pub look_marks : List ℕ → ReadOut → Looking → Bool → List WatchMark
-look_marks conf out answer flag =
-    Read conf out ∷ (publication answer ++ note_marks (look_text answer) flag)
+abbrev pub look_marks : List OneRead → Looking → Bool → List WatchMark
+look_marks reads answer flag =
+    marks_of reads ++ (publication answer ++ note_marks (look_text answer) flag)
 
--- a further generation serves: the bytes that were read
-pub record Replaces (old new : GenerationsData) (bytes : List ℕ) : Type 0 where
+-- a further generation serves: the bundle that was read
+pub record Replaces (old new : GenerationsData) (bundle : Bundle) : Type 0 where
   pub published : new.published ≡ old.published + 1
   pub pins : new.pins ≡ old.pins
   pub pinned : new.pinned ≡ old.pinned
-  pub conf : new.chain.bundle.conf ≡ bytes
+  pub bundle_is : new.chain.bundle ≡ bundle
   pub port : new.chain.default_port ≡ old.chain.default_port
   pub is : IsChain new.chain
 
--- what serves behind a read that is published
-abbrev pub ServesRead : GenerationsData → GenerationsData → ReadOut → Type 0
-ServesRead old new (readout.Got bytes) = Replaces old new bytes
-ServesRead old new readout.Missing = ⊥
-ServesRead old new readout.Failed = ⊥
-ServesRead old new readout.NoMemory = ⊥
+-- what serves behind a gathering that is published
+abbrev pub ServesGathered : GenerationsData → GenerationsData → Result Bundle GatherFault → Type 0
+ServesGathered old new (Ok bundle) = Replaces old new bundle
+ServesGathered old new (Err fault) = ⊥
 
 -- what serves behind a look
-abbrev pub ServesBehind : GenerationsData → GenerationsData → ReadOut → Looking → Type 0
-ServesBehind old new out (looking.Published serial) = ServesRead old new out
-ServesBehind old new out other = new ≡ old
+abbrev pub ServesBehind : GenerationsData → GenerationsData → Result Bundle GatherFault → Looking
+    → Type 0
+ServesBehind old new gives (looking.Published serial) = ServesGathered old new gives
+ServesBehind old new gives other = new ≡ old
 
 -- a look by its answer, over what serves
-pub record LooksOver (conf : List ℕ) (old new : GenerationsData) (before after : WatchState)
+pub record LooksOver (source : Source) (old new : GenerationsData) (before after : WatchState)
     (answer : Looking) : Type 0 where
-  pub out : ReadOut
+  pub reads : List OneRead
+  pub gives : Result Bundle GatherFault
+  pub gathers : GathersFrom source reads gives
   pub flag : Bool
-  pub told : AddsWatch before after (look_marks conf out answer flag)
-  pub answers : AnswersLook conf (standing_of old.chain old.published) out answer
-  pub behind : ServesBehind old new out answer
-  pub again : reloads old.chain.corefile ≡ true
-
--- the read before want of memory, if it came to that
-abbrev pub read_at_most : List ℕ → Option ReadOut → List WatchMark
-read_at_most conf None = []
-read_at_most conf (Some out) = Read conf out ∷ []
+  pub told : AddsWatch before after (look_marks reads answer flag)
+  pub answers : AnswersLook (standing_of old.chain old.published) gives answer
+  pub behind : ServesBehind old new gives answer
+  pub again : reloads old.chain.blocks ≡ true
 
 -- a look that met want of memory
-pub record Starves (conf : List ℕ) (old new : GenerationsData) (before after : WatchState)
+pub record Starves (source : Source) (old new : GenerationsData) (before after : WatchState)
     : Type 0 where
-  pub out : Option ReadOut
-  pub read : out ≢ Some readout.NoMemory
-  pub told : AddsWatch before after (read_at_most conf out)
+  pub gathered : GathersThat source before after (λ gives. Unit {0})
   pub same : new ≡ old
-  pub again : reloads old.chain.corefile ≡ true
+  pub again : reloads old.chain.blocks ≡ true
 
--- what the read of the Corefile comes to before anything is published: an answer, or a chain that
--- is to serve next. No answer here depends on how many generations were published, which is 0 for
--- all of them.
-abbrev pub AnswersKept : List ℕ → Chain → ReadOut → Looking → Type 0
-AnswersKept conf chain out looking.NoReload = ⊥
-AnswersKept conf chain out (looking.ReadFailed name) =
-    AnswersLook conf (standing_of chain 0) out (looking.ReadFailed name)
-AnswersKept conf chain out looking.Same = AnswersLook conf (standing_of chain 0) out looking.Same
-AnswersKept conf chain out (looking.Refused why) =
-    AnswersLook conf (standing_of chain 0) out (looking.Refused why)
-AnswersKept conf chain out (looking.PortsDiffer kept read) =
-    AnswersLook conf (standing_of chain 0) out (looking.PortsDiffer kept read)
-AnswersKept conf chain out looking.SerialsSpent = ⊥
-AnswersKept conf chain out (looking.Published serial) = ⊥
-AnswersKept conf chain out looking.NoMemory = Unit {0}
+-- what a gathering comes to before anything is published: an answer, or a chain that is to serve
+-- next. No answer here depends on how many generations were published, which is 0 for all of them.
+abbrev pub AnswersKept : Chain → Result Bundle GatherFault → Looking → Type 0
+AnswersKept chain gives looking.NoReload = ⊥
+AnswersKept chain gives (looking.ReadFailed name) =
+    AnswersLook (standing_of chain 0) gives (looking.ReadFailed name)
+AnswersKept chain gives looking.Same = AnswersLook (standing_of chain 0) gives looking.Same
+AnswersKept chain gives (looking.Refused why) =
+    AnswersLook (standing_of chain 0) gives (looking.Refused why)
+AnswersKept chain gives (looking.PortsDiffer kept read) =
+    AnswersLook (standing_of chain 0) gives (looking.PortsDiffer kept read)
+AnswersKept chain gives looking.SerialsSpent = ⊥
+AnswersKept chain gives (looking.Published serial) = ⊥
+AnswersKept chain gives looking.NoMemory = Unit {0}
 
--- the chain was made of what was read, which isn't what serves, and has the same ports
-pub record IsNext (current : Chain) (out : ReadOut) (chain : Chain) : Type 0 where
-  pub got : out ≡ readout.Got chain.bundle.conf
-  pub differs : chain.bundle.conf ≢ current.bundle.conf
+-- the chain was made of the bundle that was read, which isn't what serves, and has the same ports
+pub record IsNext (current : Chain) (gives : Result Bundle GatherFault) (chain : Chain)
+    : Type 0 where
+  pub got : gives ≡ Ok chain.bundle
+  pub differs : chain.bundle ≢ current.bundle
   pub port : chain.default_port ≡ current.default_port
   pub is : IsChain chain
-  pub ports : ports_of chain.corefile ≡ ports_of current.corefile
+  pub ports : SamePorts chain.blocks current.blocks
 
-abbrev pub Finds : List ℕ → Chain → ReadOut → Found → Type 0
-Finds conf current out (Kept answer) = AnswersKept conf current out answer
-Finds conf current out (Next chain) = IsNext current out chain
+abbrev pub Finds : Chain → Result Bundle GatherFault → Found → Type 0
+Finds current gives (Kept answer) = AnswersKept current gives answer
+Finds current gives (Next chain) = IsNext current gives chain
 
 -- the line of an answer was noted
 pub record IsNoted (before after : WatchState) (answer : Looking) : Type 0 where
@@ -192,7 +182,7 @@ pub record IsPublishedNext (old new : GenerationsData) (before after : WatchStat
     (serial : ℕ) : Type 0 where
   pub few : old.published < pins.MOST_SERIALS
   pub serial_is : serial ≡ old.published
-  pub replaces : Replaces old new chain.bundle.conf
+  pub replaces : Replaces old new chain.bundle
   pub flag : Bool
   pub told : AddsWatch before after (Published serial
       ∷ note_marks (look_text (looking.Published serial)) flag)
@@ -214,21 +204,22 @@ PublishesNext old new before after chain looking.NoMemory = (new ≡ old) × Add
 pub record LooksNoMore (old new : GenerationsData) (before after : WatchState) : Type 0 where
   pub told : AddsWatch before after []
   pub same : new ≡ old
-  pub no_reload : reloads old.chain.corefile ≡ false
+  pub no_reload : reloads old.chain.blocks ≡ false
 
 -- what a look answers and leaves
-abbrev pub LooksOnce : List ℕ → GenerationsData → GenerationsData → WatchState → WatchState
+abbrev pub LooksOnce : Source → GenerationsData → GenerationsData → WatchState → WatchState
     → Looking → Type 0
-LooksOnce conf old new before after looking.NoReload = LooksNoMore old new before after
-LooksOnce conf old new before after (looking.ReadFailed name) =
-    LooksOver conf old new before after (looking.ReadFailed name)
-LooksOnce conf old new before after looking.Same = LooksOver conf old new before after looking.Same
-LooksOnce conf old new before after (looking.Refused why) =
-    LooksOver conf old new before after (looking.Refused why)
-LooksOnce conf old new before after (looking.PortsDiffer kept read) =
-    LooksOver conf old new before after (looking.PortsDiffer kept read)
-LooksOnce conf old new before after looking.SerialsSpent =
-    LooksOver conf old new before after looking.SerialsSpent
-LooksOnce conf old new before after (looking.Published serial) =
-    LooksOver conf old new before after (looking.Published serial)
-LooksOnce conf old new before after looking.NoMemory = Starves conf old new before after
+LooksOnce source old new before after looking.NoReload = LooksNoMore old new before after
+LooksOnce source old new before after (looking.ReadFailed name) =
+    LooksOver source old new before after (looking.ReadFailed name)
+LooksOnce source old new before after looking.Same =
+    LooksOver source old new before after looking.Same
+LooksOnce source old new before after (looking.Refused why) =
+    LooksOver source old new before after (looking.Refused why)
+LooksOnce source old new before after (looking.PortsDiffer kept read) =
+    LooksOver source old new before after (looking.PortsDiffer kept read)
+LooksOnce source old new before after looking.SerialsSpent =
+    LooksOver source old new before after looking.SerialsSpent
+LooksOnce source old new before after (looking.Published serial) =
+    LooksOver source old new before after (looking.Published serial)
+LooksOnce source old new before after looking.NoMemory = Starves source old new before after

@@ -1,19 +1,22 @@
 -- What a run reports: how each side worked, what was published, and the cause of its status. This
 -- server's own rule.
-use Rattle.std.specs.Prelude.{◌≡◌, ◌<◌, ◌≢◌, ◌⊎◌, ℕ, List, [], ◌∷◌, ◌++◌, length, map, Option, None, Some, IfSome, option_map}
+use Rattle.std.specs.Prelude.{◌≡◌, ◌<◌, ◌≢◌, ◌⊎◌, ℕ, List, [], ◌∷◌, ◌++◌, length, map}
+use Rattle.std.specs.Prelude.{Option, None, Some, IfSome, option_map, Result, Ok, Err}
 use Rattle.std.specs.List.{flat_map, AllByRecursion}
 use Rattle.dns_data.specs.declared.limit.TheConstants as limits
 use Rattle.outside.specs.declared.mark.WatchMark.{WatchMark}
-use Rattle.outside.specs.declared.mark.WatchMark.TheVariants.{Read}
-use Rattle.outside.specs.declared.watch.ReadOut.{ReadOut}
-use Rattle.outside.specs.declared.watch.ReadOut.TheVariants as readout
 use Rattle.outside.specs.Causes.{Rose, RoseBy, RoseJust, HostCounts}
 use Rattle.outside.specs.Hosts.{HostState, HostTold, OpenedSide, SupplyData, AddsHost}
 use Rattle.outside.specs.Script.{SideScriptData, WatchScriptData}
 use Rattle.outside.specs.States.{SideState, WatchState}
 use Rattle.outside.specs.WatchMarks.{AddsWatch}
-use Rattle.dns_server.specs.declared.corefile.Bundle.{Bundle}
-use Rattle.dns_server.specs.declared.corefile.Corefile.{Corefile}
+use Rattle.corefile_blocks.specs.declared.bundle.Bundle.{Bundle}
+use Rattle.dns_data.specs.declared.block.Block.{Block}
+use Rattle.corefile_words.specs.declared.word.Pair.{Pair}
+use Rattle.corefile_blocks.specs.Ports.{ArePorts}
+use Rattle.corefile_bundle.specs.declared.fault.GatherFault.{GatherFault}
+use Rattle.corefile_bundle.specs.declared.fault.GatherFault.TheVariants as unread
+use Rattle.corefile_bundle.specs.Gathering.{GathersFrom, OneRead, marks_of}
 use Rattle.dns_server.specs.declared.first.FirstFault.{FirstFault}
 use Rattle.dns_server.specs.declared.first.FirstFault.TheVariants as fault
 use Rattle.dns_server.specs.declared.report.Ran.{Ran}
@@ -22,9 +25,9 @@ use Rattle.dns_server.specs.declared.status.Status.{Status}
 use Rattle.dns_server.specs.declared.status.Status.TheVariants as status
 use Rattle.dns_server.specs.declared.worker.WorkEnd.{WorkEnd}
 use Rattle.dns_server.specs.declared.worker.WorkEnd.TheVariants as ends
-use Rattle.dns_server.specs.Command.{CommandData, IsCommand}
-use Rattle.dns_server.specs.Corefile.{IsCorefile}
-use Rattle.dns_server.specs.Opening.{OpensSides, Refuses}
+use Rattle.command_line.specs.Command.{ServeData, IsCommand, serve}
+use Rattle.dns_server.specs.Accepting.{IsAccepted}
+use Rattle.dns_server.specs.Opening.{OpensSides, Refuses, RefusesSides}
 use Rattle.dns_server.specs.Rounds.{EndsWatch}
 use Rattle.dns_server.specs.States.{RunSetup, LookState, SideRun, setup_of, side_runs}
 use Rattle.dns_server.specs.WatchRun.{WatchRun}
@@ -66,8 +69,8 @@ pub record Finishes (setup : RunSetup) (before after : LookState) (side : SideRu
   pub bundles_are : bundles ≡ bundles_of before.serving.chain.bundle looks
   pub ending : List WatchMark
   pub told : AddsWatch before.watcher.watch after.watcher.watch
-      (flat_map (watch_marks setup.conf) looks ++ ending)
-  pub are : AreLooks setup.conf setup.default_port (before.serving.chain.bundle ∷ []) looks
+      (flat_map watch_marks looks ++ ending)
+  pub are : AreLooks setup.source setup.default_port (before.serving.chain.bundle ∷ []) looks
   pub ends : EndsWatch setup.default_port bundles ending
   pub count : length bundles ≡ after.serving.published
   pub starved : RoseJust (all_starved looks) before.watcher.starved after.watcher.starved
@@ -75,8 +78,8 @@ pub record Finishes (setup : RunSetup) (before after : LookState) (side : SideRu
 
 -- each published bundle is accepted
 pub record IsServed (default_port : ℕ) (bundle : Bundle) : Type 0 where
-  pub corefile : Corefile
-  pub accepted : IsCorefile default_port bundle.conf corefile
+  pub blocks : List Block
+  pub accepted : IsAccepted default_port bundle blocks
 
 -- what a host tells of a run: the watch where one was opened, and these sides
 abbrev pub opened_by : Option WatchState → List OpenedSide → HostTold
@@ -128,13 +131,13 @@ pub record ServesBy (setup : RunSetup) (run : RunData) (before after : HostState
   pub one_each : length run.sides ≡ length endpoints
   pub sides : AllByRecursion (TellsRun setup bundles looks) run.sides
 
--- no words are a command
+-- the words ask for no serving: they are no command, or `load`, which isn't built
 abbrev pub IsUsage : List (List ℕ) → Type 0
-IsUsage words = (command : CommandData) → IsCommand words command → ⊥
+IsUsage words = (how : ServeData) → IsCommand words (serve how) → ⊥
 
--- where the watch tells its journal, it is the one read of the Corefile, which gave this
-abbrev pub HasRead : Option WatchState → List WatchMark → Type 0
-HasRead watch journal = IfSome watch (λ w. IfSome w.journal (λ told. told ≡ journal))
+-- where the watch tells its journal, it is these reads of the first bundle
+abbrev pub HasRead : Option WatchState → List OneRead → Type 0
+HasRead watch reads = IfSome watch (λ w. IfSome w.journal (λ told. told ≡ marks_of reads))
 
 -- nothing was published
 pub record IsRefused (run : RunData) (P : Type 0) : Type 0 where
@@ -142,20 +145,36 @@ pub record IsRefused (run : RunData) (P : Type 0) : Type 0 where
   pub watch : run.watch ≢ None
   pub why : P
 
--- what the one read of the Corefile gave is refused for this
-pub record ReadWasRefused (setup : RunSetup) (why : Refusal) (run : RunData) : Type 0 where
-  pub out : ReadOut
-  pub read : HasRead run.watch (Read setup.conf out ∷ [])
-  pub refused : Refuses setup.default_port out why
+-- the reads of the first bundle came to this, and a fact of that
+pub record ReadGave (setup : RunSetup) (run : RunData) (P : Result Bundle GatherFault → Type 0)
+    : Type 0 where
+  pub reads : List OneRead
+  pub read : HasRead run.watch reads
+  pub gives : Result Bundle GatherFault
+  pub gathers : GathersFrom setup.source reads gives
+  pub is : P gives
 
--- the first bundle's text is a Corefile without a block, so that there is nothing to serve
-pub record HasNoBlock (setup : RunSetup) (run : RunData) : Type 0 where
+-- the first bundle is accepted, with these ports, and a fact of them
+pub record WasAccepted (setup : RunSetup) (gives : Result Bundle GatherFault)
+    (P : List ℕ → Type 0) : Type 0 where
+  pub bundle : Bundle
+  pub got : gives ≡ Ok bundle
+  pub blocks : List Block
+  pub accepted : IsAccepted setup.default_port bundle blocks
+  pub ports : List ℕ
+  pub ports_are : ArePorts blocks ports
+  pub is : P ports
+
+-- what was read is refused for this, or its sides are
+abbrev pub ReadWasRefused : RunSetup → Refusal → Result Bundle GatherFault → Type 0
+ReadWasRefused setup why gives =
+    Refuses setup.default_port gives why
+    ⊎ WasAccepted setup gives (λ ports. RefusesSides ports setup.workers why)
+
+-- the first bundle has no port, so that there is nothing to serve
+pub record HasNoPort (setup : RunSetup) (run : RunData) : Type 0 where
   pub watch : run.watch ≢ None
-  pub conf : List ℕ
-  pub read : HasRead run.watch (Read setup.conf (readout.Got conf) ∷ [])
-  pub corefile : Corefile
-  pub is : IsCorefile setup.default_port conf corefile
-  pub no_block : corefile.block ≡ None
+  pub gave : ReadGave setup run (λ gives. WasAccepted setup gives (λ ports. ports ≡ []))
 
 -- a worker took its last datagram, and met no want of memory
 pub record TookAll (side : SideRun) : Type 0 where
@@ -175,7 +194,7 @@ SomeFailed (side ∷ sides) = (side.worked.end ≡ ends.RecvFailed) ⊎ SomeFail
 pub record HasEnded (setup : RunSetup) (run : RunData) : Type 0 where
   pub sides : AllByRecursion TookAll run.sides
   pub none_starved : run.starved ≡ 0
-  pub nothing : run.published ≡ 0 → HasNoBlock setup run
+  pub nothing : run.published ≡ 0 → HasNoPort setup run
 
 -- some worker could not receive any more, and nothing met want of memory
 pub record HasFailed (run : RunData) : Type 0 where
@@ -188,11 +207,13 @@ pub record HasFailed (run : RunData) : Type 0 where
 abbrev pub CauseOf : Status → RunSetup → RunData → HostCounts → HostCounts → Type 0
 CauseOf status.Usage setup run before after = ⊥
 CauseOf (status.ReadFailed name) setup run before after =
-    (name ≡ setup.conf) × IsRefused run (IfSome run.watch (λ w. Rose 0 w.counts.reads))
+    IsRefused run (IfSome run.watch (λ w. Rose 0 w.counts.reads)
+    × ReadGave setup run (λ gives. gives ≡ Err (unread.ReadFailed name)))
 CauseOf status.OpenFailed setup run before after =
     (run.published ≡ 0) × Rose before.opens after.opens
 CauseOf status.TellFailed setup run before after = ⊥
-CauseOf (status.Refused why) setup run before after = IsRefused run (ReadWasRefused setup why run)
+CauseOf (status.Refused why) setup run before after =
+    IsRefused run (ReadGave setup run (ReadWasRefused setup why))
 CauseOf status.NoMemory setup run before after = Unit {0}
 CauseOf status.WorkerFailed setup run before after = HasFailed run
 CauseOf status.Ended setup run before after = HasEnded setup run
@@ -236,12 +257,12 @@ pub record IsIdle (words : List (List ℕ)) (run : RunData) (before after : Host
   pub starved : run.starved ≡ 0
   pub host : after ≡ before
 
--- the words are a command, and the run is by it
-pub record IsByCommand (words : List (List ℕ)) (run : RunData) (before after : HostState)
-    : Type 0 where
-  pub command : CommandData
-  pub words_are : IsCommand words command
-  pub runs : RunsCommand (setup_of command) run before after
+-- the words ask to serve so, and the run is by that
+pub record IsByCommand (words : List (List ℕ)) (env : List Pair) (run : RunData)
+    (before after : HostState) : Type 0 where
+  pub how : ServeData
+  pub words_are : IsCommand words (serve how)
+  pub runs : RunsCommand (setup_of env how) run before after
 
 -- the status of a run with one side, by how its worker ended and how often the worker and the looks
 -- met want of memory
@@ -257,14 +278,15 @@ IsEndStatus end starved looking status.WorkerFailed =
 IsEndStatus end starved looking status.Ended = (end ≡ ends.End) × (starved ≡ 0) × (looking ≡ 0)
 
 -- the status of a run without a first configuration
-abbrev pub IsFirstStatus : FirstFault → List ℕ → Status → Type 0
-IsFirstStatus (fault.Refused why) conf how = how ≡ status.Refused why
-IsFirstStatus fault.ReadFailed conf how = (how ≡ status.ReadFailed conf) ⊎ (how ≡ status.NoMemory)
-IsFirstStatus fault.NoMemory conf how = how ≡ status.NoMemory
+abbrev pub IsFirstStatus : FirstFault → Status → Type 0
+IsFirstStatus (fault.Refused why) how = how ≡ status.Refused why
+IsFirstStatus (fault.ReadFailed name) how = how ≡ status.ReadFailed name
+IsFirstStatus fault.NoMemory how = how ≡ status.NoMemory
 
 -- what a run is, by its words, before its status is told
-abbrev pub IsRunOf : List (List ℕ) → RunData → HostState → HostState → Type 0
-IsRunOf words run before after = IsIdle words run before after ⊎ IsByCommand words run before after
+abbrev pub IsRunOf : List (List ℕ) → List Pair → RunData → HostState → HostState → Type 0
+IsRunOf words env run before after =
+    IsIdle words run before after ⊎ IsByCommand words env run before after
 
 -- a run that ended before anything was served
 abbrev pub stopped_run : Status → Option WatchState → RunData

@@ -7,11 +7,12 @@ use Rattle.outside.specs.Causes.{RoseJust, raised}
 use Rattle.outside.specs.Marks.{Grows}
 use Rattle.outside.specs.States.{SideState, left_once}
 use Rattle.outside.specs.WatchMarks.{AddsWatch}
-use Rattle.dns_server.specs.declared.corefile.Bundle.{Bundle}
-use Rattle.dns_server.specs.declared.corefile.Corefile.{Corefile}
+use Rattle.corefile_blocks.specs.declared.bundle.Bundle.{Bundle}
+use Rattle.dns_data.specs.declared.block.Block.{Block}
+use Rattle.corefile_bundle.specs.Gathering.{Source}
 use Rattle.dns_server.specs.declared.watcher.WatchEnd.{WatchEnd}
 use Rattle.dns_server.specs.declared.worker.WorkEnd.{WorkEnd}
-use Rattle.dns_server.specs.Corefile.{IsCorefile}
+use Rattle.dns_server.specs.Accepting.{IsAccepted}
 use Rattle.dns_server.specs.Look.{reloads}
 use Rattle.dns_server.specs.States.{RunSetup, TurnState, LookState, RoundState, worked_of}
 use Rattle.dns_server.specs.WatchTurn.{WatchTurn, watch_marks, bundles_of, all_starved, AreLooks}
@@ -36,10 +37,10 @@ WorksUnlessEnded most before after None result = WorksOn most before after resul
 WorksUnlessEnded most before after (Some end) result = (result ≡ Some end) × (after ≡ before)
 
 -- a look, unless there are no more
-abbrev pub LooksUnlessEnded : List ℕ → LookState → LookState → Option WatchEnd → Option WatchEnd
+abbrev pub LooksUnlessEnded : Source → LookState → LookState → Option WatchEnd → Option WatchEnd
     → Type 0
-LooksUnlessEnded conf before after None result = TakesLook conf before after result
-LooksUnlessEnded conf before after (Some end) result = (result ≡ Some end) × (after ≡ before)
+LooksUnlessEnded source before after None result = TakesLook source before after result
+LooksUnlessEnded source before after (Some end) result = (result ≡ Some end) × (after ≡ before)
 
 -- how the worker ended, once the watcher has ended too
 abbrev pub end_of : Option WorkEnd → Option WatchEnd → Option WorkEnd
@@ -51,9 +52,9 @@ pub record StopsLooking (default_port : ℕ) (bundles : List Bundle) : Type 0 wh
   pub before : List Bundle
   pub last : Bundle
   pub last_is : bundles ≡ before ++ last ∷ []
-  pub corefile : Corefile
-  pub accepted : IsCorefile default_port last.conf corefile
-  pub no_reload : reloads corefile ≡ false
+  pub blocks : List Block
+  pub accepted : IsAccepted default_port last blocks
+  pub no_reload : reloads blocks ≡ false
 
 -- how the looks end: the watch has ended, or what serves has no `reload`
 abbrev pub EndsWatch : ℕ → List Bundle → List WatchMark → Type 0
@@ -69,8 +70,8 @@ pub record ServedRounds (setup : RunSetup) (before after : RoundState) (end : Wo
   pub bundles_are : bundles ≡ bundles_of before.serving.chain.bundle looks
   pub ending : List WatchMark
   pub told : AddsWatch before.watcher.watch after.watcher.watch
-      (flat_map (watch_marks setup.conf) looks ++ ending)
-  pub are : AreLooks setup.conf setup.default_port (before.serving.chain.bundle ∷ []) looks
+      (flat_map watch_marks looks ++ ending)
+  pub are : AreLooks setup.source setup.default_port (before.serving.chain.bundle ∷ []) looks
   pub ends : EndsWatch setup.default_port bundles ending
   pub count : length bundles ≡ after.serving.published
   pub starved : RoseJust (all_starved looks) before.watcher.starved after.watcher.starved

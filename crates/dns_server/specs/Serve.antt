@@ -1,6 +1,8 @@
 -- What a datagram means under a configuration. This server's own rule; the wire format is RFC 1035,
 -- section 4, and RFC 6891.
-use Rattle.std.specs.Prelude.{◌≡◌, ◌≤◌, ◌<◌, ◌⊎◌, ℕ, ◌+◌, ◌*◌, max, nat_eq, Bool, true, false, ◌&&◌, List, [], ◌∷◌, ◌++◌, length, replicate, Option, Some, None, option_map, is_some, if◌then◌else◌}
+use Rattle.std.specs.Prelude.{◌≡◌, ◌≤◌, ◌<◌, ◌⊎◌, ℕ, ◌+◌, ◌*◌, max, nat_eq, Bool, true, false}
+use Rattle.std.specs.Prelude.{List, [], ◌∷◌, ◌++◌, length, map, replicate, codes, slice_get}
+use Rattle.std.specs.Prelude.{Option, Some, None, option_map, is_some, unwrap_or, if◌then◌else◌}
 use Rattle.std.specs.Int.{w16, to_be_bytes}
 use Rattle.dns_data.specs.declared.opcode.TheConstants as opcodes
 use Rattle.dns_data.specs.declared.class.TheConstants as classes
@@ -19,14 +21,15 @@ use Rattle.dns_wire.specs.declared.asked.Asked.{Asked}
 use Rattle.dns_wire.specs.Written.{bit, written}
 use Rattle.outside.specs.declared.datagram.Datagram.{Datagram}
 use Rattle.outside.specs.declared.mark.Mark.{Mark}
-use Rattle.dns_server.specs.declared.corefile.Block.{Block}
-use Rattle.dns_server.specs.declared.corefile.Bundle.{Bundle}
-use Rattle.dns_server.specs.declared.corefile.Corefile.{Corefile}
+use Rattle.dns_data.specs.declared.block.Block.{Block}
+use Rattle.corefile_blocks.specs.declared.bundle.Bundle.{Bundle}
 use Rattle.dns_server.specs.declared.chain.Chain.{Chain}
 use Rattle.dns_server.specs.declared.serving.Served.{Served}
 use Rattle.dns_server.specs.declared.serving.Served.TheVariants.{Reply, Silent, NoMemory}
 use Rattle.dns_server.specs.declared.serving.Silence.TheVariants.{Short, Response}
-use Rattle.dns_server.specs.Corefile.{IsCorefile}
+use Rattle.corefile_blocks.specs.Ports.{ArePorts}
+use Rattle.plugin_api.specs.{IsIndexOf, picked}
+use Rattle.dns_server.specs.Accepting.{IsAccepted, has_name}
 use Rattle.dns_server.specs.Whoami.{whoami_of}
 
 -- the DO bit of an OPT record, clear where there is none
@@ -66,16 +69,28 @@ nothing rcode =
 abbrev pub refused_answer : AnswerData
 refused_answer = nothing rcodes.REFUSED
 
--- the block on the port at which the query came answers it, where it holds `whoami`
-abbrev pub block_answer : Option Block → Query → AnswerData
-block_answer None q = refused_answer
-block_answer (Some block) q =
-    if block.whoami && nat_eq block.port q.local then whoami_of q else refused_answer
+-- whether a block has `whoami`
+abbrev pub has_whoami : Block → Bool
+has_whoami block = has_name block.directives (codes "whoami")
+
+-- a block answers where it has `whoami`
+abbrev pub answer_by : Bool → Query → AnswerData
+answer_by whoami q = if whoami then whoami_of q else refused_answer
+
+-- the answer of the block with this number
+abbrev pub answer_of : List Block → Option ℕ → Query → AnswerData
+answer_of blocks None q = refused_answer
+answer_of blocks (Some number) q =
+    answer_by (unwrap_or (option_map has_whoami (slice_get blocks number)) false) q
+
+-- the block with the longest zone on the port at which the query came answers it
+abbrev pub block_answer : List Block → Query → AnswerData
+block_answer blocks q = answer_of blocks (picked blocks q.local q.name) q
 
 -- a class other than IN is refused (RFC 1035, section 3.2.4)
-abbrev pub class_answer : ℕ → Option Block → Query → AnswerData
-class_answer class block q =
-    if nat_eq class classes.IN then block_answer block q else refused_answer
+abbrev pub class_answer : ℕ → List Block → Query → AnswerData
+class_answer class blocks q =
+    if nat_eq class classes.IN then block_answer blocks q else refused_answer
 
 -- the OPT record of a reply to a query with this one: the payload size is 1232, the version 0, and
 -- DO the client's (RFC 6891, sections 6.1.1 and 6.2.3)
@@ -115,12 +130,12 @@ is_known_version None = true
 is_known_version (Some opt) = nat_eq opt.version 0
 
 -- the reply to a datagram that asks this: BADVERS for another version of EDNS (extended code 1),
--- else what the Corefile's block answers
-abbrev pub reply_to : Option Block → Datagram → Asked → MessageData
-reply_to block d asked =
+-- else what the block of its name answers
+abbrev pub reply_to : List Block → Datagram → Asked → MessageData
+reply_to blocks d asked =
     let q = query_of d asked in
     if is_known_version asked.opt then reply_message asked.id asked.question.class
-    (opt_reply 0 asked.opt) q (class_answer asked.question.class block q)
+    (opt_reply 0 asked.opt) q (class_answer asked.question.class blocks q)
     else reply_message asked.id asked.question.class (opt_reply 1 asked.opt) q
     (nothing rcodes.NOERROR)
 
@@ -135,19 +150,15 @@ abbrev pub limit_of : Transport → Option Opt → ℕ
 limit_of Udp opt = payload opt
 limit_of Tcp opt = limits.MESSAGE_BYTES
 
--- a bundle's text is a Corefile with this meaning
-abbrev pub IsAccepted : Bundle → ℕ → Corefile → Type 0
-IsAccepted bundle default_port corefile = IsCorefile default_port bundle.conf corefile
-
--- the reply's bytes are the meaning of the bundle's text for what the query asks that the datagram
+-- the reply's bytes are the meaning of the bundle for what the query asks that the datagram
 -- spells
 pub record Replies (bundle : Bundle) (default_port : ℕ) (d : Datagram) (reply : List ℕ)
     : Type 0 where
-  pub corefile : Corefile
-  pub accepted : IsAccepted bundle default_port corefile
+  pub blocks : List Block
+  pub accepted : IsAccepted default_port bundle blocks
   pub asked : Asked
   pub queries : QueriesThis d.bytes asked
-  pub bytes : reply ≡ written (reply_to corefile.block d asked) (limit_of d.by asked.opt)
+  pub bytes : reply ≡ written (reply_to blocks d asked) (limit_of d.by asked.opt)
 
 -- a header alone: the id, QR, an opcode, RD and an RCODE
 unfoldable pub header_reply : ℕ → ℕ → Bool → ℕ → List ℕ
@@ -178,5 +189,8 @@ Serves bundle default_port d marks (Silent Response) =
 Serves bundle default_port d marks NoMemory = marks ≡ []
 
 -- a chain that was compiled of its bundle
-abbrev pub IsChain : Chain → Type 0
-IsChain chain = IsAccepted chain.bundle chain.default_port chain.corefile
+pub record IsChain (chain : Chain) : Type 0 where
+  pub accepted : IsAccepted chain.default_port chain.bundle chain.blocks
+  pub index : IsIndexOf chain.index chain.blocks
+  pub whoami : chain.whoami.items ≡ map has_whoami chain.blocks
+  pub ports : ArePorts chain.blocks chain.ports

@@ -2,25 +2,52 @@
 -- records, before and after.
 use Rattle.std.specs.Prelude.{ℕ, List, map}
 use Rattle.outside.specs.States.{SideState, WatchState}
+use Rattle.dns_server.specs.declared.running.Setup.{Setup}
+use Rattle.dns_server.specs.declared.source.Source as declared
 use Rattle.dns_server.specs.declared.report.Done.{Done}
-use Rattle.dns_server.specs.declared.running.TheConstants as ports
 use Rattle.dns_server.specs.declared.watcher.Watcher.{Watcher}
 use Rattle.dns_server.specs.declared.worker.Tally.{Tally}
 use Rattle.dns_server.specs.declared.worker.WorkEnd.{WorkEnd}
 use Rattle.dns_server.specs.declared.worker.Worker.{Worker}
-use Rattle.dns_server.specs.Command.{CommandData}
+use Rattle.command_line.specs.Command.{ServeData}
+use Rattle.corefile_words.specs.declared.word.Pair.{Pair}
+use Rattle.corefile_bundle.specs.Gathering.{Source}
 use Rattle.dns_server.specs.Generation.{GenerationsData}
 
--- what a run is set to: the file to serve by, the port of keys that name none, and how many
--- datagrams a worker takes at most
+-- what a run is set to: the Corefile to serve by and the environment, the port of keys that name
+-- none, how many workers a port has, and how many datagrams a worker takes at most
 pub record RunSetup : Type 0 where
-  pub conf : List ℕ
+  pub source : Source
   pub default_port : ℕ
+  pub workers : ℕ
   pub most : ℕ
 
-abbrev pub setup_of : CommandData → RunSetup
-setup_of command =
-    record { conf = command.conf; default_port = ports.DEFAULT_PORT; most = command.most }
+-- what a run of one worker is set to
+abbrev pub single_setup : Source → ℕ → ℕ → RunSetup
+single_setup source default_port most =
+    record { source = source; default_port = default_port; workers = 1; most = most }
+
+abbrev pub setup_of : List Pair → ServeData → RunSetup
+setup_of env serve =
+    record {
+      source = record { conf = serve.conf; env = env };
+      default_port = serve.port;
+      workers = serve.workers;
+      most = serve.most;
+    }
+
+-- what a configuration is read from
+abbrev pub source_data : declared.Source → Source
+source_data source = record { conf = source.conf.now; env = source.env.now }
+
+abbrev pub run_setup : Setup → RunSetup
+run_setup setup =
+    record {
+      source = source_data setup.source;
+      default_port = setup.port;
+      workers = setup.workers;
+      most = setup.most;
+    }
 
 -- a worker: its side, and what it has counted
 pub record WorkerState : Type 0 where

@@ -3,6 +3,7 @@
 use Rattle.std.specs.Prelude.{◌≡◌, ◌⊎◌, ℕ, List, [], ◌∷◌}
 use Rattle.outside.specs.declared.datagram.Wrote.{Wrote}
 use Rattle.outside.specs.declared.datagram.Wrote.TheVariants as wrote
+use Rattle.corefile_words.specs.declared.word.Pair.{Pair}
 use Rattle.outside.specs.Hosts.{HostState, TellsOneLine}
 use Rattle.dns_server.specs.declared.status.Status.{Status}
 use Rattle.dns_server.specs.declared.status.Status.TheVariants as status
@@ -47,9 +48,9 @@ pub record TellsStatus (how final : Status) (before after : HostState) : Type 0 
   pub tells : TellsLine (status_text named) named final before after
 
 -- a whole run: what it did by its words, and then the line of the status that it came to
-pub record IsToldRun (words : List (List ℕ)) (run : RunData) (before after : HostState)
-    : Type 0 where
+pub record IsToldRun (words : List (List ℕ)) (env : List Pair) (run : RunData)
+    (before after : HostState) : Type 0 where
   pub how : Status
   pub quiet : HostState
-  pub runs : IsRunOf words (record run { status = how }) before quiet
+  pub runs : IsRunOf words env (record run { status = how }) before quiet
   pub tells : TellsStatus how run.status quiet after

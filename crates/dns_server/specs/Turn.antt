@@ -4,7 +4,7 @@ use Rattle.std.specs.Prelude.{◌≡◌, ◌≤◌, ℕ, ◌+◌, Bool, List, []
 use Rattle.outside.specs.declared.datagram.Datagram.{Datagram}
 use Rattle.outside.specs.declared.mark.Mark.{Mark}
 use Rattle.outside.specs.declared.mark.Mark.TheVariants.{Got, RecvFailed, Sent, Pinned, Unpinned}
-use Rattle.dns_server.specs.declared.corefile.Bundle.{Bundle}
+use Rattle.corefile_blocks.specs.declared.bundle.Bundle.{Bundle}
 use Rattle.dns_server.specs.declared.serving.Served.TheVariants.{Reply, Silent, NoMemory}
 use Rattle.dns_server.specs.declared.serving.Silence.{Silence}
 use Rattle.dns_server.specs.Serve.{Serves}

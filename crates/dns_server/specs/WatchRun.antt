@@ -1,33 +1,31 @@
 -- The watch's run: the read and the publication of the first bundle, and then looks. This server's
 -- own rule.
-use Rattle.std.specs.Prelude.{◌≡◌, ◌⊎◌, ℕ, List, [], ◌∷◌, ◌++◌, Option, IfSome}
+use Rattle.std.specs.Prelude.{◌≡◌, ℕ, List, [], ◌∷◌, ◌++◌, Option, IfSome, Ok}
 use Rattle.std.specs.List.{flat_map}
-use Rattle.outside.specs.declared.watch.ReadOut.TheVariants as readout
 use Rattle.outside.specs.declared.mark.WatchMark.{WatchMark}
-use Rattle.outside.specs.declared.mark.WatchMark.TheVariants.{Read, Published}
+use Rattle.outside.specs.declared.mark.WatchMark.TheVariants.{Published}
 use Rattle.outside.specs.Causes.{RoseJust}
 use Rattle.outside.specs.States.{WatchState}
-use Rattle.dns_server.specs.declared.corefile.Bundle.{Bundle}
-use Rattle.dns_server.specs.Opening.{IsOneRead}
+use Rattle.corefile_blocks.specs.declared.bundle.Bundle.{Bundle}
+use Rattle.corefile_bundle.specs.Gathering.{GathersFrom, OneRead, Source, marks_of}
+use Rattle.dns_server.specs.Opening.{IsReading}
 use Rattle.dns_server.specs.Rounds.{EndsWatch}
 use Rattle.dns_server.specs.States.{RunSetup}
-use Rattle.dns_server.specs.WatchTurn.{WatchTurn, watch_marks, published_by, bundles_of, all_starved, AreLooks}
+use Rattle.dns_server.specs.WatchTurn.{WatchTurn, watch_marks, published_by, bundles_of}
+use Rattle.dns_server.specs.WatchTurn.{all_starved, AreLooks}
 
 -- where the watch tells its journal, that is so
 abbrev pub Tells : Option WatchState → (List WatchMark → Type 0) → Type 0
 Tells watch P = IfSome watch (λ w. IfSome w.journal P)
 
--- nothing was published, and the Corefile was read once at most
-abbrev pub ReadsAtMostOnce : List ℕ → List WatchMark → Type 0
-ReadsAtMostOnce conf journal = (journal ≡ []) ⊎ IsOneRead conf journal
-
--- the journal is the read that gave the first bundle, its publication, these looks, and their end
-pub record TellsLooks (conf : List ℕ) (default_port : ℕ) (first : Bundle) (looks : List WatchTurn)
-    (journal : List WatchMark) : Type 0 where
+-- the journal is the reads that gave the first bundle, its publication, these looks, and their end
+pub record TellsLooks (source : Source) (default_port : ℕ) (first : Bundle)
+    (looks : List WatchTurn) (journal : List WatchMark) : Type 0 where
+  pub reads : List OneRead
+  pub gathers : GathersFrom source reads (Ok first)
   pub ending : List WatchMark
   pub told : journal
-      ≡ Read conf (readout.Got first.conf) ∷ Published 0
-      ∷ (flat_map (watch_marks conf) looks ++ ending)
+      ≡ marks_of reads ++ Published 0 ∷ (flat_map watch_marks looks ++ ending)
   pub ends : EndsWatch default_port (bundles_of first looks) ending
 
 -- the looks behind a first bundle, each by what was last published, with the bundles that they
@@ -35,13 +33,13 @@ pub record TellsLooks (conf : List ℕ) (default_port : ℕ) (first : Bundle) (l
 pub record LooksBehind (setup : RunSetup) (first : Bundle) (others : List Bundle)
     (looks : List WatchTurn) (watch : Option WatchState) (starved : ℕ) : Type 0 where
   pub published : others ≡ flat_map published_by looks
-  pub are : AreLooks setup.conf setup.default_port (first ∷ []) looks
+  pub are : AreLooks setup.source setup.default_port (first ∷ []) looks
   pub starved_is : RoseJust (all_starved looks) 0 starved
-  pub told : Tells watch (TellsLooks setup.conf setup.default_port first looks)
+  pub told : Tells watch (TellsLooks setup.source setup.default_port first looks)
 
 -- the watch's run, by the list of published bundles
 abbrev pub WatchRun : RunSetup → List Bundle → List WatchTurn → Option WatchState → ℕ → Type 0
 WatchRun setup [] looks watch starved =
-    (looks ≡ []) × (starved ≡ 0) × Tells watch (ReadsAtMostOnce setup.conf)
+    (looks ≡ []) × (starved ≡ 0) × Tells watch (IsReading setup.source)
 WatchRun setup (first ∷ others) looks watch starved =
     LooksBehind setup first others looks watch starved

@@ -1,46 +1,45 @@
 -- One turn of the watch, as a value: a look for a changed configuration, and the marks by which the
 -- watch tells it. This server's own rule.
-use Rattle.std.specs.Prelude.{◌≡◌, ◌≢◌, ℕ, ◌+◌, Bool, true, List, [], ◌∷◌, ◌++◌, length, Option, Some}
+use Rattle.std.specs.Prelude.{◌≡◌, ℕ, ◌+◌, Bool, true, List, [], ◌∷◌, ◌++◌, length}
+use Rattle.std.specs.Prelude.{Result, Ok, Err}
 use Rattle.std.specs.List.{flat_map}
+use Rattle.dns_data.specs.declared.block.Block.{Block}
 use Rattle.dns_server.specs.declared.watcher.TheConstants as waits
 use Rattle.outside.specs.declared.mark.WatchMark.{WatchMark}
 use Rattle.outside.specs.declared.mark.WatchMark.TheVariants.{Look}
-use Rattle.outside.specs.declared.watch.ReadOut.{ReadOut}
-use Rattle.outside.specs.declared.watch.ReadOut.TheVariants as readout
-use Rattle.dns_server.specs.declared.corefile.Bundle.{Bundle}
-use Rattle.dns_server.specs.declared.corefile.Corefile.{Corefile}
+use Rattle.corefile_blocks.specs.declared.bundle.Bundle.{Bundle}
+use Rattle.corefile_bundle.specs.declared.fault.GatherFault.{GatherFault}
+use Rattle.corefile_bundle.specs.Gathering.{GathersFrom, OneRead, Source, marks_of}
 use Rattle.dns_server.specs.declared.looking.Looking.{Looking}
 use Rattle.dns_server.specs.declared.looking.Looking.TheVariants as looking
-use Rattle.dns_server.specs.Corefile.{IsCorefile}
-use Rattle.dns_server.specs.Look.{AnswersLook, look_marks, read_at_most, reloads}
+use Rattle.dns_server.specs.Accepting.{IsAccepted}
+use Rattle.dns_server.specs.Look.{AnswersLook, look_marks, reloads}
 
--- a look, with what its read gave, its answer, and whether its note went out; or a look that met
--- want of memory, with what its read gave where it came to that
+-- a look, with its reads and what they came to, its answer, and whether its note went out; or a
+-- look that met want of memory, with the reads before that and what they came to
 pub data WatchTurn : Type 0 where
-  looked : ReadOut → Looking → Bool → WatchTurn
-  starved : Option ReadOut → WatchTurn
+  looked : List OneRead → Result Bundle GatherFault → Looking → Bool → WatchTurn
+  starved : List OneRead → Result Bundle GatherFault → WatchTurn
 
--- the marks of a turn of the watch over the Corefile `conf`: a look waits 30 s and up to 15 s more
-abbrev pub watch_marks : List ℕ → WatchTurn → List WatchMark
-watch_marks conf (looked out answer flag) =
-    Look waits.INTERVAL waits.JITTER ∷ look_marks conf out answer flag
-watch_marks conf (starved out) = Look waits.INTERVAL waits.JITTER ∷ read_at_most conf out
+-- the marks of a turn of the watch: a look waits 30 s and up to 15 s more
+abbrev pub watch_marks : WatchTurn → List WatchMark
+watch_marks (looked reads gives answer flag) =
+    Look waits.INTERVAL waits.JITTER ∷ look_marks reads answer flag
+watch_marks (starved reads gives) = Look waits.INTERVAL waits.JITTER ∷ marks_of reads
 
--- the bundle that a read gave
-abbrev pub read_bundle : ReadOut → List Bundle
-read_bundle (readout.Got bytes) = record { conf = bytes } ∷ []
-read_bundle readout.Missing = []
-read_bundle readout.Failed = []
-read_bundle readout.NoMemory = []
+-- the bundle that a gathering gave
+abbrev pub gathered : Result Bundle GatherFault → List Bundle
+gathered (Ok bundle) = bundle ∷ []
+gathered (Err fault) = []
 
-abbrev pub published_as : ReadOut → Looking → List Bundle
-published_as out (looking.Published serial) = read_bundle out
-published_as out other = []
+abbrev pub published_as : Result Bundle GatherFault → Looking → List Bundle
+published_as gives (looking.Published serial) = gathered gives
+published_as gives other = []
 
 -- the bundle that a turn published, where it published one
 abbrev pub published_by : WatchTurn → List Bundle
-published_by (looked out answer flag) = published_as out answer
-published_by (starved out) = []
+published_by (looked reads gives answer flag) = published_as gives answer
+published_by (starved reads gives) = []
 
 -- the bundles that were published: the first, and those that the turns published
 abbrev pub bundles_of : Bundle → List WatchTurn → List Bundle
@@ -48,41 +47,41 @@ bundles_of first looks = first ∷ flat_map published_by looks
 
 -- 1 for a turn that met want of memory
 abbrev pub look_starved : WatchTurn → ℕ
-look_starved (looked out answer flag) = 0
-look_starved (starved out) = 1
+look_starved (looked reads gives answer flag) = 0
+look_starved (starved reads gives) = 1
 
 -- how many of the turns met want of memory
 abbrev pub all_starved : List WatchTurn → ℕ
 all_starved [] = 0
 all_starved (turn ∷ turns) = look_starved turn + all_starved turns
 
--- the last bundle that was published is accepted, has this meaning, and is to be looked at again
-pub record IsLooked (default_port : ℕ) (bundles : List Bundle) (P : Bundle → Corefile → Type 0)
-    : Type 0 where
+-- the last bundle that was published is accepted, has these blocks, and is to be looked at again
+pub record IsLooked (default_port : ℕ) (bundles : List Bundle)
+    (P : Bundle → List Block → Type 0) : Type 0 where
   pub before : List Bundle
   pub last : Bundle
   pub last_is : bundles ≡ before ++ last ∷ []
-  pub corefile : Corefile
-  pub accepted : IsCorefile default_port last.conf corefile
-  pub again : reloads corefile ≡ true
-  pub is : P last corefile
+  pub blocks : List Block
+  pub accepted : IsAccepted default_port last blocks
+  pub again : reloads blocks ≡ true
+  pub is : P last blocks
 
 -- the turn came to what a look behind these published bundles comes to
-abbrev pub IsLook : List ℕ → ℕ → List Bundle → WatchTurn → Type 0
-IsLook conf default_port bundles (looked out answer flag) =
-    IsLooked default_port bundles (λ last corefile. AnswersLook conf
+abbrev pub IsLook : Source → ℕ → List Bundle → WatchTurn → Type 0
+IsLook source default_port bundles (looked reads gives answer flag) =
+    GathersFrom source reads gives × IsLooked default_port bundles (λ last blocks. AnswersLook
     (record {
       default_port = default_port;
-      conf = last.conf;
-      corefile = corefile;
+      bundle = last;
+      blocks = blocks;
       published = length bundles;
-    }) out answer)
-IsLook conf default_port bundles (starved out) =
-    IsLooked default_port bundles (λ last corefile. out ≢ Some readout.NoMemory)
+    }) gives answer)
+IsLook source default_port bundles (starved reads gives) =
+    GathersFrom source reads gives × IsLooked default_port bundles (λ last blocks. Unit {0})
 
 -- turns one after another, behind these published bundles
-abbrev pub AreLooks : List ℕ → ℕ → List Bundle → List WatchTurn → Type 0
-AreLooks conf default_port bundles [] = Unit {0}
-AreLooks conf default_port bundles (turn ∷ turns) =
-    IsLook conf default_port bundles turn
-    × AreLooks conf default_port (bundles ++ published_by turn) turns
+abbrev pub AreLooks : Source → ℕ → List Bundle → List WatchTurn → Type 0
+AreLooks source default_port bundles [] = Unit {0}
+AreLooks source default_port bundles (turn ∷ turns) =
+    IsLook source default_port bundles turn
+    × AreLooks source default_port (bundles ++ published_by turn) turns

@@ -7,7 +7,7 @@ use Rattle.outside.specs.declared.mark.Mark.TheVariants.{RecvEnd, RecvFailed, Se
 use Rattle.outside.specs.Causes.{Rose}
 use Rattle.outside.specs.Marks.{Adds, Grows}
 use Rattle.outside.specs.States.{SideState, Stays}
-use Rattle.dns_server.specs.declared.corefile.Bundle.{Bundle}
+use Rattle.corefile_blocks.specs.declared.bundle.Bundle.{Bundle}
 use Rattle.dns_server.specs.declared.serving.Served.{Served}
 use Rattle.dns_server.specs.declared.serving.Served.TheVariants.{Reply, Silent, NoMemory}
 use Rattle.dns_server.specs.declared.worker.Turned.{Turned}

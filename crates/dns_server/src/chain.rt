@@ -1,10 +1,19 @@
-use crate::corefile::{Bundle, Corefile};
+use crate::looking::Ports;
+use corefile_blocks::Bundle;
+use dns_data::Blocks;
+use plugin_api::BlockIndex;
 
-/// A configuration as it serves: the bundle, and what its text says, read once.
+/// A configuration as it serves: the bundle, and what it says, read once.
 #[derive(Debug, Drop)]
 pub struct Chain {
     pub bundle: Bundle,
     /// The port of keys that name none.
     pub default_port: u16,
-    pub corefile: Corefile,
+    pub blocks: Blocks,
+    /// Which block serves a name.
+    pub index: BlockIndex,
+    /// Of each block, whether it has `whoami`.
+    pub whoami: Vec<bool>,
+    /// The ports of the blocks, in ascending order.
+    pub ports: Ports,
 }

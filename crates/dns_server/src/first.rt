@@ -1,55 +1,47 @@
 ghost use Rattle.outside.specs.States.{WatchStays};
-ghost use Rattle.dns_server.specs.Opening.{ReadsFirst, MakesChain};
+ghost use Rattle.dns_server.specs.Opening.{ReadsFirst};
+ghost use Rattle.dns_server.specs.States.{source_data};
 
 use crate::chain::Chain;
-use crate::corefile::{Bundle, ReadFault, read_corefile};
+use crate::checking::{CheckFault, check};
 use crate::refusal::Refusal;
-use dns_data::{Bytes, Text};
-use outside::{ReadOut, Watch};
+use crate::source::Source;
+use corefile_bundle::{GatherFault, gather};
+use dns_data::Text;
+use outside::Watch;
 use std::alloc::Global;
 
 /// Why there is no first configuration.
-#[derive(Clone, Copy, Debug, PartialEq, Eq)]
+#[derive(Debug, Drop)]
 pub enum FirstFault {
     Refused(Refusal),
-    ReadFailed,
+    /// The file of this name could not be read.
+    ReadFailed(Text),
     NoMemory,
 }
 
-/// Reads the Corefile by one read of the watch, and makes the chain of it.
+/// Reads the first bundle over a watch, and makes the chain of it.
 pub fn read_first<W: Watch>(
     alloc: Global,
     watch: &mut W,
-    conf: &Text,
+    source: Source<'_>,
     default_port: u16,
 ) -> Result<Chain, FirstFault>
-    ensures reads { ReadsFirst conf.now default_port
+    ensures reads { ReadsFirst (source_data source.entry) default_port
         (W.state watch.old) (W.state watch.new) result }
     ensures stays { WatchStays (W.state watch.old) (W.state watch.new) }
 {
-    match watch.read(conf) {
-        ReadOut::Got(bytes) => match chain_of(alloc, bytes, default_port) {
+    match gather(alloc, watch, source.conf, source.env) {
+        Ok(bundle) => match check(alloc, bundle, default_port) {
             Ok(chain) => Ok(chain),
-            Err(ReadFault::Refused(refusal)) => Err(FirstFault::Refused(refusal)),
-            Err(ReadFault::NoMemory) => Err(FirstFault::NoMemory),
+            Err(CheckFault::Refused(why)) => Err(FirstFault::Refused(why)),
+            Err(CheckFault::NoMemory) => Err(FirstFault::NoMemory),
         },
-        ReadOut::Missing => Err(FirstFault::Refused(Refusal::NoCorefile)),
-        ReadOut::Failed => Err(FirstFault::ReadFailed),
-        ReadOut::NoMemory => Err(FirstFault::NoMemory),
+        Err(GatherFault::NoCorefile) => Err(FirstFault::Refused(Refusal::NoCorefile)),
+        Err(GatherFault::ReadFailed { name }) => Err(FirstFault::ReadFailed(name)),
+        Err(GatherFault::TooMany { what, number }) => {
+            Err(FirstFault::Refused(Refusal::TooMany { what, number }))
+        }
+        Err(GatherFault::NoMemory) => Err(FirstFault::NoMemory),
     }
-}
-
-// The chain of a bundle's bytes.
-pub(crate) fn chain_of(alloc: Global, conf: Bytes, default_port: u16) -> Result<Chain, ReadFault>
-    ensures { MakesChain conf default_port result }
-{
-    let corefile = match read_corefile(alloc, conf.as_slice(), default_port) {
-        Ok(corefile) => corefile,
-        Err(fault) => return Err(fault),
-    };
-    Ok(Chain {
-        bundle: Bundle { conf },
-        default_port,
-        corefile,
-    })
 }

@@ -1,22 +1,20 @@
-//! The server: words of the command line in, a report out. It reads a Corefile, opens a side for
-//! its port, and answers each datagram by the meaning of the Corefile's text.
+//! The server: words of the command line in, a report out. It reads a Corefile and the files that it
+//! names, opens a side for its port, and answers each datagram by the meaning of what it read.
 #![tactic(auto)]
 
-mod block;
 mod chain;
-mod command;
-mod corefile;
+mod checking;
 mod first;
 mod generation;
 mod look;
 mod looking;
-mod number;
 mod refusal;
 mod report;
 mod room;
 mod rounds;
 mod running;
 mod serving;
+mod source;
 mod status;
 mod telling;
 #[cfg(test)]
@@ -26,8 +24,7 @@ mod whoami;
 mod worker;
 
 pub use chain::Chain;
-pub use command::{Command, read_command};
-pub use corefile::{Block, Bundle, Corefile, CorefileFault, ReadFault, read_corefile};
+pub use checking::{CheckFault, check};
 pub use first::{FirstFault, read_first};
 pub use generation::Generations;
 pub use look::look_once;
@@ -36,8 +33,9 @@ pub use refusal::Refusal;
 pub use report::{Done, Report};
 pub use room::Room;
 pub use rounds::serve_rounds;
-pub use running::{DEFAULT_PORT, run};
+pub use running::run;
 pub use serving::{Served, Silence, serve};
+pub use source::Source;
 pub use status::Status;
 pub use telling::tell_status;
 pub use watcher::{INTERVAL, JITTER, WatchEnd, Watcher, take_look};

@@ -1,132 +1,130 @@
-ghost use Rattle.std.specs.Prelude.{ℕ, ◌≡◌, ◌≢◌, ◌↔◌, false, List, IsTrue, IfOk};
-ghost use Rattle.outside.specs.declared.watch.ReadOut.TheVariants.{Got};
+ghost use Rattle.std.specs.Prelude.{ℕ, ◌≡◌, ◌≢◌, false, List, IfOk, IsTrue, ◌↔◌, Ok, OnOk, ◌++◌};
 ghost use Rattle.outside.specs.Causes.{Rose};
 ghost use Rattle.outside.specs.States.{WatchStays};
-ghost use Rattle.dns_server.specs.Look.{Finds, LooksOnce, NotesLine, NotesLook, PublishesNext, ports_of, reloads};
+ghost use Rattle.corefile_blocks.specs.{IsReadable};
+ghost use Rattle.dns_server.specs.Look.{Finds, LooksOnce, NotesLine, NotesLook, PublishesNext, reloads};
 ghost use Rattle.dns_server.specs.Serve.{IsChain};
+ghost use Rattle.dns_server.specs.States.{source_data};
 
 use crate::chain::Chain;
-use crate::corefile::{Corefile, ReadFault};
-use crate::first::chain_of;
+use crate::checking::{CheckFault, check, has_name};
 use crate::generation::Generations;
 use crate::looking::{Looking, Ports};
 use crate::refusal::Refusal;
-use dns_data::{Bytes, Copies, NoMemory, Seq, Text};
-use outside::{ReadOut, Watch};
+use crate::source::Source;
+use corefile_blocks::Bundle;
+use corefile_bundle::{GatherFault, gather};
+use dns_data::{Block, NoMemory, Seq};
+use outside::Watch;
 use pin_core::MOST_SERIALS;
 use std::alloc::Global;
 
-/// What a read of the Corefile comes to: the answer of the look, or a chain that is to serve next.
+/// What a gathering comes to: the answer of the look, or a chain that is to serve next.
 pub(crate) enum Found {
     Kept(Looking),
     Next(Chain),
 }
 
-/// Looks once for a changed configuration: reads the Corefile, publishes what it means where that
-/// may serve, and notes the line of the answer. Whatever the answer but `Published`, what serves
-/// stays.
+/// Looks once for a changed configuration: reads the Corefile and the files that it names,
+/// publishes what they mean where that may serve, and notes the line of the answer. Whatever the
+/// answer but `Published`, what serves stays.
 pub fn look_once<W: Watch>(
     alloc: Global,
     watch: &mut W,
-    conf: &Text,
+    source: Source<'_>,
     generations: &mut Generations,
 ) -> Looking
     requires idle { generations.old.pinned ≡ false }
     requires chain { IsChain generations.old.chain }
-    ensures looks { LooksOnce conf.now generations.old generations.new
+    ensures looks { LooksOnce (source_data source.entry) generations.old generations.new
         (W.state watch.old) (W.state watch.new) result }
     ensures stays { WatchStays (W.state watch.old) (W.state watch.new) }
     ensures read { (name : List ℕ) → result ≡ Looking.ReadFailed name
         → Rose (W.state watch.old).counts.reads (W.state watch.new).counts.reads }
 {
-    if !reloads(&generations.chain().corefile) {
+    if !reloads(generations.chain().blocks.as_slice()) {
         return Looking::NoReload;
     }
-    let read = watch.read(conf);
-    match find(alloc, read, conf, generations.chain()) {
+    let gathered = gather(alloc, watch, source.conf, source.env);
+    match find(alloc, gathered, generations.chain()) {
         Found::Kept(looking) => note_look(alloc, watch, looking),
         Found::Next(chain) => publish_next(alloc, watch, chain, generations),
     }
 }
 
-// What the read of the Corefile comes to, beside what serves.
-fn find(alloc: Global, read: ReadOut, conf: &Text, current: &Chain) -> Found
-    requires { IsChain current.now }
-    ensures { Finds conf.now current.now read result }
+// What a gathering comes to, beside what serves.
+fn find(alloc: Global, gathered: Result<Bundle, GatherFault>, current: &Chain) -> Found
+    requires current { IsChain current.now }
+    requires readable { IfOk gathered (λ bundle. IsReadable bundle) }
+    ensures { Finds current.now gathered result }
 {
-    match read {
-        ReadOut::Got(bytes) => compare(alloc, bytes, current),
-        ReadOut::Missing => Found::Kept(Looking::Refused(Refusal::NoCorefile)),
-        ReadOut::Failed => match conf.copy(alloc) {
-            Ok(name) => Found::Kept(Looking::ReadFailed(name)),
-            Err(NoMemory) => Found::Kept(Looking::NoMemory),
-        },
-        ReadOut::NoMemory => Found::Kept(Looking::NoMemory),
+    match gathered {
+        Ok(bundle) => compare(alloc, bundle, current),
+        Err(GatherFault::NoCorefile) => Found::Kept(Looking::Refused(Refusal::NoCorefile)),
+        Err(GatherFault::ReadFailed { name }) => Found::Kept(Looking::ReadFailed(name)),
+        Err(GatherFault::TooMany { what, number }) => {
+            Found::Kept(Looking::Refused(Refusal::TooMany { what, number }))
+        }
+        Err(GatherFault::NoMemory) => Found::Kept(Looking::NoMemory),
     }
 }
 
-// What the bytes of a Corefile come to.
-fn compare(alloc: Global, bytes: Bytes, current: &Chain) -> Found
-    requires { IsChain current.now }
-    ensures { (conf : List ℕ) → Finds conf current.now (Got bytes) result }
+// What a bundle comes to.
+fn compare(alloc: Global, bundle: Bundle, current: &Chain) -> Found
+    requires current { IsChain current.now }
+    requires readable { IsReadable bundle }
+    ensures { Finds current.now (Ok bundle) result }
 {
-    if bytes.is(current.bundle.conf.as_slice()) {
+    if bundle.equals(&current.bundle) {
         return Found::Kept(Looking::Same);
     }
-    match chain_of(alloc, bytes, current.default_port) {
+    match check(alloc, bundle, current.default_port) {
         Ok(chain) => compare_ports(alloc, chain, current),
-        Err(ReadFault::Refused(refusal)) => Found::Kept(Looking::Refused(refusal)),
-        Err(ReadFault::NoMemory) => Found::Kept(Looking::NoMemory),
+        Err(CheckFault::Refused(refusal)) => Found::Kept(Looking::Refused(refusal)),
+        Err(CheckFault::NoMemory) => Found::Kept(Looking::NoMemory),
     }
 }
 
-// What a chain of other bytes comes to: a reload keeps the ports.
+// What the chain of another bundle comes to: a reload keeps the ports.
 fn compare_ports(alloc: Global, chain: Chain, current: &Chain) -> Found
     requires current { IsChain current.now }
     requires chain { IsChain chain }
     requires port { chain.default_port ≡ current.now.default_port }
-    requires differs { chain.bundle.conf ≢ current.now.bundle.conf }
-    ensures { (conf : List ℕ) → Finds conf current.now (Got chain.bundle.conf) result }
+    requires differs { chain.bundle ≢ current.now.bundle }
+    ensures { Finds current.now (Ok chain.bundle) result }
 {
-    if has_same_ports(&chain.corefile, &current.corefile) {
+    if is_same_ports(chain.ports.as_slice(), current.ports.as_slice()) {
         return Found::Next(chain);
     }
-    let Ok(kept) = ports_of(alloc, &current.corefile) else {
+    let Ok(kept) = copy_ports(alloc, current.ports.as_slice()) else {
         return Found::Kept(Looking::NoMemory);
     };
-    let Ok(read) = ports_of(alloc, &chain.corefile) else {
-        return Found::Kept(Looking::NoMemory);
-    };
-    Found::Kept(Looking::PortsDiffer { kept, read })
+    Found::Kept(Looking::PortsDiffer {
+        kept,
+        read: chain.ports,
+    })
 }
 
-pub(crate) fn reloads(corefile: &Corefile) -> bool
-    ensures { result ≡ reloads corefile.now }
+pub(crate) fn reloads(blocks: &[Block]) -> bool
+    ensures { result ≡ reloads blocks.now }
 {
-    match corefile.block {
-        Some(block) => block.reload,
-        None => false,
-    }
+    blocks
+        .iter()
+        .any(|block| has_name(block.directives.as_slice(), "reload"))
 }
 
-fn has_same_ports(a: &Corefile, b: &Corefile) -> bool
-    ensures { IsTrue result ↔ (ports_of a.now ≡ ports_of b.now) }
+fn is_same_ports(a: &[u16], b: &[u16]) -> bool
+    ensures { IsTrue result ↔ (a.now ≡ b.now) }
 {
-    match (a.block, b.block) {
-        (Some(a), Some(b)) => a.port == b.port,
-        (None, None) => true,
-        _ => false,
-    }
+    a == b
 }
 
-fn ports_of(alloc: Global, corefile: &Corefile) -> Result<Ports, NoMemory>
-    ensures { IfOk result (λ ports. ports ≡ ports_of corefile.now) }
+fn copy_ports(alloc: Global, ports: &[u16]) -> Result<Ports, NoMemory>
+    ensures { IfOk result (λ copy. copy ≡ ports.now) }
 {
-    let mut ports = Seq::new(alloc);
-    if let Some(block) = corefile.block {
-        ports.push(block.port)?;
-    }
-    Ok(ports)
+    let mut copy = Vec::new(alloc);
+    copy.extend_from_slice(ports)?;
+    Ok(Seq::of(copy))
 }
 
 // Notes the line of an answer, where it has one.

@@ -1,16 +1,21 @@
-use crate::corefile::CorefileFault;
-use corefile_words::WordsFault;
+ghost use Rattle.std.specs.Prelude.{◌≡◌};
+ghost use Rattle.dns_server.specs.Messages.{limit_text, why_text};
+
+use corefile_blocks::{BlockWhy, CorefileFault, WordsFault};
+use dns_data::Limit;
 use std::fmt;
 use std::fmt::{Display, Formatter, Write};
 
-/// Why the first configuration is not served.
+/// Why a configuration is not served.
 #[derive(Clone, Copy, Debug, PartialEq, Eq)]
 pub enum Refusal {
     NoCorefile,
     Corefile(CorefileFault),
     /// The line of a directive that no plugin has.
     Unknown { line: u32 },
-    /// The Corefile has a form that is not built yet.
+    /// The number is the first that is too large.
+    TooMany { what: Limit, number: u64 },
+    /// More than one side, which isn't built yet.
     Unbuilt,
 }
 
@@ -31,8 +36,64 @@ impl Display for Refusal {
                 }
                 WordsFault::NoMemory => f.write_str("out of memory"),
             },
+            Refusal::Corefile(CorefileFault::Block { line, why }) => {
+                write!(f, "corefile line {line}: block: {}", why_text(*why))
+            }
+            Refusal::Corefile(CorefileFault::NoSnippet { line }) => {
+                write!(f, "corefile line {line}: no snippet or file")
+            }
+            Refusal::Corefile(CorefileFault::ImportLoop { line }) => {
+                write!(f, "corefile line {line}: import too deep")
+            }
+            Refusal::Corefile(CorefileFault::DoubleKey { line }) => {
+                write!(f, "corefile line {line}: zone and port given twice")
+            }
+            Refusal::Corefile(CorefileFault::TooMany { what, number }) => {
+                write!(f, "too many {}: {number}", limit_text(*what))
+            }
+            Refusal::Corefile(CorefileFault::NoMemory) => f.write_str("out of memory"),
             Refusal::Unknown { line } => write!(f, "corefile line {line}: unknown directive"),
+            Refusal::TooMany { what, number } => {
+                write!(f, "too many {}: {number}", limit_text(*what))
+            }
             Refusal::Unbuilt => f.write_str("not built yet"),
         }
+    }
+}
+
+// Why lines are no blocks.
+fn why_text(why: BlockWhy) -> &'static str
+    ensures { result.now ≡ why_text why }
+{
+    match why {
+        BlockWhy::NoKey => "nokey",
+        BlockWhy::Scheme => "scheme",
+        BlockWhy::Port => "port",
+        BlockWhy::Zone => "zone",
+        BlockWhy::Cidr => "cidr",
+        BlockWhy::DeepBrace => "deepbrace",
+        BlockWhy::OpenBlock => "openblock",
+        BlockWhy::StrayBrace => "straybrace",
+        BlockWhy::Outside => "outside",
+        BlockWhy::ImportArgs => "importargs",
+        BlockWhy::SnippetName => "snippetname",
+    }
+}
+
+// Of what there are too many.
+fn limit_text(what: Limit) -> &'static str
+    ensures { result.now ≡ limit_text what }
+{
+    match what {
+        Limit::Workers => "workers",
+        Limit::Blocks => "blocks",
+        Limit::Directives => "directives",
+        Limit::Lines => "lines",
+        Limit::Patterns => "patterns",
+        Limit::FileBytes => "file bytes",
+        Limit::BundleBytes => "bundle bytes",
+        Limit::Files => "files",
+        Limit::ZoneRecords => "zone records",
+        Limit::Upstreams => "upstreams",
     }
 }

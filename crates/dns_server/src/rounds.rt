@@ -4,13 +4,14 @@ ghost use Rattle.outside.specs.Causes.{RoseBy};
 ghost use Rattle.outside.specs.States.{WatchStays};
 ghost use Rattle.dns_server.specs.Rounds.{ServedRounds, WorksUnlessEnded, LooksUnlessEnded, end_of};
 ghost use Rattle.dns_server.specs.Serve.{IsChain};
-ghost use Rattle.dns_server.specs.States.{round_state, watcher_state, worker_state};
+ghost use Rattle.dns_server.specs.States.{round_state, single_setup, source_data};
+ghost use Rattle.dns_server.specs.States.{watcher_state, worker_state};
 ghost use Rattle.dns_server.specs.Tally.{IsIdle};
 
 use crate::generation::Generations;
+use crate::source::Source;
 use crate::watcher::{WatchEnd, Watcher, take_look};
 use crate::worker::{WorkEnd, Worker, work_once};
-use dns_data::Text;
 use outside::{Side, Watch};
 use std::alloc::Global;
 use std::sync::Wait;
@@ -22,7 +23,7 @@ pub fn serve_rounds<R: Wait, S: Side, W: Watch>(
     alloc: Global,
     worker: &mut Worker<S>,
     watcher: &mut Watcher<W>,
-    conf: &Text,
+    source: Source<'_>,
     generations: &mut Generations,
     most: u64,
 ) -> WorkEnd
@@ -34,7 +35,7 @@ pub fn serve_rounds<R: Wait, S: Side, W: Watch>(
     requires some { 0 < most }
     requires most { most ≤ limits.TURNS }
     ensures serves { ServedRounds
-        (record { conf = conf.now; default_port = generations.old.chain.default_port; most = most })
+        (single_setup (source_data source.entry) generations.old.chain.default_port most)
         (round_state S.state W.state worker.old watcher.old generations.old)
         (round_state S.state W.state worker.new watcher.new generations.new)
         result }
@@ -49,7 +50,7 @@ pub fn serve_rounds<R: Wait, S: Side, W: Watch>(
     let mut watched = None;
     for _ in rt.forever() {
         worked = work_unless_ended(alloc, worker, generations, most, worked);
-        watched = look_unless_ended(alloc, watcher, conf, generations, watched);
+        watched = look_unless_ended(alloc, watcher, source, generations, watched);
         if let Some(end) = end_of(worked, watched) {
             return end;
         }
@@ -102,13 +103,13 @@ fn work_unless_ended<S: Side>(
 fn look_unless_ended<W: Watch>(
     alloc: Global,
     watcher: &mut Watcher<W>,
-    conf: &Text,
+    source: Source<'_>,
     generations: &mut Generations,
     ended: Option<WatchEnd>,
 ) -> Option<WatchEnd>
     requires idle { generations.old.pinned ≡ false }
     requires chain { IsChain generations.old.chain }
-    ensures looks { LooksUnlessEnded conf.now
+    ensures looks { LooksUnlessEnded (source_data source.entry)
         (record { watcher = watcher_state W.state watcher.old; serving = generations.old })
         (record { watcher = watcher_state W.state watcher.new; serving = generations.new })
         ended result }
@@ -117,5 +118,5 @@ fn look_unless_ended<W: Watch>(
     if ended.is_some() {
         return ended;
     }
-    take_look(alloc, watcher, conf, generations)
+    take_look(alloc, watcher, source, generations)
 }

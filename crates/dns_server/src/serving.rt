@@ -1,12 +1,13 @@
 ghost use Rattle.dns_data.specs.declared.limit.TheConstants as limits;
-ghost use Rattle.std.specs.Prelude.{◌≡◌, ◌≤◌, ◌<◌, [], IfOk, option_map};
-ghost use Rattle.dns_server.specs.Serve.{Serves, IsChain, block_answer, class_answer, header_reply, is_known_version, limit_of, nothing, opt_reply, query_of, reply_to, reply_message};
+ghost use Rattle.std.specs.Prelude.{◌≡◌, ◌≤◌, ◌<◌, [], false, IfOk, option_map, slice_get, unwrap_or};
+ghost use Rattle.dns_server.specs.Serve.{Serves, IsChain, block_answer, class_answer, has_whoami, header_reply};
+ghost use Rattle.dns_server.specs.Serve.{is_known_version, limit_of, nothing, opt_reply};
+ghost use Rattle.dns_server.specs.Serve.{query_of, reply_to, reply_message};
 ghost use Rattle.dns_data.specs.Message.{AreCodes};
 ghost use Rattle.dns_wire.specs.Written.{written};
 ghost use Rattle.dns_wire.specs.Assembled.{message_of};
 
 use crate::chain::Chain;
-use crate::corefile::Block;
 use crate::room::Room;
 use crate::whoami::whoami_answer;
 use dns_data::{
@@ -38,7 +39,7 @@ pub fn serve(alloc: Global, chain: &Chain, datagram: &Datagram, room: &mut Room)
     ensures { Serves chain.now.bundle chain.now.default_port datagram.now [] result }
 {
     match read_asked(alloc, datagram.bytes.as_slice()) {
-        Ok(asked) => match reply(alloc, chain.corefile.block, datagram, asked, room) {
+        Ok(asked) => match reply(alloc, chain, datagram, asked, room) {
             Ok(bytes) => Served::Reply(bytes),
             Err(NoMemory) => Served::NoMemory,
         },
@@ -70,20 +71,21 @@ fn header_reply(alloc: Global, head: Head, rcode: u8) -> Result<Bytes, NoMemory>
 // The reply to what a query asks.
 fn reply(
     alloc: Global,
-    block: Option<Block>,
+    chain: &Chain,
     datagram: &Datagram,
     asked: Asked,
     room: &mut Room,
 ) -> Result<Bytes, NoMemory>
-    ensures { IfOk result (λ bytes. bytes
-        ≡ written (reply_to block datagram.now asked) (limit_of datagram.now.by asked.opt)) }
+    requires { IsChain chain.now }
+    ensures { IfOk result (λ bytes. bytes ≡ written (reply_to chain.now.blocks datagram.now asked)
+        (limit_of datagram.now.by asked.opt)) }
 {
     let (id, class, opt) = (asked.id, asked.question.class, asked.opt);
     let limit = limit_of(datagram.by, opt);
     let query = query_of(datagram, asked);
     let records = room.take_records(alloc);
     let (ext, answer) = if is_known_version(opt) {
-        (0, class_answer(alloc, class, block, &query, records)?)
+        (0, class_answer(alloc, class, chain, &query, records)?)
     } else {
         (
             rcode::BADVERS_UPPER,
@@ -165,33 +167,46 @@ fn query_of(datagram: &Datagram, asked: Asked) -> Query
 fn class_answer(
     alloc: Global,
     class: u16,
-    block: Option<Block>,
+    chain: &Chain,
     query: &Query,
     records: Records,
 ) -> Result<Answer, NoMemory>
-    requires { records ≡ [] }
-    ensures { IfOk result (λ answer. answer ≡ class_answer class block query.now) }
+    requires chain { IsChain chain.now }
+    requires none { records ≡ [] }
+    ensures { IfOk result (λ answer. answer ≡ class_answer class chain.now.blocks query.now) }
 {
     if class == class::IN {
-        return block_answer(alloc, block, query, records);
+        return block_answer(alloc, chain, query, records);
     }
     Ok(nothing(alloc, rcode::REFUSED, records))
 }
 
+// The answer of the block that serves the name.
 fn block_answer(
     alloc: Global,
-    block: Option<Block>,
+    chain: &Chain,
     query: &Query,
     records: Records,
 ) -> Result<Answer, NoMemory>
-    requires { records ≡ [] }
-    ensures { IfOk result (λ answer. answer ≡ block_answer block query.now) }
+    requires chain { IsChain chain.now }
+    requires none { records ≡ [] }
+    ensures { IfOk result (λ answer. answer ≡ block_answer chain.now.blocks query.now) }
 {
-    match block {
-        Some(block) if block.whoami && block.port == query.local => {
-            whoami_answer(alloc, query, records)
-        }
+    match chain.index.find(query.local, &query.name) {
+        Some(number) if answers(chain, number) => whoami_answer(alloc, query, records),
         _ => Ok(nothing(alloc, rcode::REFUSED, records)),
+    }
+}
+
+// Whether the block with this number has `whoami`.
+fn answers(chain: &Chain, number: u32) -> bool
+    requires { IsChain chain.now }
+    ensures { result
+        ≡ unwrap_or (option_map has_whoami (slice_get chain.now.blocks number)) false }
+{
+    match chain.whoami.get(number as usize) {
+        Some(whoami) => *whoami,
+        None => false,
     }
 }
 

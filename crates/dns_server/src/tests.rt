@@ -3,7 +3,7 @@ mod looks;
 mod statuses;
 
 use dns_data::NoMemory;
-use hosts::{Observed, SERVE, datagram, finds, gets, ran, ran_once};
+use hosts::{Observed, SERVE, datagram, finds, finds_two, gets, ran, ran_once};
 use outside::SideScript;
 use std::alloc::Global;
 use std::sync::Wait;
@@ -32,6 +32,9 @@ const REFUSAL: [u8; 29] = [
 
 const COREFILE: &[u8] = b".:53 {\nwhoami\n}\n";
 
+// Of two blocks the one with the longest zone answers.
+const IMPORTING: &[u8] = b"(r) {\nreload\n}\norg {\n}\nexample.org {\nimport r\nimport /rules\n}\n";
+
 #[test]
 fn a_query_gets_the_address_of_its_client(rt: HostRuntime) -> Result<(), Fail> {
     let ran = ran_once(&rt, rt.alloc(), COREFILE, &QUERY)?;
@@ -46,6 +49,16 @@ fn a_query_gets_the_address_of_its_client(rt: HostRuntime) -> Result<(), Fail> {
 fn a_block_answers_on_its_own_port(rt: HostRuntime) -> Result<(), Fail> {
     let ran = ran_at(&rt, rt.alloc(), b".:5353 {\nwhoami\n}\n", 53)?;
     assert!(rt; ran.has_sent(&[&REFUSAL]));
+    Ok(())
+}
+
+#[test]
+fn what_a_corefile_imports_is_read(rt: HostRuntime) -> Result<(), Fail> {
+    let watch = finds_two(rt.alloc(), IMPORTING, "/rules", b"whoami\n")?;
+    let side = gets(rt.alloc(), &[&QUERY])?;
+    let ran = ran(&rt, rt.alloc(), SERVE, watch, side)?;
+    assert!(rt; ran.has_ended() && ran.has_sent(&[&REPLY]));
+    assert!(rt; ran.watch_tells("RRPE"));
     Ok(())
 }
 

@@ -1,13 +1,13 @@
 ghost use Rattle.std.specs.Prelude.{◌≡◌, false, None};
 ghost use Rattle.outside.specs.States.{WatchStays};
 ghost use Rattle.dns_server.specs.Serve.{IsChain};
-ghost use Rattle.dns_server.specs.States.{watcher_state};
+ghost use Rattle.dns_server.specs.States.{source_data, watcher_state};
 ghost use Rattle.dns_server.specs.Watcher.{TakesLook};
 
 use crate::generation::Generations;
 use crate::look::{look_once, reloads};
 use crate::looking::Looking;
-use dns_data::Text;
+use crate::source::Source;
 use outside::{Look, Watch};
 use std::alloc::Global;
 
@@ -37,23 +37,23 @@ pub struct Watcher<W> {
 pub fn take_look<W: Watch>(
     alloc: Global,
     watcher: &mut Watcher<W>,
-    conf: &Text,
+    source: Source<'_>,
     generations: &mut Generations,
 ) -> Option<WatchEnd>
     requires idle { generations.old.pinned ≡ false }
     requires chain { IsChain generations.old.chain }
-    ensures takes { TakesLook conf.now
+    ensures takes { TakesLook (source_data source.entry)
         (record { watcher = watcher_state W.state watcher.old; serving = generations.old })
         (record { watcher = watcher_state W.state watcher.new; serving = generations.new })
         result }
     ensures watch { WatchStays (W.state watcher.old.watch) (W.state watcher.new.watch) }
 {
-    if !reloads(&generations.chain().corefile) {
+    if !reloads(generations.chain().blocks.as_slice()) {
         return Some(WatchEnd::NoReload);
     }
     match watcher.watch.look(INTERVAL, JITTER) {
         Look::Look => {
-            if let Looking::NoMemory = look_once(alloc, &mut watcher.watch, conf, generations) {
+            if let Looking::NoMemory = look_once(alloc, &mut watcher.watch, source, generations) {
                 watcher.starved = watcher.starved.saturating_add(1);
             }
             None

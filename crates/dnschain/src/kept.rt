@@ -35,6 +35,13 @@ impl KeptFile {
         Some(KeptFile { name, bytes, at })
     }
 
+    /// Whether it is the file of this name.
+    pub fn is_of(&self, name: &Text) -> bool
+        ensures { IsTrue result ↔ (self.now.name ≡ name.now) }
+    {
+        self.name.is(name.as_str())
+    }
+
     /// The bytes of the file of this name, where they were read less than a second before.
     pub fn bytes(&self, name: &Text, now: u64) -> Option<&Bytes>
         ensures short { IfSome result (λ bytes. length bytes.now ≤ limits.READ_BYTES) }

@@ -1,5 +1,5 @@
-//! The program: `dnschain serve --conf FILE [--queries N]`, over the sockets, files and streams of
-//! the system. It ends with a number that says how the run ended: README.md.
+//! The program: `dnschain serve --conf FILE [--port N] [--workers N] [--queries N]`, over the
+//! sockets, files and streams of the system. It ends with a number that says how the run ended: README.md.
 #![tactic(auto)]
 
 mod calls;
@@ -17,21 +17,27 @@ mod watch;
 ghost use Rattle.std.specs.Prelude.{◌≡◌};
 ghost use Rattle.dnschain.specs.Exit.{exit_number};
 
+use corefile_words::Pair;
 use dns_data::Text;
 use dns_server::{Status, run, tell_status};
 use host::SystemHost;
 use std::alloc::Global;
 use std::env;
+use std::env::VarError;
 use std::process::ExitCode;
 use std::rt::Env;
 
 fn main(rt: HostRuntime) -> ExitCode {
     let alloc = rt.alloc();
     let words = words(&rt, alloc);
+    let env = environment(&rt, alloc);
     let mut host = SystemHost::new(rt, alloc);
-    let status = match words {
-        Ok(words) => run(&rt, alloc, words.as_slice(), &mut host).status,
-        Err(status) => tell_status(alloc, &mut host, status),
+    let status = match (words, env) {
+        (Ok(words), Ok(env)) => {
+            run(&rt, alloc, words.as_slice(), env.as_slice(), &mut host).status
+        }
+        (Err(status), _) => tell_status(alloc, &mut host, status),
+        (_, Err(status)) => tell_status(alloc, &mut host, status),
     };
     ExitCode::from(number_of(&status))
 }
@@ -48,6 +54,23 @@ fn words(rt: &(impl Env + AllocGlobal), alloc: Global) -> Result<Vec<Text>, Stat
         }
     }
     Ok(words)
+}
+
+// The environment. Where a variable isn't UTF-8 there is none.
+fn environment(rt: &(impl Env + AllocGlobal), alloc: Global) -> Result<Vec<Pair>, Status> {
+    let mut pairs = Vec::new(alloc);
+    let vars = match env::vars(rt) {
+        Ok(vars) => vars,
+        Err(VarError::OutOfMemory) => return Err(Status::NoMemory),
+        Err(_) => return Ok(pairs),
+    };
+    for (name, value) in vars {
+        let (name, value) = (Text::of(name), Text::of(value));
+        if pairs.push(Pair { name, value }).is_err() {
+            return Err(Status::NoMemory);
+        }
+    }
+    Ok(pairs)
 }
 
 // The number with which the program ends.

@@ -3,7 +3,7 @@ ghost use Rattle.std.specs.Prelude.{◌≡◌, ◌≤◌, None, length, IfOk, If
 use crate::clock::moment;
 use crate::kept::{KeptFile, KeptLine};
 use crate::lines::{count, note_line};
-use dns_data::limit::READ_BYTES;
+use dns_data::limit::{FILES, READ_BYTES};
 use dns_data::{Bytes, Copies, Text};
 use outside::{Look, Made, PatternMaker, ReadOut, RegexMaker, Watch, Wrote};
 use std::alloc::Global;
@@ -25,7 +25,7 @@ pub struct FileWatch<R: Files + Clock + Eprint + Drop> {
     maker: RegexMaker,
     // How many sides have not left yet.
     live: Arc<AtomicU64, Global>,
-    file: Option<KeptFile>,
+    files: Vec<KeptFile>,
     line: Option<KeptLine>,
     read_faults: u64,
     note_faults: u64,
@@ -41,7 +41,7 @@ impl<R: Files + Clock + Eprint + Drop> FileWatch<R> {
             alloc,
             maker: RegexMaker::new(),
             live,
-            file: None,
+            files: Vec::new(alloc),
             line: None,
             read_faults: 0,
             note_faults: 0,
@@ -52,10 +52,15 @@ impl<R: Files + Clock + Eprint + Drop> FileWatch<R> {
     fn kept_bytes(&self, name: &Text, now: Option<u64>) -> Option<&Bytes>
         ensures { IfSome result (λ bytes. length bytes.now ≤ READ_BYTES) }
     {
-        match (&self.file, now) {
-            (Some(file), Some(now)) => file.bytes(name, now),
-            _ => None,
+        let Some(now) = now else {
+            return None;
+        };
+        for file in self.files.as_slice() {
+            if let Some(bytes) = file.bytes(name, now) {
+                return Some(bytes);
+            }
         }
+        None
     }
 
     // Whether a line was written too short a time before; without a clock no line was.
@@ -105,10 +110,9 @@ impl<R: Files + Clock + Eprint + Drop> Watch for FileWatch<R> {
         match read_limited(&self.rt, self.alloc, name.as_str()) {
             Ok(bytes) => {
                 let bytes = Bytes::of(bytes);
-                self.file = match now {
-                    Some(now) => KeptFile::new(self.alloc, name, &bytes, now),
-                    None => None,
-                };
+                if let Some(now) = now {
+                    keep(self.alloc, &mut self.files, name, &bytes, now);
+                }
                 ReadOut::Got(bytes)
             }
             Err(fault) => match fault.kind() {
@@ -139,6 +143,26 @@ impl<R: Files + Clock + Eprint + Drop> Watch for FileWatch<R> {
     }
 
     fn saw_published(&mut self, _serial: u64) {}
+}
+
+// Keeps what was read of a file, in place of what was read before. Names that are no longer read go
+// when there are more than a bundle can have.
+fn keep(alloc: Global, files: &mut Vec<KeptFile>, name: &Text, bytes: &Bytes, now: u64)
+    requires { length bytes.now ≤ READ_BYTES }
+{
+    let Some(kept) = KeptFile::new(alloc, name, bytes, now) else {
+        return;
+    };
+    for index in 0..files.len() {
+        if files[index].is_of(name) {
+            files[index] = kept;
+            return;
+        }
+    }
+    if FILES < files.len() {
+        files.clear();
+    }
+    let _ = files.push(kept);
 }
 
 // The first bytes of a file, as many as `READ_BYTES`.

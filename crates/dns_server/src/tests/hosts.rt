@@ -1,7 +1,7 @@
 ghost use Rattle.std.specs.Prelude.{◌≡◌, ◌+◌, None};
 
 use crate::{Report, Status, run};
-use dns_data::{Addr, Bytes, NoMemory, Text, Transport};
+use dns_data::{Addr, Bytes, FileText, NoMemory, Text, Transport};
 use outside::{
     Datagram, FileSet, Host, Mark, OpenFault, SideScript, WatchMark, WatchScript, Wrote,
 };
@@ -39,6 +39,21 @@ pub fn finds(alloc: Global, corefiles: &[&[u8]]) -> Result<WatchScript, NoMemory
         looks.push(FileSet::of_file(alloc, "/Corefile", corefile)?)?;
     }
     Ok(WatchScript::of_looks(alloc, looks))
+}
+
+/// A script that finds a Corefile and a file besides.
+pub fn finds_two(
+    alloc: Global,
+    corefile: &[u8],
+    name: &str,
+    bytes: &[u8],
+) -> Result<WatchScript, NoMemory> {
+    let mut set = FileSet::of_file(alloc, "/Corefile", corefile)?;
+    set.files.push(FileText {
+        name: Text::from_str(alloc, name)?,
+        bytes: Some(Bytes::from_slice(alloc, bytes)?),
+    })?;
+    Ok(WatchScript::of_looks(alloc, vec![in alloc; set]?))
 }
 
 /// A host of one side and a watch that follow these scripts.
@@ -93,7 +108,7 @@ pub fn run_by<H: Host>(
             texts.push(Text::from_str(alloc, word)?)?;
         }
     }
-    Ok(run(rt, alloc, &texts, host))
+    Ok(run(rt, alloc, &texts, &[], host))
 }
 
 impl Observed {

@@ -1,6 +1,6 @@
 use super::hosts::{Observed, SERVE, finds, gets, ran};
 use super::{QUERY, REFUSAL, REPLY};
-use crate::{Generations, Looking, Refusal, look_once, read_first};
+use crate::{Generations, Looking, Refusal, Source, look_once, read_first};
 use dns_data::{NoMemory, Seq, Text};
 use outside::{FileSet, WatchScript};
 use outside_mem::MemWatch;
@@ -92,12 +92,16 @@ fn ran_thrice(rt: &impl Wait, alloc: Global, watch: WatchScript) -> Result<Obser
 fn looked(alloc: Global, corefile: &[u8]) -> Result<Option<(u64, u64)>, NoMemory> {
     let name = Text::from_str(alloc, "/Corefile")?;
     let mut first = MemWatch::new(alloc, finds(alloc, &[WHOAMI])?)?;
-    let Ok(chain) = read_first(alloc, &mut first, &name, 53) else {
+    let source = Source {
+        conf: &name,
+        env: &[],
+    };
+    let Ok(chain) = read_first(alloc, &mut first, source, 53) else {
         return Ok(None);
     };
     let mut generations = Generations::new(alloc, chain)?;
     let mut watch = MemWatch::new(alloc, finds(alloc, &[corefile])?)?;
-    let looking = look_once(alloc, &mut watch, &name, &mut generations);
+    let looking = look_once(alloc, &mut watch, source, &mut generations);
     Ok(number_of(&looking, generations.published()))
 }
 

@@ -23,6 +23,16 @@ fn a_worker_takes_as_many_datagrams_as_it_is_told(rt: HostRuntime) -> Result<(),
 }
 
 #[test]
+fn more_sides_than_are_built_are_refused(rt: HostRuntime) -> Result<(), Fail> {
+    let rows = [("serve --conf=/Corefile --workers=2", "not built yet")];
+    for (words, line) in rows {
+        let ran = ran_twice(&rt, rt.alloc(), words)?;
+        assert!(rt; ran.is_told(line), "{words}");
+    }
+    Ok(())
+}
+
+#[test]
 fn a_file_that_is_not_read_is_told(rt: HostRuntime) -> Result<(), Fail> {
     let mut watch = finds(rt.alloc(), &[COREFILE])?;
     watch.fail_read.push(0)?;

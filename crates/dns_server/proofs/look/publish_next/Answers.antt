@@ -11,7 +11,7 @@ pub returns-clause-publishes : goal.returns-clause-publishes
 returns-clause-publishes g c = record {
   few = search rules;
   serial_is = search rules;
-  replaces = record { published = search rules; pins = search rules; pinned = search rules; conf = search rules; port = search rules; is = search rules };
+  replaces = record { published = search rules; pins = search rules; pinned = search rules; bundle_is = search rules; port = search rules; is = search rules };
   flag = c.note_line.ensures.notes.flag;
   told =
       let line : c.as_bytes.result.now ≡ look_text (answer.Published c.published-serial.result) = c.as_bytes.ensures.value ∙ c.in-Ok.ensures.ok in

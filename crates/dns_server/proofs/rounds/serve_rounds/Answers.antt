@@ -1,21 +1,31 @@
 use Rattle.std.proofs.Common.{sym, ◌∙◌, rules}
-use Rattle.dns_server.specs.States.{RunSetup, LookState, TurnState, RoundState, round_state, worker_state, watcher_state}
-use Rattle.dns_server.proofs.Joining.{turn_on, look_on, all_served, nothing_served, tally_on, tally_looks, tallied_first, goes_below}
+use Rattle.dns_server.specs.States.{RunSetup, single_setup, source_data, LookState, TurnState, RoundState, round_state, worker_state, watcher_state}
+use Rattle.dns_server.proofs.Joining.{chain_behind, turn_on, look_on, all_served, nothing_served, tally_on, tally_looks, tallied_first, goes_below}
 use Rattle.dns_server.proofs.rounds.serve_rounds.Goals as goal
 
 pub loop-init : goal.loop-init
 loop-init g c = record {
   can_next = search rules;
   finite = search rules;
-  served = nothing_served c.args.conf.now c.args.most (round_state g.S.Side.state g.W.PatternMaker.state c.args.worker.now c.args.watcher.now c.args.generations.now)
+  served = nothing_served (source_data c.args.source) c.args.most (round_state g.S.Side.state g.W.PatternMaker.state c.args.worker.now c.args.watcher.now c.args.generations.now)
       c.requires.chain c.requires.first c.requires.worker;
   tallied = tallied_first (g.S.Side.state c.args.worker.now.side).counts.recv c.args.most c.args.worker.now.tally c.args.generations.now c.requires.worker c.requires.pins c.requires.idle c.requires.some;
   watch = search rules;
 }
 
+pub look_unless_ended-watched-requires-clause-chain :
+    goal.look_unless_ended-watched-requires-clause-chain
+look_unless_ended-watched-requires-clause-chain g c =
+    let setup : RunSetup = single_setup (source_data c.args.source) c.args.generations.now.chain.default_port c.args.most in
+    let start = round_state g.S.Side.state g.W.PatternMaker.state c.args.worker.now c.args.watcher.now c.args.generations.now in
+    let before = round_state g.S.Side.state g.W.PatternMaker.state c.loop.worker c.loop.watcher c.loop.generations in
+    let turned : TurnState = record { worker = worker_state g.S.Side.state c.work_unless_ended-worked.new.worker; serving = c.work_unless_ended-worked.new.generations } in
+    let more = goes_below c.args.most c.loop.worker.tally c.loop.worked c.loop.invariant.tallied.stands in
+    chain_behind (turn_on setup start before turned c.loop.worked c.work_unless_ended-worked.result c.loop.watched c.loop.invariant.served c.work_unless_ended-worked.ensures more)
+
 pub returns-in-Some-end_of-clause-serves : goal.returns-in-Some-end_of-clause-serves
 returns-in-Some-end_of-clause-serves g c =
-    let setup : RunSetup = record { conf = c.args.conf.now; default_port = c.args.generations.now.chain.default_port; most = c.args.most } in
+    let setup : RunSetup = single_setup (source_data c.args.source) c.args.generations.now.chain.default_port c.args.most in
     let start = round_state g.S.Side.state g.W.PatternMaker.state c.args.worker.now c.args.watcher.now c.args.generations.now in
     let before = round_state g.S.Side.state g.W.PatternMaker.state c.loop.worker c.loop.watcher c.loop.generations in
     let turned : TurnState = record { worker = worker_state g.S.Side.state c.work_unless_ended-worked.new.worker; serving = c.work_unless_ended-worked.new.generations } in
@@ -28,7 +38,7 @@ returns-in-Some-end_of-clause-serves g c =
 
 pub loop-preserved : goal.loop-preserved
 loop-preserved g c =
-    let setup : RunSetup = record { conf = c.args.conf.now; default_port = c.args.generations.now.chain.default_port; most = c.args.most } in
+    let setup : RunSetup = single_setup (source_data c.args.source) c.args.generations.now.chain.default_port c.args.most in
     let start = round_state g.S.Side.state g.W.PatternMaker.state c.args.worker.now c.args.watcher.now c.args.generations.now in
     let before = round_state g.S.Side.state g.W.PatternMaker.state c.loop.worker c.loop.watcher c.loop.generations in
     let turned : TurnState = record { worker = worker_state g.S.Side.state c.work_unless_ended-worked.new.worker; serving = c.work_unless_ended-worked.new.generations } in
@@ -42,7 +52,7 @@ loop-preserved g c =
       can_next = search rules;
       finite = search rules;
       served = look_on setup start mid looked c.work_unless_ended-worked.result c.loop.watched c.look_unless_ended-watched.result turn c.look_unless_ended-watched.ensures.looks;
-      tallied = tally_looks (g.S.Side.state c.args.worker.now.side).counts.recv (g.S.Side.state c.work_unless_ended-worked.new.worker.side).counts.recv c.args.most c.work_unless_ended-worked.new.worker.tally c.args.conf.now
+      tallied = tally_looks (g.S.Side.state c.args.worker.now.side).counts.recv (g.S.Side.state c.work_unless_ended-worked.new.worker.side).counts.recv c.args.most c.work_unless_ended-worked.new.worker.tally (source_data c.args.source)
           unlooked looked c.work_unless_ended-worked.result c.loop.watched c.look_unless_ended-watched.result tally c.look_unless_ended-watched.ensures.looks;
       watch = search rules;
     }

@@ -1,33 +1,67 @@
-use Rattle.std.proofs.Common.{refl, inr}
-use Rattle.outside.specs.Journals.{later_failed, rose_failed}
+use Rattle.std.proofs.Common.{ℕ, List, refl, inl, inr, subst}
+use Rattle.outside.specs.Journals.{host-adds-nothing, rose_failed}
+use Rattle.command_line.specs.Command.{serve, serve_data}
 use Rattle.dns_server.specs.declared.status.Status.TheVariants as status
-use Rattle.dns_server.proofs.Openings.{opened_before, not_opened}
+use Rattle.dns_server.specs.Report.{RunsCommand, run_data}
+use Rattle.dns_server.proofs.Openings.{opened_before, not_opened, no_serving}
 use Rattle.dns_server.proofs.running.run_words.Goals as goal
 
-pub returns-in-Ok-clause-runs : goal.returns-in-Ok-clause-runs
-returns-in-Ok-clause-runs g c = inr (record {
-  command = _;
-  words_are = c.in-Some.ensures.command;
-  runs = opened_before (g.H.Watch.PatternMaker.state c.in-Ok.watch) c.in-Ok.ensures c.run_command.ensures.runs;
+pub returns-in-Ok-open_watch-clause-runs : goal.returns-in-Ok-open_watch-clause-runs
+returns-in-Ok-open_watch-clause-runs g c =
+    let s = c.in-Some-Serve.serve in
+    inr (record {
+      how = serve_data s;
+      words_are = rw c.in-Some-Serve.field-0-is at c.in-Some-Serve.ensures.command;
+      runs = subst (λ (conf : List ℕ). RunsCommand (record { source = record { conf = conf; env = c.args.env.now }; default_port = s.port; workers = s.workers; most = s.most })
+          (run_data g.H.Side.Side.state g.H.Watch.PatternMaker.state c.run_command.result) (g.H.Host.state c.args.host.now) (g.H.Host.state c.run_command.new.host)) c.in-Ok.ensures
+          (opened_before (g.H.Watch.PatternMaker.state c.in-Ok-open_watch.watch) c.in-Ok-open_watch.ensures c.run_command.ensures.runs);
+    })
+
+pub returns-in-None-clause-runs : goal.returns-in-None-clause-runs
+returns-in-None-clause-runs g c = rw c.stopped-in-None.ensures (inl (record {
+  usage = λ how is. c.in-None.ensures.command (serve how) is;
+  status_is = refl;
+  sides = refl;
+  watch = refl;
+  published = refl;
+  starved = refl;
+  host = refl;
+}))
+
+pub returns-in_default-clause-runs : goal.returns-in_default-clause-runs
+returns-in_default-clause-runs g c = inr (record {
+  how = serve_data c.in-Some-Serve.serve;
+  words_are = rw c.in-Some-Serve.field-0-is at c.in-Some-Serve.ensures.command;
+  runs = rw c.stopped-in_default.ensures (not_opened status.NoMemory (host-adds-nothing (g.H.Host.state c.args.host.now)) refl tt);
 })
+
+pub returns-in-Some-Load-clause-runs : goal.returns-in-Some-Load-clause-runs
+returns-in-Some-Load-clause-runs g c =
+    let load = rw c.in-Some-Load.field-0-is at c.in-Some-Load.ensures.command in
+    rw c.stopped.ensures (inl (record {
+      usage = λ how is. no_serving c.args.words.now c.in-Some-Load.field-0-0 how load is;
+      status_is = refl;
+      sides = refl;
+      watch = refl;
+      published = refl;
+      starved = refl;
+      host = refl;
+    }))
 
 pub returns-in-Err-Failed-clause-runs : goal.returns-in-Err-Failed-clause-runs
 returns-in-Err-Failed-clause-runs g c =
     let failed = rw c.in-Err-Failed.field-0-is at c.in-Err-Failed.ensures in
     inr (record {
-      command = _;
-      words_are = c.in-Some.ensures.command;
+      how = serve_data c.in-Some-Serve.serve;
+      words_are = rw c.in-Some-Serve.field-0-is at c.in-Some-Serve.ensures.command;
       runs = rw c.stopped-in-Err-Failed.ensures (not_opened status.OpenFailed failed.told failed.supply (refl, rose_failed failed));
     })
 
-pub returns-in-Err-Failed-clause-counts : goal.returns-in-Err-Failed-clause-counts
-returns-in-Err-Failed-clause-counts g c = later_failed (rw c.in-Err-Failed.field-0-is at c.in-Err-Failed.ensures)
-
-pub returns-in-Err-NoMemory-clause-runs : goal.returns-in-Err-NoMemory-clause-runs
-returns-in-Err-NoMemory-clause-runs g c =
+pub returns-clause-runs : goal.returns-clause-runs
+returns-clause-runs g c =
     let starved = rw c.in-Err-NoMemory.field-0-is at c.in-Err-NoMemory.ensures in
     inr (record {
-      command = _;
-      words_are = c.in-Some.ensures.command;
+      how = serve_data c.in-Some-Serve.serve;
+      words_are = rw c.in-Some-Serve.field-0-is at c.in-Some-Serve.ensures.command;
       runs = rw c.stopped-in-Err-NoMemory.ensures (not_opened status.NoMemory starved.told starved.supply tt);
     })

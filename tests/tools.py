@@ -1,0 +1,44 @@
+"""tools/check-corefile over the built program: that what it shows and its statuses are the program's."""
+import os
+import subprocess
+import sys
+import tempfile
+
+sys.path.insert(0, os.path.join(os.path.dirname(os.path.abspath(__file__)), "lib"))
+from program import Rows, TOP, corefile, free_port, needs_program  # noqa: E402
+
+TOOL = os.path.join(TOP, "tools", "check-corefile")
+NO_PLACE = 7
+
+# A Corefile, the status, and the lines, of which the page to read is left out.
+CASES = [
+    ("one that serves", ".:{port} {\n    reload\n    whoami\n}\n", 0, ["{file}: accepted"]),
+    ("one without a block", "# nothing\n", 0, ["{file}: accepted"]),
+    ("an unknown directive", ".:{port} {\n    whoamy\n}\n", 1, ["{file}:2: unknown directive", "        whoamy"]),
+    ("an open quote", '.:{port} {\n    whoami\n}\n"a\n', 1, ["{file}:4: open quote", '    "a']),
+]
+
+
+def checked(path):
+    ran = subprocess.run([TOOL, path], capture_output=True, text=True, timeout=60)
+    return ran.returncode, [line for line in ran.stdout.split("\n")[:-1] if not line.startswith("see docs/")]
+
+
+def main():
+    needs_program()
+    rows = Rows()
+    with tempfile.TemporaryDirectory() as room:
+        if checked(corefile(room, ""))[0] == NO_PLACE:
+            print("skipped: no network of its own can be made here")
+            return
+        for title, text, status, lines in CASES:
+            path = corefile(room, text.replace("{port}", str(free_port())))
+            got = checked(path)
+            rows.equal(f"check-corefile: {title}", got, (status, [line.replace("{file}", path) for line in lines]))
+        got = checked(os.path.join(room, "none"))
+        rows.equal("check-corefile: no file", got, (1, ["no corefile"]))
+    rows.end()
+
+
+if __name__ == "__main__":
+    main()

@@ -7,42 +7,56 @@ pub struct Case<'a> {
     /// The line up to its answer.
     pub question: &'a str,
     pub call: &'a str,
-    first: Option<&'a str>,
-    second: Option<&'a str>,
+    /// What stands behind the call, with spaces between the arguments.
+    fields: &'a str,
 }
 
 impl<'a> Case<'a> {
-    /// The case of a line: a call, one or two arguments behind it, and ` = ` with an answer.
+    /// The case of a line: a call, its arguments behind it, and ` = ` with an answer.
     pub fn read(line: &'a str) -> Option<Case<'a>> {
         let (question, _answer) = line.split_once(" = ")?;
-        let mut words = question.split(' ');
-        let call = words.next()?;
-        let first = words.next();
-        let second = words.next();
-        if words.next().is_some() {
-            return None;
-        }
+        let (call, fields) = question.split_once(' ')?;
         Some(Case {
             question,
             call,
-            first,
-            second,
+            fields,
         })
     }
 
     /// The argument of a call that has one.
     pub fn argument(&self) -> Result<&'a str, CaseFault> {
-        match (self.first, self.second) {
-            (Some(first), None) => Ok(first),
-            _ => Err(CaseFault::Bad),
-        }
+        only_field(self.fields)
     }
 
     /// The arguments of a call that has two.
     pub fn arguments(&self) -> Result<(&'a str, &'a str), CaseFault> {
-        match (self.first, self.second) {
-            (Some(first), Some(second)) => Ok((first, second)),
-            _ => Err(CaseFault::Bad),
-        }
+        let Some((first, second)) = self.fields.split_once(' ') else {
+            return Err(CaseFault::Bad);
+        };
+        Ok((first, only_field(second)?))
     }
+
+    /// The arguments of a call that has three.
+    pub fn three_arguments(&self) -> Result<(&'a str, &'a str, &'a str), CaseFault> {
+        let Some((first, others)) = self.fields.split_once(' ') else {
+            return Err(CaseFault::Bad);
+        };
+        let Some((second, third)) = others.split_once(' ') else {
+            return Err(CaseFault::Bad);
+        };
+        Ok((first, second, only_field(third)?))
+    }
+
+    /// The arguments of a call that has any number of them, with spaces between them.
+    pub fn fields(&self) -> &'a str {
+        self.fields
+    }
+}
+
+// A field that is the last one.
+fn only_field(field: &str) -> Result<&str, CaseFault> {
+    if field.contains(' ') {
+        return Err(CaseFault::Bad);
+    }
+    Ok(field)
 }

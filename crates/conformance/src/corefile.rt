@@ -1,9 +1,11 @@
-//! The words of a Corefile: `words TEXT ENVIRONMENT`.
+//! Corefiles: `words TEXT ENVIRONMENT`, `wants TEXT`.
 
 use crate::case::Case;
 use crate::fault::CaseFault;
 use crate::fields::{bytes_field, read_bytes, read_text};
+use corefile_blocks::{Bundle, wants};
 use corefile_words::{Pair, Pairs, Word, WordLine, WordsFault, read_words};
+use dns_data::{Bytes, FileTexts};
 use std::alloc::Global;
 
 /// `ok` and the lines of words, or `fault` and the line that an operator sees.
@@ -24,6 +26,28 @@ pub fn words(alloc: Global, case: &Case<'_>) -> Result<String, CaseFault> {
         }
         Err(fault) => fault_line(alloc, fault),
     }
+}
+
+/// The files that a Corefile wants first, where none of them was read yet.
+pub fn wanted(alloc: Global, case: &Case<'_>) -> Result<String, CaseFault> {
+    let text = read_bytes(alloc, case.argument()?)?;
+    if u32::MAX as usize <= text.len() {
+        return Err(CaseFault::Bad);
+    }
+    let bundle = Bundle {
+        conf: Bytes::of(text),
+        env: Pairs::new(alloc),
+        files: FileTexts::new(alloc),
+    };
+    let mut answer = String::new(alloc);
+    for name in wants(alloc, &bundle)?.as_slice() {
+        if !answer.is_empty() {
+            answer.push(' ')?;
+        }
+        let field = bytes_field(alloc, name.as_str().as_bytes())?;
+        answer.push_str(field.as_str())?;
+    }
+    Ok(answer)
 }
 
 // The variables of a field: `NAME:VALUE` with commas between them, or `-`.

@@ -3,12 +3,16 @@
 #![tactic(auto)]
 
 mod addresses;
+mod blocks;
 mod case;
+mod commands;
 mod corefile;
 mod fault;
 mod fields;
 mod messages;
 mod names;
+mod records;
+mod zones;
 
 use case::Case;
 use fault::CaseFault;
@@ -17,7 +21,7 @@ use std::io::{BufRead, BufReader, BufWriter, Write};
 use std::{io, str};
 
 /// Calls of cases that this server does not have yet.
-const NOT_BUILT: [&str; 6] = ["check", "cli", "lookup", "record", "wants", "zone"];
+const NOT_BUILT: [&str; 2] = ["check", "lookup"];
 
 fn main(rt: HostRuntime) -> io::Result<()> {
     let alloc = rt.alloc();
@@ -69,6 +73,14 @@ fn answer(alloc: Global, case: &Case<'_>) -> Result<String, CaseFault> {
         "reply" => messages::reply(alloc, case),
         "cut" => messages::truncated(alloc, case),
         "words" => corefile::words(alloc, case),
+        "cli" => commands::command(alloc, case),
+        "rank" => blocks::order(alloc, case),
+        "pick" => blocks::picked(alloc, case),
+        "record" => records::read(alloc, case),
+        "zone" => zones::read(alloc, case),
+        "kind" => records::read_type(alloc, case),
+        "kindtext" => records::print_type(alloc, case),
+        "wants" => corefile::wanted(alloc, case),
         _ => Err(CaseFault::Bad),
     }
 }

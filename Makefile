@@ -12,6 +12,10 @@ build:
 run: build
 	./dnschain serve --conf $(CONF)
 
+## make conf-check   builds, and checks a Corefile without serving it: CONF=FILE
+conf-check: build
+	tools/check-corefile $(CONF)
+
 ## make test         the gate: every proof from nothing, then the scripts under tests/
 test:
 	.ci/run
@@ -24,4 +28,4 @@ check:
 fmt:
 	for crate in crates/*/; do (cd $$crate && rt fmt); done
 
-.PHONY: help build run test check fmt
+.PHONY: help build run conf-check test check fmt

@@ -42,7 +42,7 @@ class Run:
     """One run of the program, with a folder of its own. `{port}`, `{port2}` and `{dir}` in a text are what they are here."""
 
     def __init__(self, room):
-        self.room, self.process, self.words = room, None, []
+        self.room, self.process, self.words, self.env = room, None, [], dict(os.environ)
         self.ports = {"port": free_port(), "port2": free_port()}
         self.noted, self.read = [], 0
         self.errors = os.path.join(room, ".stderr")
@@ -64,7 +64,7 @@ class Run:
         conf = os.path.join(self.room, "Corefile")
         words = [self.filled(word) for word in self.words]
         with open(self.told, "wb") as told, open(self.errors, "wb") as errors:
-            self.process = subprocess.Popen([PROGRAM, "serve", "--conf", conf, *words], stdout=told, stderr=errors)
+            self.process = subprocess.Popen([PROGRAM, "serve", "--conf", conf, *words], stdout=told, stderr=errors, env=self.env)
 
     def started(self):
         """Starts the program where it wasn't yet, and waits until it answers, whatever it answers, or has ended."""
@@ -155,13 +155,16 @@ def take_step(run, rows, title, line, body):
         os.remove(os.path.join(run.room, rest))
     elif verb == "words":
         run.words = words[1:]
+    elif verb == "env":
+        name, _, value = run.filled(rest).partition("=")
+        run.env[name] = value
     elif verb == "query":
         take_query(run, rows, text, words, body)
     elif verb == "noted":
         run.started()
         rows.equal(text, run.next_note(rest), run.filled(rest))
     elif verb == "run":
-        ran = subprocess.run([PROGRAM, *map(run.filled, words[1:])], capture_output=True, text=True, timeout=SECONDS)
+        ran = subprocess.run([PROGRAM, *map(run.filled, words[1:])], capture_output=True, text=True, timeout=SECONDS, env=run.env)
         rows.equal(text, [f"status {ran.returncode}", *ran.stdout.split("\n")[:-1], *ran.stderr.split("\n")[:-1]], [run.filled(line) for line in body])
     elif verb == "ends":
         run.started() if run.process is None else None

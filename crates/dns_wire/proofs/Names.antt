@@ -85,15 +85,7 @@ no_name {bytes} {origin} {start} {at} {front} {passed} so_far a b c whole behind
     let r = so_far.complete whole behind h in
     nothing_at bytes start at r.1 r.0 r.3 a b c
 
--- a pointer to an offset that is too low or too high
-pub bad_target : {bytes : List ℕ} {origin start at target : ℕ} {front : List (List ℕ)} {passed : Option ℕ} → ReadSoFar bytes origin start at front passed → PointerAt bytes at target
-    → (12 ≤ target → target < start → ⊥) → (whole : List (List ℕ)) (behind : ℕ) → NameAt bytes origin origin whole behind → ⊥
-bad_target {bytes} {origin} {start} {at} {target} {front} {passed} so_far here bad whole behind h =
-    let r = so_far.complete whole behind h in
-    let b = behind_pointer bytes start at r.1 target r.0 here r.3 in
-    bad b.0 b.1
-
-wire_length-append : (front others : List (List ℕ)) → wire_length (front ++ others) + 1 ≡ wire_length front + wire_length others
+pub wire_length-append : (front others : List (List ℕ)) → wire_length (front ++ others) + 1 ≡ wire_length front + wire_length others
 wire_length-append [] others = omega arith
 wire_length-append (l ∷ front) others = omega (arith, wire_length-append front others)
 

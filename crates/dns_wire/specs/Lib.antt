@@ -1,5 +1,6 @@
 pub mod Wire
 pub mod Sequences
+pub mod Known
 pub mod Data
 pub mod Fields
 pub mod Cursor

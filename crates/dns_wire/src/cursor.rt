@@ -1,10 +1,12 @@
 ghost use Rattle.std.specs.Prelude.{◌≡◌, ◌≤◌, ◌+◌, [], true, length, map, IfOk, List, ℕ};
 ghost use Rattle.dns_data.specs.Record.{Compressed, Uncompressed, U8, U16, U32, U128, CharString, NonEmpty, CharStrings, Remainder, fields_of, kind_of, is_known_type};
 ghost use Rattle.dns_wire.specs.Fields.{shape, shapes_of};
+ghost use Rattle.dns_wire.specs.Known.{AreKnown};
 ghost use Rattle.dns_wire.specs.Cursor.{HasRead, Passes, TakesString, Takes, ReadsData, back_onto};
 
 use crate::WireFault;
 use crate::character_string::{read_strings, string_at};
+use crate::known::KnownNames;
 use crate::name::read_name;
 use crate::number::{u16_at, u32_at, u128_at};
 use dns_data::{Bytes, Name, NoMemory, Rdata, Seq, Strings};
@@ -112,14 +114,16 @@ impl<'a> Cursor<'a> {
     }
 
     /// A name, read through its pointers.
-    pub fn name(&mut self) -> Result<Name, NoMemory>
+    pub fn name(&mut self, known: &mut KnownNames) -> Result<Name, NoMemory>
+        requires known { AreKnown self.old.bytes known.old }
         ensures compressed { IfOk result (λ name. Takes self.old self.new (Compressed name)) }
         ensures uncompressed { IfOk result (λ name. Takes self.old self.new (Uncompressed name)) }
+        ensures known { AreKnown self.old.bytes known.new }
     {
         if !self.is_sound {
             return Ok(Name::root(self.alloc));
         }
-        match read_name(self.alloc, self.bytes, self.at) {
+        match read_name(self.alloc, self.bytes, known, self.at) {
             Ok((name, behind)) => {
                 if self.limit < behind {
                     self.is_sound = false;

@@ -7,6 +7,8 @@ mod character_string;
 mod cursor;
 mod fault;
 mod header;
+mod known;
+mod learning;
 mod message;
 mod name;
 mod number;
@@ -16,6 +18,8 @@ mod rdata;
 mod record;
 mod reply;
 mod section;
+#[cfg(test)]
+mod tests;
 mod write;
 mod write_record;
 mod writer;

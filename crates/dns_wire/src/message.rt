@@ -5,7 +5,7 @@ ghost use Rattle.dns_wire.specs.Reads.{Reads};
 
 use crate::WireFault;
 use crate::header::flags_at;
-use crate::name::read_name;
+use crate::name::read_first_name;
 use crate::number::u16_at;
 use crate::record::plain_opt_at;
 use crate::section::{Sections, read_sections};
@@ -54,14 +54,15 @@ pub fn read_message(alloc: Global, bytes: &[u8]) -> Result<Message, WireFault>
     })
 }
 
-/// The question at an offset, and the offset behind it.
+/// The question at an offset right behind a header, and the offset behind it.
 #[inline]
 pub fn read_question(alloc: Global, bytes: &[u8], at: usize) -> Result<(Question, usize), WireFault>
-    requires { at ≤ length bytes.now }
+    requires first { at ≤ 12 }
+    requires inside { at ≤ length bytes.now }
     ensures spelt { Reads (λ found. QuestionAt bytes.now at found.0 found.1) result }
     ensures inside { IfOk result (λ found. found.1 ≤ length bytes.now) }
 {
-    let (name, middle) = read_name(alloc, bytes, at)?;
+    let (name, middle) = read_first_name(alloc, bytes, at)?;
     if bytes.len() - middle < 4 {
         return Err(WireFault::Bad);
     }

@@ -1,8 +1,10 @@
 ghost use Rattle.std.specs.Prelude.{◌≤◌, ◌+◌, length};
 ghost use Rattle.dns_wire.specs.Cursor.{ReadsData};
+ghost use Rattle.dns_wire.specs.Known.{AreKnown};
 
 use crate::WireFault;
 use crate::cursor::Cursor;
+use crate::known::KnownNames;
 use dns_data::{Bytes, Rdata, Soa, is_known_type, kind};
 use std::alloc::Global;
 
@@ -11,6 +13,7 @@ use std::alloc::Global;
 pub fn read_data(
     alloc: Global,
     bytes: &[u8],
+    known: &mut KnownNames,
     kind: u16,
     at: usize,
     behind: usize,
@@ -18,7 +21,9 @@ pub fn read_data(
     requires order { at ≤ behind }
     requires inside { behind ≤ length bytes.now }
     requires short { behind ≤ at + 65535 }
-    ensures { ReadsData bytes.now kind at behind result }
+    requires known { AreKnown bytes.now known.old }
+    ensures spelt { ReadsData bytes.now kind at behind result }
+    ensures known { AreKnown bytes.now known.new }
 {
     if !is_known_type(kind) {
         return Ok(Rdata::Opaque(kind, Bytes::from_slice(alloc, &bytes[at..behind])?));
@@ -30,17 +35,17 @@ pub fn read_data(
             data.finish(kind, rdata)
         }
         kind::NS => {
-            let rdata = Rdata::Ns(data.name()?);
+            let rdata = Rdata::Ns(data.name(known)?);
             data.finish(kind, rdata)
         }
         kind::CNAME => {
-            let rdata = Rdata::Cname(data.name()?);
+            let rdata = Rdata::Cname(data.name(known)?);
             data.finish(kind, rdata)
         }
         kind::SOA => {
             let rdata = Rdata::Soa(Soa {
-                mname: data.name()?,
-                rname: data.name()?,
+                mname: data.name(known)?,
+                rname: data.name(known)?,
                 serial: data.u32(),
                 refresh: data.u32(),
                 retry: data.u32(),
@@ -50,7 +55,7 @@ pub fn read_data(
             data.finish(kind, rdata)
         }
         kind::PTR => {
-            let rdata = Rdata::Ptr(data.name()?);
+            let rdata = Rdata::Ptr(data.name(known)?);
             data.finish(kind, rdata)
         }
         kind::HINFO => {
@@ -58,7 +63,7 @@ pub fn read_data(
             data.finish(kind, rdata)
         }
         kind::MX => {
-            let rdata = Rdata::Mx(data.u16(), data.name()?);
+            let rdata = Rdata::Mx(data.u16(), data.name(known)?);
             data.finish(kind, rdata)
         }
         kind::TXT => {
@@ -70,7 +75,7 @@ pub fn read_data(
             data.finish(kind, rdata)
         }
         kind::SRV => {
-            let rdata = Rdata::Srv(data.u16(), data.u16(), data.u16(), data.name()?);
+            let rdata = Rdata::Srv(data.u16(), data.u16(), data.u16(), data.name(known)?);
             data.finish(kind, rdata)
         }
         kind::CAA => {

@@ -1,8 +1,10 @@
 ghost use Rattle.std.specs.Prelude.{◌≤◌, ◌<◌, ◌+◌, ℕ, length, IfOk, IfSome, IfNone};
 ghost use Rattle.dns_wire.specs.Records.{EndsAt, OptAt, OptFieldsAt, PartAt};
+ghost use Rattle.dns_wire.specs.Known.{AreKnown};
 ghost use Rattle.dns_wire.specs.Reads.{Reads};
 
 use crate::WireFault;
+use crate::known::KnownNames;
 use crate::name::read_name;
 use crate::number::{flag_at, ttl_at, u16_at};
 use crate::rdata::read_data;
@@ -17,15 +19,22 @@ pub enum Part {
 }
 
 /// Reads the record at an offset, and gives the offset behind it.
-pub fn read_part(alloc: Global, bytes: &[u8], at: usize) -> Result<(Part, usize), WireFault>
-    requires { at ≤ length bytes.now }
+pub fn read_part(
+    alloc: Global,
+    bytes: &[u8],
+    known: &mut KnownNames,
+    at: usize,
+) -> Result<(Part, usize), WireFault>
+    requires inside { at ≤ length bytes.now }
+    requires known { AreKnown bytes.now known.old }
     ensures spelt { Reads (λ found. PartAt bytes.now at found.0 found.1) result }
     ensures inside { IfOk result (λ found. found.1 ≤ length bytes.now) }
+    ensures known { AreKnown bytes.now known.new }
 {
     if let Some((opt, behind)) = plain_opt_at(bytes, at) {
         return Ok((Part::Opt(opt), behind));
     }
-    let (owner, middle) = read_name(alloc, bytes, at)?;
+    let (owner, middle) = read_name(alloc, bytes, known, at)?;
     let Some(behind) = end_of_part(bytes, middle) else {
         return Err(WireFault::Bad);
     };
@@ -36,7 +45,7 @@ pub fn read_part(alloc: Global, bytes: &[u8], at: usize) -> Result<(Part, usize)
         }
         return Ok((Part::Opt(opt_at(bytes, middle)), behind));
     }
-    let rdata = read_data(alloc, bytes, kind, middle + 10, behind)?;
+    let rdata = read_data(alloc, bytes, known, kind, middle + 10, behind)?;
     let class = u16_at(bytes, middle + 2);
     let ttl = ttl_at(bytes, middle + 4);
     Ok((Part::Record(Record::new(owner, class, ttl, rdata)), behind))

@@ -30,5 +30,5 @@ returns-then-kind-eq-OPT-clause-spelt c =
 
 pub returns-in_err-rdata-clause-spelt : goal.returns-in_err-rdata-clause-spelt
 returns-in_err-rdata-clause-spelt c =
-    fails c.in_err-rdata.field-0.0 c.in_err-rdata.ensures.spelt c.from_residual-in_err-rdata.result c.from_residual-in_err-rdata.ensures.1
+    fails c.in_err-rdata.field-0.0 c.in_err-rdata.ensures.spelt.spelt c.from_residual-in_err-rdata.result c.from_residual-in_err-rdata.ensures.1
     (λ found h. rw c.u16_at-kind.ensures (data_here found.0 found.1 h c.in_ok-owner.ensures.spelt c.in-Some-end_of_part.ensures.found (λ is. c.if-kind-eq-OPT.false (c.u16_at-kind.ensures ∙ is))))

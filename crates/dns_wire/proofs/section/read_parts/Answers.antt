@@ -6,7 +6,7 @@ use Rattle.dns_wire.proofs.section.read_parts.Goals as goal
 use Rattle.dns_wire.proofs.section.read_parts.Goals.{in-Record+in_ok-push-in-Record, in-Opt+else-is_some}
 
 pub loop-left-init : goal.loop-left-init
-loop-left-init c = record { inside = c.requires; so_far = rw c.new-records.ensures (section_begins c.args.bytes.now c.args.count c.args.start) }
+loop-left-init c = record { inside = c.requires.inside; known = c.requires.known; so_far = rw c.new-records.ensures (section_begins c.args.bytes.now c.args.count c.args.start) }
 
 pub returns-in_err-part-clause-spelt : goal.returns-in_err-part-clause-spelt
 returns-in_err-part-clause-spelt c =
@@ -20,6 +20,7 @@ returns-then-is_some-clause-spelt c = λ found h.
 pub loop-left-preserved : goal.loop-left-preserved
 loop-left-preserved c = record {
   inside = c.in_ok-part.ensures.inside;
+  known = c.in_ok-part.ensures.known;
   so_far =
       elim c.match-part.branch [
         | in-Record+in_ok-push-in-Record w ↦

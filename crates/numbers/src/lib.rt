@@ -1,8 +1,10 @@
-//! Numbers as decimal digits, on the command line and in a Corefile.
+//! Numbers as decimal digits, on the command line and in a Corefile, and durations.
 #![tactic(auto)]
 
+mod duration;
 mod reading;
 #[cfg(test)]
 mod tests;
 
+pub use duration::read_duration;
 pub use reading::read_number;

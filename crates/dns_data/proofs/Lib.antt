@@ -3,3 +3,4 @@ pub mod PrintedNames
 pub mod ReadNames
 pub mod ReverseWalks
 pub mod ReversedAddrs
+pub mod Rooms

@@ -1,6 +1,6 @@
 -- Domain names (RFC 1035, sections 2.3.1 and 2.3.4): a list of labels, and its spelling in one
 -- buffer.
-use Rattle.std.specs.Prelude.{◌≡◌, ℕ, zero, suc, ◌+◌, ◌≤◌, Bool, nat_eq, List, [], ◌∷◌, ◌++◌, length, take, drop, map}
+use Rattle.std.specs.Prelude.{◌≡◌, ℕ, zero, suc, ◌+◌, ◌-◌, ◌≤◌, Bool, nat_eq, List, [], ◌∷◌, ◌++◌, length, take, drop, map}
 use Rattle.std.specs.List.{AllByRecursion}
 use Rattle.std.specs.Cmp.Lexicographic.{pointwise}
 use Rattle.std.specs.Char.{to_ascii_lowercase}
@@ -58,3 +58,7 @@ pub record IsWithin (name zone : List (List ℕ)) : Type 0 where
 -- whether two names are equal byte for byte
 abbrev pub same_labels : List (List ℕ) → List (List ℕ) → Bool
 same_labels a b = pointwise (pointwise nat_eq) a b
+
+-- the same as a test
+unfoldable pub is_within : List (List ℕ) → List (List ℕ) → Bool
+is_within name zone = same_labels (lowered (drop (length name - length zone) name)) (lowered zone)

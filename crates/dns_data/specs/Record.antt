@@ -1,11 +1,14 @@
 -- Resource records as plain data (RFC 1035, sections 3.2 and 3.3), the fields of their data, and
 -- when one is proper.
-use Rattle.std.specs.Prelude.{◌≡◌, ℕ, ◌+◌, ◌≤◌, ◌<◌, ◌^◌, ◌==◌, ◌||◌, Bool, false, List, [], ◌∷◌, length}
+use Rattle.std.specs.Prelude.{◌≡◌, ℕ, ◌+◌, ◌≤◌, ◌<◌, ◌^◌, ◌==◌, ◌||◌, Bool, false, List, [], ◌∷◌, length, Some, slice_get, slice_set}
 use Rattle.std.specs.List.{AllByRecursion}
 use Rattle.dns_data.specs.Name.{IsName, wire_length}
 use Rattle.dns_data.specs.declared.record.Rdata.{Rdata}
 use Rattle.dns_data.specs.declared.record.Rdata.TheVariants as rdata
+use Rattle.dns_data.specs.declared.class.TheConstants as classes
 use Rattle.dns_data.specs.declared.kind.TheConstants as kinds
+use Rattle.dns_addr.specs.declared.addr.Addr.{Addr}
+use Rattle.dns_addr.specs.declared.addr.Addr.TheVariants.{V4, V6}
 
 pub record RecordData : Type 0 where
   pub owner : List (List ℕ)
@@ -161,3 +164,27 @@ pub record IsProper (r : RecordData) : Type 0 where
   pub class : r.class < 2 ^ 16
   pub ttl : r.ttl < 2 ^ 31
   pub rdata : IsData r.rdata
+
+-- a record with another owner and TTL
+abbrev pub owned_by : List (List ℕ) → ℕ → RecordData → RecordData
+owned_by owner ttl r = record { owner = owner; class = r.class; ttl = ttl; rdata = r.rdata }
+
+-- the record at an index is changed, and no other
+abbrev pub Changes : (RecordData → RecordData) → ℕ → List RecordData → List RecordData → Type 0
+Changes f index old new =
+    (r : RecordData) → slice_get old index ≡ Some r → new ≡ slice_set old index (f r)
+
+-- the data of an A or AAAA record
+abbrev pub address_data : Addr → Rdata
+address_data (V4 bits) = rdata.A bits
+address_data (V6 bits) = rdata.Aaaa bits
+
+-- the record of an address (class IN)
+abbrev pub address_record : List (List ℕ) → ℕ → Addr → RecordData
+address_record owner ttl addr =
+    record { owner = owner; class = classes.IN; ttl = ttl; rdata = address_data addr }
+
+-- the SRV record of a port (class IN), with priority 0, weight 0 and the root for its target
+abbrev pub service_record : List (List ℕ) → ℕ → ℕ → RecordData
+service_record owner ttl port =
+    record { owner = owner; class = classes.IN; ttl = ttl; rdata = rdata.Srv 0 0 port [] }

@@ -19,7 +19,10 @@ pub mod opcode;
 mod query;
 pub mod rcode;
 mod record;
+mod record_set;
 mod reverse;
+mod room;
+mod slot;
 #[cfg(test)]
 mod tests;
 mod zone;
@@ -37,6 +40,8 @@ pub use name::Name;
 pub use name_read::NameFault;
 pub use query::Query;
 pub use record::{Rdata, Record, Soa, is_known_type};
+pub use room::RecordRoom;
+pub use slot::Slot;
 pub use zone::Zone;
 
 pub type Blocks = Seq<Block>;

@@ -1,4 +1,4 @@
-ghost use Rattle.std.specs.Prelude.{◌≡◌, ℕ, ◌+◌, ◌<◌, ◌≤◌, List, [], ◌∷◌, ◌++◌, length, slice_get, slice_index, take, OnOk, OnErr, IfOk, IsTrue, ◌↔◌, drop};
+ghost use Rattle.std.specs.Prelude.{◌≡◌, ℕ, ◌+◌, ◌<◌, ◌≤◌, List, [], ◌∷◌, ◌++◌, length, slice_get, slice_index, take, OnOk, OnErr, IfOk, IsTrue, IsFalse, ◌↔◌, drop};
 ghost use Rattle.dns_data.specs.Name.{IsLabel, IsName, IsWire, IsWithin, wire_length, spelled, labels_of, lowered, same_labels};
 ghost use Rattle.dns_data.specs.declared.limit.TheConstants as limits;
 
@@ -148,7 +148,55 @@ impl Name {
     }
 
     /// Becomes another name, in the room that is there.
+    #[inline(always)]
     pub fn set(&mut self, other: &Name) -> Result<(), NoMemory>
+        ensures ok { OnOk result (self.new ≡ other.now) }
+        ensures err { OnErr result (self.new ≡ self.old) }
+    {
+        if self.set_near(other) {
+            return Ok(());
+        }
+        self.set_far(other)
+    }
+
+    /// Becomes a name with a label before it, in the room that is there.
+    pub fn set_below(&mut self, label: &[u8], other: &Name) -> Result<(), NoMemory>
+        requires label { IsLabel label.now }
+        requires room { wire_length other.now + length label.now + 1 ≤ limits.NAME_BYTES }
+        ensures ok { OnOk result (self.new ≡ label.now ∷ other.now) }
+        ensures err { OnErr result (self.new ≡ self.old) }
+    {
+        self.wire.set_label(label, other.wire.as_slice())?;
+        Ok(())
+    }
+
+    /// Becomes another name, where neither has an allocation. Else nothing is done.
+    #[inline(always)]
+    pub(crate) fn set_near(&mut self, other: &Name) -> bool
+        ensures done { IsTrue result → self.new ≡ other.now }
+        ensures not { IsFalse result → self.new ≡ self.old }
+    {
+        self.wire.set_near(&other.wire)
+    }
+
+    /// Two become two other names, where none has an allocation. Else nothing is done.
+    #[inline(always)]
+    pub(crate) fn set_two_near(
+        first: &mut Name,
+        second: &mut Name,
+        source: &Name,
+        other: &Name,
+    ) -> bool
+        ensures done { IsTrue result → (first.new ≡ source.now) × (second.new ≡ other.now) }
+        ensures not { IsFalse result → (first.new ≡ first.old) × (second.new ≡ second.old) }
+    {
+        Wire::set_two_near(&mut first.wire, &mut second.wire, &source.wire, &other.wire)
+    }
+
+    // Becomes another name, where one of them has an allocation.
+    #[cold]
+    #[inline(never)]
+    fn set_far(&mut self, other: &Name) -> Result<(), NoMemory>
         ensures ok { OnOk result (self.new ≡ other.now) }
         ensures err { OnErr result (self.new ≡ self.old) }
     {

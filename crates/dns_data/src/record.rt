@@ -115,7 +115,7 @@ impl Rdata {
 impl Rdata {
     // Tells that the numbers are in the ranges of their Rust types. It does nothing.
     #[inline]
-    fn read_numbers(&self)
+    pub(crate) fn read_numbers(&self)
         ensures { NumbersFit self.now }
     {
         match self {
@@ -235,31 +235,6 @@ impl Record {
             class,
             ttl,
             rdata,
-        }
-    }
-}
-
-impl Record {
-    /// Ends a record as a drop does. It stands where it is called, so that a record of an address,
-    /// whose owner takes no memory, costs no call.
-    #[inline(always)]
-    pub fn end(self) {
-        let Record {
-            owner: _owner,
-            class: _,
-            ttl: _,
-            rdata,
-        } = self;
-        match rdata {
-            Rdata::A(_) | Rdata::Aaaa(_) => {}
-            Rdata::Ns(_name) | Rdata::Cname(_name) | Rdata::Ptr(_name) => {}
-            Rdata::Soa(_soa) => {}
-            Rdata::Hinfo(_cpu, _os) => {}
-            Rdata::Mx(_, _exchange) => {}
-            Rdata::Txt(_strings) => {}
-            Rdata::Srv(_, _, _, _target) => {}
-            Rdata::Caa(_, _tag, _value) => {}
-            Rdata::Opaque(_, _bytes) => {}
         }
     }
 }

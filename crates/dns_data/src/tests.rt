@@ -114,6 +114,157 @@ fn records_are_copied_whole(rt: HostRuntime) -> Result<(), Fail> {
     Ok(())
 }
 
+#[test]
+fn a_room_is_filled_again(rt: HostRuntime) -> Result<(), Fail> {
+    let mut room = RecordRoom::new(rt.alloc());
+    fill(rt.alloc(), &mut room, b"\x01a")?;
+    room.clear();
+    assert_eq!(rt; room.len(), 0);
+    fill(rt.alloc(), &mut room, b"\x01b")?;
+    assert_eq!(rt; room.len(), 4);
+    assert!(rt; is_filled(room.as_slice(), b"\x01b"));
+    Ok(())
+}
+
+// Adds two aliases, an address and a port.
+fn fill(alloc: Global, room: &mut RecordRoom, target: &[u8]) -> Result<(), NoMemory> {
+    let owner = name_of(alloc, "h")?;
+    let alias = record_of(alloc, Rdata::Cname(name_of(alloc, text_of(target))?))?;
+    room.push_copy(alloc, &owner, 9, &alias)?;
+    room.push(alloc, &alias)?;
+    room.push_address(alloc, &owner, 5, Addr::V6(1))?;
+    room.push_service(alloc, b"_udp", &Name::root(alloc), 0, 53)
+}
+
+// The first letter of a name.
+fn text_of(wire: &[u8]) -> &'static str {
+    match wire.get(1) {
+        Some(b'a') => "a",
+        _ => "b",
+    }
+}
+
+fn is_filled(records: &[Record], target: &[u8]) -> bool {
+    let [copied, whole, address, service] = records else {
+        return false;
+    };
+    is_at(copied, b"\x01h", 6, 9)
+        && is_alias_of(copied, target)
+        && is_at(whole, b"\x07Example\x03org", 6, 7)
+        && is_alias_of(whole, target)
+        && is_at(address, b"\x01h", 1, 5)
+        && matches!(address.rdata, Rdata::Aaaa(1))
+        && is_at(service, b"\x04_udp", 1, 0)
+        && is_port(service, 53)
+}
+
+fn is_at(record: &Record, owner: &[u8], class: u16, ttl: u32) -> bool {
+    record.owner.as_wire() == owner && record.class == class && record.ttl == ttl
+}
+
+fn is_alias_of(record: &Record, target: &[u8]) -> bool {
+    match &record.rdata {
+        Rdata::Cname(name) => name.as_wire() == target,
+        _ => false,
+    }
+}
+
+fn is_port(record: &Record, port: u16) -> bool {
+    match &record.rdata {
+        Rdata::Srv(0, 0, number, root) => *number == port && root.wire_len() == 1,
+        _ => false,
+    }
+}
+
+#[test]
+fn a_long_name_takes_the_place_of_a_short_one(rt: HostRuntime) -> Result<(), Fail> {
+    let short = name_of(rt.alloc(), "h")?;
+    let long = name_of(rt.alloc(), "a-label-of-more-than-thirty-eight-bytes.org")?;
+    let mut room = RecordRoom::new(rt.alloc());
+    put_alias(rt.alloc(), &mut room, &short)?;
+    put_alias(rt.alloc(), &mut room, &long)?;
+    assert!(rt; has_alias(&room, &long));
+    put_alias(rt.alloc(), &mut room, &short)?;
+    assert!(rt; has_alias(&room, &short));
+    Ok(())
+}
+
+// Leaves one record, whose owner and target are this name.
+fn put_alias(alloc: Global, room: &mut RecordRoom, name: &Name) -> Result<(), NoMemory> {
+    let alias = record_of(alloc, Rdata::Cname(name.copy(alloc)?))?;
+    room.clear();
+    room.push_copy(alloc, name, 1, &alias)
+}
+
+fn has_alias(room: &RecordRoom, name: &Name) -> bool {
+    match room.as_slice() {
+        [record] => is_at(record, name.as_wire(), 6, 1) && is_alias_of(record, name.as_wire()),
+        _ => false,
+    }
+}
+
+#[test]
+fn an_soa_is_copied_into_another(rt: HostRuntime) -> Result<(), Fail> {
+    let mut room = RecordRoom::new(rt.alloc());
+    room.push(rt.alloc(), &soa(rt.alloc(), 10)?)?;
+    room.clear();
+    room.push(rt.alloc(), &soa(rt.alloc(), 20)?)?;
+    assert_eq!(rt; soa_numbers(&room), Some([20, 21, 22, 23, 24]));
+    Ok(())
+}
+
+// An SOA with five numbers from this one on.
+fn soa(alloc: Global, serial: u8) -> Result<Record, NoMemory> {
+    let first = u32::from(serial);
+    let data = Soa {
+        mname: name_of(alloc, "ns.org")?,
+        rname: name_of(alloc, "mail.org")?,
+        serial: first,
+        refresh: first + 1,
+        retry: first + 2,
+        expire: first + 3,
+        minimum: first + 4,
+    };
+    record_of(alloc, Rdata::Soa(data))
+}
+
+// The numbers of the one SOA there is.
+fn soa_numbers(room: &RecordRoom) -> Option<[u32; 5]> {
+    let record = room.as_slice().first()?;
+    match &record.rdata {
+        Rdata::Soa(soa) => Some([soa.serial, soa.refresh, soa.retry, soa.expire, soa.minimum]),
+        _ => None,
+    }
+}
+
+#[test]
+fn a_slot_is_an_answer(rt: HostRuntime) -> Result<(), Fail> {
+    let owner = name_of(rt.alloc(), "h.org")?;
+    let mut slot = Slot::new(rt.alloc());
+    slot.rcode = rcode::NXDOMAIN;
+    slot.aa = true;
+    slot.authority
+        .push_address(rt.alloc(), &owner, 3, Addr::V4(4))?;
+    let answer = slot.to_answer(rt.alloc())?;
+    slot.clear();
+    assert_eq!(rt; (slot.rcode, slot.aa, slot.authority.len()), (0, false, 0));
+    slot.fill(rt.alloc(), &answer)?;
+    assert_eq!(rt;
+        (slot.rcode, slot.aa, slot.ra, slot.tc),
+        (3, true, false, false)
+    );
+    assert_eq!(rt;
+        (
+            slot.answer.len(),
+            slot.authority.len(),
+            slot.additional.len()
+        ),
+        (0, 1, 0)
+    );
+    assert!(rt; matches!(slot.authority.as_slice(), [one] if one.ttl == 3));
+    Ok(())
+}
+
 // A record at Example.org.
 fn record_of(alloc: Global, rdata: Rdata) -> Result<Record, NoMemory>
     requires { IsFormed rdata }

@@ -69,6 +69,14 @@ impl Short {
         more <= MOST - self.len as usize
     }
 
+    /// Whether so many fit where there are none.
+    #[inline]
+    pub(crate) fn fits(bytes: usize) -> bool
+        ensures { IsTrue result ↔ (bytes ≤ 38) }
+    {
+        bytes <= MOST
+    }
+
     /// Adds bytes at the end.
     #[inline]
     pub(crate) fn push(&mut self, more: &[u8])
@@ -98,6 +106,15 @@ impl Short {
             bytes: self.bytes,
             alloc: self.alloc,
         }
+    }
+
+    /// Becomes the bytes of another.
+    #[inline(always)]
+    pub(crate) fn set_to(&mut self, other: &Short)
+        ensures { self.new ≡ other.now }
+    {
+        self.bytes = other.bytes;
+        self.len = other.len;
     }
 
     /// Makes every ASCII capital small.

@@ -1,5 +1,5 @@
 //! The bytes of a name in wire format, which stand in the value itself where it is short.
-ghost use Rattle.std.specs.Prelude.{◌≡◌, ◌+◌, ◌≤◌, [], ◌∷◌, ◌++◌, length, map, IfOk, IsOk, OnOk, OnErr};
+ghost use Rattle.std.specs.Prelude.{◌≡◌, ◌+◌, ◌≤◌, [], ◌∷◌, ◌++◌, length, map, IfOk, IsOk, OnOk, OnErr, IsTrue, IsFalse};
 ghost use Rattle.std.specs.Char.{to_ascii_lowercase};
 
 use crate::NoMemory;
@@ -201,6 +201,69 @@ impl Wire {
                 Ok(())
             }
         }
+    }
+
+    /// Becomes a label behind its length, and bytes behind it, in the room that is there.
+    #[inline]
+    pub fn set_label(&mut self, label: &[u8], rest: &[u8]) -> Result<(), NoMemory>
+        requires { length label.now ≤ 63 }
+        ensures ok { OnOk result (self.new ≡ (length label.now ∷ label.now) ++ rest.now) }
+        ensures err { OnErr result (self.new ≡ self.old) }
+    {
+        let size = label.len() as u8;
+        match &mut self.form {
+            Form::Few(short) => {
+                if Short::fits(label.len() + 1 + rest.len()) {
+                    short.clear();
+                    short.push(&[size]);
+                    short.push(label);
+                    short.push(rest);
+                    return Ok(());
+                }
+                self.form = Form::Many(labelled(short.allocator(), label, rest)?);
+                Ok(())
+            }
+            Form::Many(long) => {
+                long.reserve(label.len() + 1 + rest.len())?;
+                long.clear();
+                long.push(size)?;
+                long.extend_from_slice(label)?;
+                long.extend_from_slice(rest)?;
+                Ok(())
+            }
+        }
+    }
+
+    /// Becomes a copy of another, where both stand in their values. Else nothing is done.
+    #[inline(always)]
+    pub fn set_near(&mut self, other: &Wire) -> bool
+        ensures done { IsTrue result → self.new ≡ other.now }
+        ensures not { IsFalse result → self.new ≡ self.old }
+    {
+        if let (Form::Few(short), Form::Few(source)) = (&mut self.form, &other.form) {
+            short.set_to(source);
+            return true;
+        }
+        false
+    }
+
+    /// Two become copies of two others, where all four stand in their values. Else nothing is done.
+    #[inline(always)]
+    pub fn set_two_near(first: &mut Wire, second: &mut Wire, source: &Wire, other: &Wire) -> bool
+        ensures done { IsTrue result → (first.new ≡ source.now) × (second.new ≡ other.now) }
+        ensures not { IsFalse result → (first.new ≡ first.old) × (second.new ≡ second.old) }
+    {
+        if let (Form::Few(one), Form::Few(two), Form::Few(source), Form::Few(other)) = (
+            &mut first.form,
+            &mut second.form,
+            &source.form,
+            &other.form,
+        ) {
+            one.set_to(source);
+            two.set_to(other);
+            return true;
+        }
+        false
     }
 
     /// Drops all bytes, and keeps the room.

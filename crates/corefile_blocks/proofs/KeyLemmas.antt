@@ -1,9 +1,8 @@
 -- The pieces of a header, and where a key is cut.
-use Rattle.std.proofs.Common.{◌≡◌, ◌≢◌, ℕ, zero, suc, ◌+◌, ◌<◌, ◌≤◌, Bool, true, false, eqb, cond, ◌/◌, List, [], ◌∷◌, ◌++◌, Option, Some, None, option_map, length, take, drop, get_or, refl, sym, ap, ◌∙◌, arith}
+use Rattle.std.proofs.Common.{◌≡◌, ◌≢◌, ℕ, zero, suc, ◌+◌, ◌<◌, ◌≤◌, Bool, true, false, eqb, cond, List, [], ◌∷◌, ◌++◌, Option, Some, None, option_map, length, take, drop, get_or, refl, sym, ap, ◌∙◌, arith}
 use Rattle.std.proofs.lemmas.List.{append-nil, drop_all, drop_more, take_all, take_more}
 use Rattle.std.proofs.lemmas.Bool.{eq-eqb, ne_eqb}
 use Rattle.std.specs.List.{flat_map}
-use Rattle.dns_data.specs.ReverseNames.{v6_reverse, nibbles, ip6_arpa}
 use Rattle.std.specs.Prelude.{codes}
 use Rattle.corefile_words.specs.declared.word.Word.{Word}
 use Rattle.corefile_blocks.specs.Keys.{HeaderData, add_key, add_keys, all_pieces, begins_with, cut_at_commas, has_mark, pieces_of, port_at, scheme_at, unless_empty, with_first}
@@ -96,14 +95,6 @@ port_start (byte ∷ text) = marked (has_mark (byte ∷ text)) refl
 
 pub port_end : (at : ℕ) (found : Option ℕ) → port_behind at [] found ≡ found
 port_end at found = refl
-
-length-nibbles : (count number : ℕ) (others : List (List ℕ)) → length (nibbles count number others) ≡ count + length others
-length-nibbles zero number others = omega arith
-length-nibbles (suc count) number others = omega (arith, length-nibbles count (number / 16) others)
-
-pub v6_labels : (addr : ℕ) → length (v6_reverse addr) ≡ 34
-unfolding v6_reverse
-v6_labels addr = length-nibbles 32 addr ip6_arpa
 
 -- the pieces of a word were read
 pub word_read : (port line : ℕ) (header after : HeaderData) (words rest : List Word) (word : Word) → words ≡ word ∷ rest

@@ -1,13 +1,13 @@
 -- The keys of a block: `[dns://]ZONE[:PORT]` or `[dns://]ADDRESS/BITS[:PORT]`. Bytes by number:
 -- 44 `,`, 47 `/`, 58 `:`.
-use Rattle.std.specs.Prelude.{ℕ, ◌+◌, ◌-◌, ◌*◌, ◌/◌, ◌%◌, ◌==◌, nat_le, Bool, ◌&&◌, ◌||◌, List, []}
+use Rattle.std.specs.Prelude.{ℕ, ◌+◌, ◌-◌, ◌*◌, ◌==◌, nat_le, Bool, ◌&&◌, ◌||◌, List, []}
 use Rattle.std.specs.Prelude.{◌∷◌, ◌++◌, length, codes, drop, take, Option, Some, None, option_map}
 use Rattle.std.specs.Prelude.{option_and_then, Result, Ok, Err, if◌then◌else◌}
 use Rattle.std.specs.List.{flat_map, list_any}
 use Rattle.std.specs.Char.{is_ascii_digit}
 use Rattle.corefile_words.specs.declared.word.Word.{Word}
-use Rattle.dns_data.specs.Addresses.{Addr, V4, V6}
-use Rattle.dns_data.specs.{lowered, name_of, net_of, reverse_of, same_labels}
+use Rattle.zone_words.specs.{has_byte, name_zone, net_zone}
+use Rattle.dns_data.specs.{same_labels}
 use Rattle.dns_data.specs.declared.block.Block.{Block}
 use Rattle.dns_data.specs.declared.block.BlockKey.{BlockKey}
 use Rattle.corefile_blocks.specs.declared.fault.BlockWhy.{BlockWhy}
@@ -51,10 +51,6 @@ behind_scheme text None = Some text
 behind_scheme text (Some at) =
     if same_text (take at text) (codes "dns") then Some (drop (at + 3) text) else None
 
--- whether the byte is in the text
-abbrev pub has_byte : ℕ → List ℕ → Bool
-has_byte byte text = list_any (λ other. other == byte) text
-
 -- whether a colon or a `/` is in the text
 abbrev pub has_mark : List ℕ → Bool
 has_mark text = list_any (λ byte. byte == 58 || byte == 47) text
@@ -93,24 +89,6 @@ abbrev pub before_port : List ℕ → Option ℕ → List ℕ
 before_port text None = text
 before_port text (Some at) = take at text
 
--- the zone that a text names, in small letters; the root, where it is empty
-abbrev pub zone_of : List ℕ → Option (List (List ℕ))
-zone_of [] = Some []
-zone_of (byte ∷ text) = option_map lowered (name_of (byte ∷ text) [])
-
--- the zone of the names of a net's addresses, where its bits are whole octets, or whole nibbles
-abbrev pub reverse_zone : Addr → ℕ → Option (List (List ℕ))
-reverse_zone (V4 addr) bits =
-    if bits % 8 == 0 && nat_le bits 32
-    then Some (drop (4 - bits / 8) (reverse_of (V4 addr))) else None
-reverse_zone (V6 addr) bits =
-    if bits % 4 == 0 && nat_le bits 128
-    then Some (drop (32 - bits / 4) (reverse_of (V6 addr))) else None
-
--- the reverse zone of the net that a text spells
-abbrev pub net_zone : List ℕ → Option (List (List ℕ))
-net_zone text = option_and_then (λ net. reverse_zone net.addr net.bits) (net_of text)
-
 -- the zone, or why the text has none
 abbrev pub zone_or : BlockWhy → Option (List (List ℕ)) → Result (List (List ℕ)) BlockWhy
 zone_or fault None = Err fault
@@ -119,7 +97,7 @@ zone_or fault (Some zone) = Ok zone
 -- the zone of a key without scheme and port
 unfoldable pub key_zone : List ℕ → Result (List (List ℕ)) BlockWhy
 key_zone text =
-    if has_byte 47 text then zone_or why.Cidr (net_zone text) else zone_or why.Zone (zone_of text)
+    if has_byte 47 text then zone_or why.Cidr (net_zone text) else zone_or why.Zone (name_zone text)
 
 -- the key of a port and a zone, of which a bad port is told first
 abbrev pub key_by : ℕ → Option ℕ → Result (List (List ℕ)) BlockWhy → Result BlockKey BlockWhy

@@ -1,17 +1,16 @@
 ghost use Rattle.std.specs.Prelude.{◌≡◌, ◌<◌, ◌≤◌, ◌+◌, ◌∷◌, ◌++◌, length, option_map, nat_le};
 ghost use Rattle.std.specs.Prelude.{IfOk, IfSome, OnOk};
 ghost use Rattle.corefile_blocks.specs.Keys.{add_key, add_keys, all_pieces, behind_scheme};
-ghost use Rattle.corefile_blocks.specs.Keys.{has_byte};
-ghost use Rattle.corefile_blocks.specs.Keys.{header_keys, if_port, key_of, key_zone, net_zone};
-ghost use Rattle.corefile_blocks.specs.Keys.{or_no_key};
-ghost use Rattle.corefile_blocks.specs.Keys.{key_by, pieces_of, port_at, port_of, reverse_zone};
-ghost use Rattle.corefile_blocks.specs.Keys.{scheme_at, unless_empty};
+ghost use Rattle.corefile_blocks.specs.Keys.{header_keys, if_port, key_by, key_of, key_zone};
+ghost use Rattle.corefile_blocks.specs.Keys.{or_no_key, pieces_of, port_at, port_of};
+ghost use Rattle.corefile_blocks.specs.Keys.{scheme_at, unless_empty, zone_or};
 
 use crate::BlockWhy;
 use corefile_words::Word;
-use dns_data::{Addr, BlockKey, BlockKeys, Name, NameFault, Net, NoMemory, Seq};
+use dns_data::{BlockKey, BlockKeys, Name, NoMemory, Seq};
 use std::alloc::Global;
 use std::marker::Model;
+use zone_words::{is_net_word, name_zone, net_zone};
 
 /// The keys of a header up to the first piece that is none, and why that one is none.
 #[derive(Debug, Drop)]
@@ -226,58 +225,18 @@ fn read_port(text: &[u8]) -> Option<u16>
 fn read_zone(alloc: Global, text: &[u8]) -> Result<Result<Name, BlockWhy>, NoMemory>
     ensures { IfOk result (λ zone. zone ≡ key_zone text.now) }
 {
-    if has_byte(text, b'/') {
-        return match net_zone(alloc, text)? {
-            Some(zone) => Ok(Ok(zone)),
-            None => Ok(Err(BlockWhy::Cidr)),
-        };
+    if is_net_word(text) {
+        return zone_or(net_zone(alloc, text)?, BlockWhy::Cidr);
     }
-    if text.len() == 0 {
-        return Ok(Ok(Name::root(alloc)));
-    }
-    match Name::read(alloc, text, &Name::root(alloc)) {
-        Ok(mut zone) => {
-            zone.make_lower();
-            Ok(Ok(zone))
-        }
-        Err(NameFault::Bad) => Ok(Err(BlockWhy::Zone)),
-        Err(NameFault::NoMemory) => Err(NoMemory),
-    }
+    zone_or(name_zone(alloc, text)?, BlockWhy::Zone)
 }
 
-fn has_byte(text: &[u8], byte: u8) -> bool
-    ensures { result ≡ has_byte byte text.now }
+// The zone, or why the text has none.
+fn zone_or(zone: Option<Name>, why: BlockWhy) -> Result<Result<Name, BlockWhy>, NoMemory>
+    ensures { IfOk result (λ read. read ≡ zone_or why zone) }
 {
-    for other in text {
-        if *other == byte {
-            return true;
-        }
-    }
-    false
-}
-
-// The zone of the names of a net's addresses.
-fn net_zone(alloc: Global, text: &[u8]) -> Result<Option<Name>, NoMemory>
-    ensures { IfOk result (λ zone. zone ≡ net_zone text.now) }
-{
-    let Some(net) = Net::read(text) else {
-        return Ok(None);
-    };
-    let bits = usize::from(net.bits);
-    match net.addr {
-        Addr::V4(_) => {
-            if bits % 8 != 0 || 32 < bits {
-                return Ok(None);
-            }
-            let name = Name::reverse(alloc, &net.addr)?;
-            Ok(Some(name.suffix(alloc, 4 - bits / 8)?))
-        }
-        Addr::V6(_) => {
-            if bits % 4 != 0 || 128 < bits {
-                return Ok(None);
-            }
-            let name = Name::reverse(alloc, &net.addr)?;
-            Ok(Some(name.suffix(alloc, 32 - bits / 4)?))
-        }
+    match zone {
+        Some(zone) => Ok(Ok(zone)),
+        None => Ok(Err(why)),
     }
 }

@@ -1,7 +1,7 @@
 use Rattle.std.proofs.Common.{◌≡◌, ◌∙◌, ap, length, arith}
 use Rattle.dns_data.specs.{reverse_of}
-use Rattle.corefile_blocks.proofs.KeyLemmas.{v6_labels}
-use Rattle.corefile_blocks.proofs.keys.net_zone.Goals as goal
+use Rattle.zone_words.proofs.ReverseZones.{v6_labels}
+use Rattle.zone_words.proofs.reading.net_zone.Goals as goal
 
 pub suffix-requires-in-V6 : goal.suffix-requires-in-V6
 suffix-requires-in-V6 c =

@@ -1,0 +1,10 @@
+//! Zones as the words of a Corefile name them, and whether names are in them.
+#![tactic(auto)]
+
+mod covering;
+mod reading;
+#[cfg(test)]
+mod tests;
+
+pub use covering::{covers, is_in};
+pub use reading::{is_net_word, name_zone, net_zone, read_zone, read_zones};

@@ -7,6 +7,11 @@ pub mod WatchMarks
 pub mod Hosts
 pub mod Journals
 pub mod Patterns
+pub mod Meanings
+pub mod Weight
+pub mod Kept
+pub mod Taking
+pub mod TakingLaws
 -- what public clauses cite
 pub use Rattle.outside.specs.Causes.{HostCounts, HostNoneFell, SideCounts, WatchCounts, NoneFell}
 pub use Rattle.outside.specs.Causes.{Rose, RoseBy, RoseJust, WatchNoneFell, raised}
@@ -25,3 +30,7 @@ pub use Rattle.outside.specs.States.{WatchJournal, WatchState, WatchStays, left_
 pub use Rattle.outside.specs.States.{with_refusals}
 pub use Rattle.outside.specs.WatchMarks.{AddsWatch, AnsweredWatch, IsReadLimited, QuietWatch}
 pub use Rattle.outside.specs.WatchMarks.{look_marks, published, read_marks, watch_noted}
+pub use Rattle.outside.specs.Kept.{Keeps, is_on}
+pub use Rattle.outside.specs.Meanings.{Meaning, Starved, Took, onward}
+pub use Rattle.outside.specs.Taking.{Asks, Takes}
+pub use Rattle.outside.specs.Weight.{inner_weight, weight_of}

@@ -6,6 +6,8 @@
 mod datagram;
 mod entry;
 mod host;
+mod kept;
+mod light;
 mod maker;
 mod mark;
 mod script;
@@ -17,6 +19,8 @@ mod watch;
 pub use datagram::{Datagram, Outcome, Received, Upstream, Wrote};
 pub use entry::{Class, Entry, InnerMark, InnerMarks, Key};
 pub use host::{Host, OpenFault};
+pub use kept::Kept;
+pub use light::Light;
 pub use maker::{Made, PatternMaker, RegexMaker};
 pub use mark::{Mark, Seen, WatchMark};
 pub use script::{FileSet, SideScript, WatchScript};

@@ -46,6 +46,28 @@ fn a_datagram_is_copied_whole(rt: HostRuntime) -> Result<(), Fail> {
 }
 
 #[test]
+fn marks_are_kept_until_they_are_too_heavy(rt: HostRuntime) -> Result<(), Fail> {
+    let message = Bytes::of(Vec::from_elem(rt.alloc(), 0, 16_384)?);
+    let mut kept = Kept::On(Light::new(rt.alloc()));
+    kept.keep(asked(message))?;
+    assert!(rt; kept.is_on());
+    kept.keep(InnerMark::More(Outcome::Silence))?;
+    assert!(rt; kept.is_on());
+    kept.keep(InnerMark::Word(0))?;
+    assert!(rt; matches!(kept, Kept::Past));
+    Ok(())
+}
+
+// An ask that nothing came of.
+fn asked(message: Bytes) -> InnerMark {
+    let to = Upstream {
+        addr: Addr::V4(0x7f00_0001),
+        port: 53,
+    };
+    InnerMark::Asked(to, Transport::Udp, message, Outcome::Silence)
+}
+
+#[test]
 fn a_set_of_one_file_holds_it(rt: HostRuntime) -> Result<(), Fail> {
     let set = FileSet::of_file(rt.alloc(), "Corefile", b". {")?;
     assert!(rt;

@@ -1,0 +1,104 @@
+-- What a list of steps means for a query and the marks of a side. Each step is a rule over the rest,
+-- which is the meaning of the steps behind it. This server's own rule, in the manner of CoreDNS.
+use Rattle.std.specs.Prelude.{ℕ, nat_eq, Bool, false, List, [], ◌∷◌, Option, Some, None}
+use Rattle.std.specs.Prelude.{if◌then◌else◌}
+use Rattle.std.specs.Cmp.Lexicographic.{pointwise}
+use Rattle.dns_data.specs.Message.{AnswerData}
+use Rattle.dns_data.specs.declared.query.Query.{Query}
+use Rattle.dns_data.specs.declared.rcode.TheConstants as rcodes
+use Rattle.outside.specs.Meanings.{Meaning, Done, More, Off, onward}
+use Rattle.outside.specs.declared.mark.Mark.{Mark}
+use Rattle.outside.specs.declared.mark.Mark.TheVariants.{Noted}
+use Rattle.acl_plugin.specs.{acl_say}
+use Rattle.acl_plugin.specs.declared.plan.AclSay.{AclSay}
+use Rattle.acl_plugin.specs.declared.plan.AclSay.TheVariants as acl
+use Rattle.plain_plugins.specs.{any_of, error_line, is_any, log_line, plain_zones, whoami_of}
+use Rattle.plain_plugins.specs.declared.lines.LogOutcome.{LogOutcome}
+use Rattle.plain_plugins.specs.declared.lines.LogOutcome.TheVariants as outcome
+use Rattle.plugin_api.specs.{PlanData}
+use Rattle.plugin_api.specs.declared.verdict.Cause.TheVariants as cause
+use Rattle.plugin_api.specs.declared.verdict.Code.{Code}
+use Rattle.plugin_api.specs.declared.verdict.Code.TheVariants as code
+use Rattle.zone_words.specs.{is_in}
+use Rattle.chain_meaning.specs.declared.decision.Decision.{Decision}
+use Rattle.chain_meaning.specs.declared.decision.Decision.TheVariants as decision
+use Rattle.chain_meaning.specs.Steps.{Answerer, Acl, Any, Whoami, Step, Errors, Log, Answers}
+
+-- an RCODE without records
+abbrev pub nothing : ℕ → AnswerData
+nothing rcode = record {
+  rcode = rcode;
+  aa = false;
+  ra = false;
+  tc = false;
+  answer = [];
+  authority = [];
+  additional = [];
+}
+
+-- a decision stands once exactly this line was noted, whether it went out or not
+abbrev pub take_note : List ℕ → Decision → List Mark → Meaning Decision
+take_note line v [] = More
+take_note line v (Noted other out ∷ left) = if pointwise nat_eq line other then Done v left else Off
+take_note line v (mark ∷ left) = Off
+
+-- errors: behind a code its line
+abbrev pub error_noted : Query → Decision → List Mark → Meaning Decision
+error_noted q (decision.Code code cause) left =
+    take_note (error_line q code cause) (decision.Code code cause) left
+error_noted q (decision.Reply a) left = Done (decision.Reply a) left
+error_noted q decision.Drop left = Done decision.Drop left
+
+-- the RCODE of a code
+abbrev pub number : Code → ℕ
+number code.FormErr = rcodes.FORMERR
+number code.ServFail = rcodes.SERVFAIL
+number code.NotImp = rcodes.NOTIMP
+number code.Refused = rcodes.REFUSED
+
+-- how a query ended, as `log` notes it
+abbrev pub outcome_of : Decision → LogOutcome
+outcome_of (decision.Reply a) = outcome.Rcode a.rcode
+outcome_of (decision.Code code cause) = outcome.Rcode (number code)
+outcome_of decision.Drop = outcome.Dropped
+
+-- log: behind a query for a name in its zones its line
+abbrev pub query_noted : PlanData → Query → Decision → List Mark → Meaning Decision
+query_noted plan q v left =
+    if is_in q.name (plain_zones plan) then take_note (log_line q (outcome_of v)) v left
+    else Done v left
+
+-- acl: what is said, where it doesn't go on
+abbrev pub acl_answer : AclSay → Option Decision
+acl_answer acl.GoOn = None
+acl_answer acl.Block = Some (decision.Reply (nothing rcodes.REFUSED))
+acl_answer acl.Filter = Some (decision.Reply (nothing rcodes.NOERROR))
+acl_answer acl.Drop = Some decision.Drop
+
+-- any: a query for all types is answered
+abbrev pub any_answer : Query → Option Decision
+any_answer q = if is_any q then Some (decision.Reply (any_of q)) else None
+
+-- what a plugin answers; None: it goes on
+unfoldable pub answer_of : Answerer → Query → List Mark → Meaning (Option Decision)
+answer_of (Acl plans) q marks = Done (acl_answer (acl_say plans q)) marks
+answer_of Any q marks = Done (any_answer q) marks
+answer_of Whoami q marks = Done (Some (decision.Reply (whoami_of q))) marks
+
+-- where a plugin goes on, the rest decides
+abbrev pub or_rest : (Query → List Mark → Meaning Decision) → Query → Option Decision → List Mark
+    → Meaning Decision
+or_rest rest q (Some v) left = Done v left
+or_rest rest q None left = rest q left
+
+-- the rule of each step
+unfoldable pub rule : Step → (Query → List Mark → Meaning Decision) → Query → List Mark
+    → Meaning Decision
+rule Errors rest q marks = onward (rest q marks) (error_noted q)
+rule (Log plan) rest q marks = onward (rest q marks) (query_noted plan q)
+rule (Answers plugin) rest q marks = onward (answer_of plugin q marks) (or_rest rest q)
+
+-- the end of the chain is SERVFAIL
+unfoldable pub mean : List Step → Query → List Mark → Meaning Decision
+mean [] q marks = Done (decision.Code code.ServFail cause.EndOfChain) marks
+mean (step ∷ steps) q marks = rule step (mean steps) q marks

@@ -1,0 +1,71 @@
+-- Laws of the meaning, for those who run a chain: an equation for each step, and that without a mark no
+-- meaning is off and a decision leaves nothing.
+use Rattle.std.proofs.Common.{◌≡◌, ℕ, Bool, true, false, List, [], ◌∷◌, Option, Some, None, refl, if◌then◌else◌}
+use Rattle.dns_data.specs.declared.query.Query.{Query}
+use Rattle.outside.specs.Meanings.{Meaning, Done, More, Off, Starved, onward}
+use Rattle.outside.specs.TakingLaws.{starved_onward}
+use Rattle.outside.specs.declared.mark.Mark.{Mark}
+use Rattle.plain_plugins.specs.{log_line, plain_zones}
+use Rattle.plugin_api.specs.{PlanData}
+use Rattle.plugin_api.specs.declared.verdict.Cause.TheVariants as cause
+use Rattle.plugin_api.specs.declared.verdict.Code.TheVariants as code
+use Rattle.zone_words.specs.{is_in}
+use Rattle.chain_meaning.specs.declared.decision.Decision.{Decision}
+use Rattle.chain_meaning.specs.declared.decision.Decision.TheVariants as decision
+use Rattle.chain_meaning.specs.Mean.{answer_of, error_noted, mean, or_rest, outcome_of, query_noted, rule, take_note}
+use Rattle.chain_meaning.specs.Steps.{Answerer, Acl, Any, Whoami, Step, Errors, Log, Answers}
+
+pub mean-end : (q : Query) (marks : List Mark) → mean [] q marks ≡ Done (decision.Code code.ServFail cause.EndOfChain) marks
+unfolding mean
+mean-end q marks = refl
+
+pub mean-step : (step : Step) (steps : List Step) (q : Query) (marks : List Mark) → mean (step ∷ steps) q marks ≡ rule step (mean steps) q marks
+unfolding mean
+mean-step step steps q marks = refl
+
+pub rule-errors : (rest : Query → List Mark → Meaning Decision) (q : Query) (marks : List Mark) → rule Errors rest q marks ≡ onward (rest q marks) (error_noted q)
+unfolding rule
+rule-errors rest q marks = refl
+
+pub rule-log : (plan : PlanData) (rest : Query → List Mark → Meaning Decision) (q : Query) (marks : List Mark)
+    → rule (Log plan) rest q marks ≡ onward (rest q marks) (query_noted plan q)
+unfolding rule
+rule-log plan rest q marks = refl
+
+pub rule-answers : (plugin : Answerer) (rest : Query → List Mark → Meaning Decision) (q : Query) (marks : List Mark)
+    → rule (Answers plugin) rest q marks ≡ onward (answer_of plugin q marks) (or_rest rest q)
+unfolding rule
+rule-answers plugin rest q marks = refl
+
+pub error_nothing : (q : Query) (v : Decision) → Starved (error_noted q v [])
+error_nothing q (decision.Reply a) = refl
+error_nothing q (decision.Code code cause) = tt
+error_nothing q decision.Drop = refl
+
+note_nothing : (line : List ℕ) (v : Decision) (t : Bool) → Starved (if t then take_note line v [] else Done v [])
+note_nothing line v true = tt
+note_nothing line v false = refl
+
+pub query_nothing : (plan : PlanData) (q : Query) (v : Decision) → Starved (query_noted plan q v [])
+query_nothing plan q v = note_nothing (log_line q (outcome_of v)) v (is_in q.name (plain_zones plan))
+
+pub answer_nothing : (plugin : Answerer) (q : Query) → Starved (answer_of plugin q [])
+unfolding answer_of
+answer_nothing (Acl plans) q = refl
+answer_nothing Any q = refl
+answer_nothing Whoami q = refl
+
+pub or_rest_nothing : (rest : Query → List Mark → Meaning Decision) (q : Query) → Starved (rest q []) → (v : Option Decision) → Starved (or_rest rest q v [])
+or_rest_nothing rest q none (Some v) = refl
+or_rest_nothing rest q none None = none
+
+rule_nothing : (step : Step) (rest : Query → List Mark → Meaning Decision) (q : Query) → ((other : Query) → Starved (rest other [])) → Starved (rule step rest q [])
+unfolding rule
+rule_nothing Errors rest q none = starved_onward (rest q []) (error_noted q) (none q) (error_nothing q)
+rule_nothing (Log plan) rest q none = starved_onward (rest q []) (query_noted plan q) (none q) (query_nothing plan q)
+rule_nothing (Answers plugin) rest q none = starved_onward (answer_of plugin q []) (or_rest rest q) (answer_nothing plugin q) (or_rest_nothing rest q (none q))
+
+pub mean_nothing : (steps : List Step) (q : Query) → Starved (mean steps q [])
+unfolding mean
+mean_nothing [] q = refl
+mean_nothing (step ∷ steps) q = rule_nothing step (mean steps) q (mean_nothing steps)

@@ -1,0 +1,78 @@
+-- The chain of a block: a list of steps, each with what its plugin reads, directives and the zones of
+-- the block's keys. All `acl` directives are one step.
+use Rattle.std.specs.Prelude.{ℕ, nat_eq, Bool, true, false, List, [], ◌∷◌, ◌++◌, map, Option, Some}
+use Rattle.std.specs.Prelude.{None, if◌then◌else◌}
+use Rattle.std.specs.List.{filter, list_any}
+use Rattle.dns_data.specs.declared.block.Block.{Block}
+use Rattle.dns_data.specs.declared.directive.Directive.{Directive}
+use Rattle.plugin_api.specs.{PlanData, order_of, rank_of}
+use Rattle.plugin_api.specs.declared.ranks.Rank.{Rank}
+use Rattle.plugin_api.specs.declared.ranks.Rank.TheVariants as rank
+
+-- a plugin that answers or goes on
+pub data Answerer : Type 0 where
+  Acl : List PlanData → Answerer
+  Any : Answerer
+  Whoami : Answerer
+
+pub data Step : Type 0 where
+  Errors : Step
+  Log : PlanData → Step
+  Answers : Answerer → Step
+
+-- the zones for which a directive stands that names none: those of its block's keys
+abbrev pub key_zones : Block → List (List (List ℕ))
+key_zones block = map (λ key. key.zone) block.keys
+
+-- whether a directive's rank is this one
+abbrev pub is_rank : Rank → Option Rank → Bool
+is_rank rank None = false
+is_rank rank (Some other) = nat_eq (order_of other) (order_of rank)
+
+abbrev pub has_rank : Rank → Directive → Bool
+has_rank rank d = is_rank rank (rank_of d.name)
+
+-- whether one of the directives has this rank
+abbrev pub some_has : Rank → List Directive → Bool
+some_has rank directives = list_any (has_rank rank) directives
+
+-- what the plan of a directive in a block with these zones reads
+abbrev pub plan_in : List (List (List ℕ)) → Directive → PlanData
+plan_in zones d = record { directive = d; zones = zones }
+
+-- the plans of the directives of a rank, in the order of the text
+abbrev pub plans_of : Rank → List (List (List ℕ)) → List Directive → List PlanData
+plans_of rank zones directives = map (plan_in zones) (filter (has_rank rank) directives)
+
+-- the steps of the plans of a rank; without a plan there is none
+abbrev pub error_steps : Bool → List Step
+error_steps stands = if stands then Errors ∷ [] else []
+
+abbrev pub log_steps : List PlanData → List Step
+log_steps plans = map Log plans
+
+abbrev pub acl_steps : List PlanData → List Step
+acl_steps [] = []
+acl_steps (plan ∷ plans) = Answers (Acl (plan ∷ plans)) ∷ []
+
+abbrev pub any_steps : Bool → List Step
+any_steps stands = if stands then Answers Any ∷ [] else []
+
+abbrev pub whoami_steps : Bool → List Step
+whoami_steps stands = if stands then Answers Whoami ∷ [] else []
+
+-- what stands in front of a cache, and behind it
+abbrev pub front_steps : List (List (List ℕ)) → List Directive → List Step
+front_steps zones directives =
+    error_steps (some_has rank.Errors directives)
+    ++ (log_steps (plans_of rank.Log zones directives)
+    ++ (acl_steps (plans_of rank.Acl zones directives)
+    ++ any_steps (some_has rank.Any directives)))
+
+abbrev pub back_steps : List (List (List ℕ)) → List Directive → List Step
+back_steps zones directives = whoami_steps (some_has rank.Whoami directives)
+
+-- the chain of a block: rank by rank, whatever the order of the text
+unfoldable pub steps_of : Block → List Step
+steps_of block =
+    front_steps (key_zones block) block.directives ++ back_steps (key_zones block) block.directives

@@ -1,0 +1,28 @@
+-- The steps that stand for compiled ones.
+use Rattle.std.specs.Prelude.{List, ◌++◌, map}
+use Rattle.chain_meaning.specs.Steps.{Answerer, Step, Acl, Any, Whoami, Errors, Log, Answers}
+use Rattle.chain_build.specs.declared.back.BackAnswerer.{BackAnswerer}
+use Rattle.chain_build.specs.declared.back.BackAnswerer.TheVariants as behind
+use Rattle.chain_build.specs.declared.front.FrontAnswerer.{FrontAnswerer}
+use Rattle.chain_build.specs.declared.front.FrontAnswerer.TheVariants as before
+use Rattle.chain_build.specs.declared.front.FrontStep.{FrontStep}
+use Rattle.chain_build.specs.declared.front.FrontStep.TheVariants as front
+
+abbrev pub front_answerer : FrontAnswerer → Answerer
+front_answerer (before.Acl plans) = Acl plans
+front_answerer before.Any = Any
+
+abbrev pub front_of : FrontStep → Step
+front_of front.Errors = Errors
+front_of (front.Log plan) = Log plan
+front_of (front.Answers plugin) = Answers (front_answerer plugin)
+
+abbrev pub back_answerer : BackAnswerer → Answerer
+back_answerer behind.Whoami = Whoami
+
+abbrev pub back_of : BackAnswerer → Step
+back_of plugin = Answers (back_answerer plugin)
+
+-- the whole chain
+abbrev pub whole : List FrontStep → List BackAnswerer → List Step
+whole front back = map front_of front ++ map back_of back

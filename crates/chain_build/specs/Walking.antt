@@ -1,0 +1,34 @@
+-- What the parts of a walk do.
+use Rattle.std.specs.Prelude.{◌≡◌, List, Option, Some, None, Result, Ok, Err, option_map}
+use Rattle.dns_lists.specs.declared.memory.NoMemory.{NoMemory}
+use Rattle.dns_data.specs.Message.{AnswerData}
+use Rattle.dns_data.specs.declared.query.Query.{Query}
+use Rattle.outside.specs.Meanings.{Meaning, Done}
+use Rattle.outside.specs.Taking.{Takes}
+use Rattle.outside.specs.States.{SideState}
+use Rattle.outside.specs.declared.mark.Mark.{Mark}
+use Rattle.chain_meaning.specs.declared.decision.Decision.{Decision}
+use Rattle.chain_meaning.specs.declared.decision.Decision.TheVariants as decision
+use Rattle.chain_meaning.specs.Mean.{answer_of}
+use Rattle.chain_meaning.specs.Steps.{Answerer}
+use Rattle.chain_build.specs.declared.ended.Ended.{Ended}
+use Rattle.chain_build.specs.declared.ended.Ended.TheVariants as ended
+
+-- the decision of a chain that ended so, with this answer in the slot
+abbrev pub decision_of : Ended → AnswerData → Decision
+decision_of ended.Reply answer = decision.Reply answer
+decision_of (ended.Code code cause) answer = decision.Code code cause
+decision_of ended.Drop answer = decision.Drop
+
+abbrev pub decided : Result Ended NoMemory → AnswerData → Result Decision NoMemory
+decided (Ok e) answer = Ok (decision_of e answer)
+decided (Err e) answer = Err e
+
+-- a plugin that takes no marks said this, and left the slot as it was where it goes on
+abbrev pub Answered : Answerer → Query → AnswerData → AnswerData → Result (Option Ended) NoMemory
+    → Type 0
+Answered plugin q old new (Ok None) =
+    (new ≡ old) × ((left : List Mark) → answer_of plugin q left ≡ Done None left)
+Answered plugin q old new (Ok (Some e)) =
+    (left : List Mark) → answer_of plugin q left ≡ Done (Some (decision_of e new)) left
+Answered plugin q old new (Err e) = Unit {0}

@@ -1,0 +1,94 @@
+ghost use Rattle.std.specs.Prelude.{◌≡◌, ◌++◌, map, IfOk, OnOk};
+ghost use Rattle.plugin_api.specs.{PlanData};
+ghost use Rattle.chain_meaning.specs.Steps.{acl_steps, any_steps, error_steps, log_steps};
+ghost use Rattle.chain_meaning.specs.Steps.{whoami_steps};
+ghost use Rattle.chain_build.specs.Compiled.{back_of, front_of};
+ghost use Rattle.chain_build.specs.Places.{back_in, front_in};
+
+use crate::back::BackAnswerer;
+use crate::front::{FrontAnswerer, FrontStep};
+use crate::places::Places;
+use acl_plugin::AclPlan;
+use dns_data::{NoMemory, Seq};
+use plain_plugins::PlainPlan;
+use std::alloc::Global;
+
+/// The chain of a block, as it runs.
+#[derive(Debug, Drop)]
+pub struct BlockChain {
+    pub front: Seq<FrontStep>,
+    pub back: Seq<BackAnswerer>,
+}
+
+/// Lists what was read rank by rank.
+pub fn compile(alloc: Global, places: Places) -> Result<BlockChain, NoMemory>
+    ensures front { IfOk result (λ chain. map front_of chain.front ≡ front_in places) }
+    ensures back { IfOk result (λ chain. map back_of chain.back ≡ back_in places) }
+{
+    let Places {
+        errors,
+        logs,
+        acls,
+        any,
+        whoami,
+    } = places;
+    let mut front = Seq::new(alloc);
+    push_errors(&mut front, errors)?;
+    push_logs(&mut front, logs)?;
+    push_acls(&mut front, acls)?;
+    push_any(&mut front, any)?;
+    let mut back = Seq::new(alloc);
+    push_whoami(&mut back, whoami)?;
+    Ok(BlockChain { front, back })
+}
+
+fn push_errors(steps: &mut Seq<FrontStep>, errors: bool) -> Result<(), NoMemory>
+    ensures { OnOk result
+        (map front_of steps.new ≡ map front_of steps.old ++ error_steps errors) }
+{
+    if errors {
+        return steps.push(FrontStep::Errors);
+    }
+    Ok(())
+}
+
+fn push_logs(steps: &mut Seq<FrontStep>, logs: Seq<PlainPlan>) -> Result<(), NoMemory>
+    ensures { OnOk result (map front_of steps.new ≡ map front_of steps.old ++ log_steps logs) }
+{
+    let mut logs = logs;
+    match logs.pop() {
+        Some(last) => {
+            push_logs(steps, logs)?;
+            steps.push(FrontStep::Log(last))
+        }
+        None => Ok(()),
+    }
+}
+
+fn push_acls(steps: &mut Seq<FrontStep>, acls: Seq<AclPlan>) -> Result<(), NoMemory>
+    ensures { OnOk result (map front_of steps.new ≡ map front_of steps.old ++ acl_steps acls) }
+{
+    if acls.len() > 0 {
+        return steps.push(FrontStep::Answers(FrontAnswerer::Acl(acls)));
+    }
+    Ok(())
+}
+
+fn push_any(steps: &mut Seq<FrontStep>, any: bool) -> Result<(), NoMemory>
+    ensures { OnOk result (map front_of steps.new ≡ map front_of steps.old ++ any_steps any) }
+{
+    if any {
+        return steps.push(FrontStep::Answers(FrontAnswerer::Any));
+    }
+    Ok(())
+}
+
+fn push_whoami(steps: &mut Seq<BackAnswerer>, whoami: bool) -> Result<(), NoMemory>
+    ensures { OnOk result
+        (map back_of steps.new ≡ map back_of steps.old ++ whoami_steps whoami) }
+{
+    if whoami {
+        return steps.push(BackAnswerer::Whoami);
+    }
+    Ok(())
+}

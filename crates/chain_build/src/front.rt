@@ -1,0 +1,105 @@
+ghost use Rattle.dns_data.specs.declared.limit.TheConstants as limits;
+ghost use Rattle.std.specs.Prelude.{◌≡◌, ◌<◌};
+ghost use Rattle.dns_data.specs.Message.{no_answer};
+ghost use Rattle.outside.specs.Taking.{Takes};
+ghost use Rattle.acl_plugin.specs.{acl_say};
+ghost use Rattle.chain_meaning.specs.Mean.{mean, nothing};
+ghost use Rattle.chain_build.specs.Compiled.{front_answerer, whole};
+ghost use Rattle.chain_build.specs.Walking.{Answered, decided};
+
+use crate::back::{BackAnswerer, run_back};
+use crate::ended::Ended;
+use crate::noting::{note_error, note_query};
+use acl_plugin::{AclPlan, AclSay, decide};
+use dns_data::{NoMemory, Query, Seq, Slot, kind, rcode};
+use outside::{Kept, Side};
+use plain_plugins::{PlainPlan, any_answer};
+use std::alloc::Global;
+
+/// A plugin in front of a cache that answers or goes on.
+#[derive(Debug, Drop)]
+pub enum FrontAnswerer {
+    Acl(Seq<AclPlan>),
+    Any,
+}
+
+/// A step that stands in front of a cache.
+#[derive(Debug, Drop)]
+pub enum FrontStep {
+    Errors,
+    Log(PlainPlan),
+    Answers(FrontAnswerer),
+}
+
+/// Runs the steps of a chain from the first on. The slot is clear.
+pub fn run_front<S: Side>(
+    alloc: Global,
+    front: &[FrontStep],
+    back: &[BackAnswerer],
+    query: &Query,
+    side: &mut S,
+    slot: &mut Slot,
+) -> Result<Ended, NoMemory>
+    requires clear { slot.old ≡ no_answer }
+    ensures { Takes (mean (whole front.now back.now) query.now) (decided result slot.new)
+        (S.state side.old) (S.state side.new) }
+{
+    let Some((step, rest)) = front.split_first() else {
+        let mut kept = Kept::Off;
+        return run_back(alloc, back, query, side, &mut kept, slot);
+    };
+    match step {
+        FrontStep::Errors => {
+            let ended = run_front(alloc, rest, back, query, side, slot)?;
+            note_error(alloc, query, ended, side)
+        }
+        FrontStep::Log(plan) => {
+            let ended = run_front(alloc, rest, back, query, side, slot)?;
+            note_query(alloc, plan, query, ended, slot, side)
+        }
+        FrontStep::Answers(plugin) => match answer(alloc, plugin, query, slot)? {
+            Some(ended) => Ok(ended),
+            None => run_front(alloc, rest, back, query, side, slot),
+        },
+    }
+}
+
+// What a plugin answers. None: it goes on.
+#[tactic(auto, unfolding(chain_meaning::specs::Mean::answer_of))]
+fn answer(
+    alloc: Global,
+    plugin: &FrontAnswerer,
+    query: &Query,
+    slot: &mut Slot,
+) -> Result<Option<Ended>, NoMemory>
+    requires clear { slot.old ≡ no_answer }
+    ensures { Answered (front_answerer plugin.now) query.now slot.old slot.new result }
+{
+    match plugin {
+        FrontAnswerer::Acl(plans) => match decide(plans.as_slice(), query) {
+            AclSay::GoOn => Ok(None),
+            AclSay::Block => {
+                set_code(slot, rcode::REFUSED);
+                Ok(Some(Ended::Reply))
+            }
+            AclSay::Filter => Ok(Some(Ended::Reply)),
+            AclSay::Drop => Ok(Some(Ended::Drop)),
+        },
+        FrontAnswerer::Any => {
+            if query.kind != kind::ANY {
+                return Ok(None);
+            }
+            any_answer(alloc, query, slot)?;
+            Ok(Some(Ended::Reply))
+        }
+    }
+}
+
+// Becomes an RCODE without records.
+fn set_code(slot: &mut Slot, rcode: u8)
+    requires small { rcode < limits.CODE_END }
+    requires clear { slot.old ≡ no_answer }
+    ensures { slot.new ≡ nothing rcode }
+{
+    slot.rcode = rcode;
+}

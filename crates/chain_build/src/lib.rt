@@ -1,0 +1,27 @@
+//! Chains that run: what is made of a bundle once, and the walk of a query through the chain of its
+//! block.
+#![tactic(auto)]
+
+mod asking;
+mod back;
+mod chain;
+mod checking;
+mod compiling;
+mod ended;
+mod fault;
+mod front;
+mod noting;
+mod places;
+mod room;
+mod serving;
+
+pub use back::{BackAnswerer, run_back};
+pub use chain::Chain;
+pub use checking::check;
+pub use compiling::{BlockChain, compile};
+pub use ended::Ended;
+pub use fault::CheckFault;
+pub use front::{FrontAnswerer, FrontStep, run_front};
+pub use places::{Places, read_block};
+pub use room::Room;
+pub use serving::serve;

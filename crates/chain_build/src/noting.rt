@@ -1,0 +1,59 @@
+ghost use Rattle.std.specs.Prelude.{◌≡◌};
+ghost use Rattle.dns_data.specs.Message.{AnswerData};
+ghost use Rattle.outside.specs.Taking.{Takes};
+ghost use Rattle.chain_meaning.specs.Mean.{error_noted, outcome_of, query_noted};
+ghost use Rattle.chain_build.specs.Walking.{decided, decision_of};
+
+use crate::ended::Ended;
+use chain_meaning::number;
+use dns_data::{NoMemory, Query, Slot};
+use outside::Side;
+use plain_plugins::{LogOutcome, PlainPlan, error_line, log_line};
+use std::alloc::Global;
+
+/// Notes the line of a code, and gives back how the chain ended.
+pub fn note_error<S: Side>(
+    alloc: Global,
+    query: &Query,
+    ended: Ended,
+    side: &mut S,
+) -> Result<Ended, NoMemory>
+    ensures { (answer : AnswerData) → Takes (error_noted query.now (decision_of ended answer))
+        (decided result answer) (S.state side.old) (S.state side.new) }
+{
+    if let Ended::Code(code, cause) = ended {
+        let line = error_line(alloc, query, code, cause)?;
+        let _ = side.note(line.as_str().as_bytes());
+    }
+    Ok(ended)
+}
+
+/// Notes the line of a query in the zones of `log`, and gives back how the chain ended.
+pub fn note_query<S: Side>(
+    alloc: Global,
+    plan: &PlainPlan,
+    query: &Query,
+    ended: Ended,
+    slot: &Slot,
+    side: &mut S,
+) -> Result<Ended, NoMemory>
+    ensures { Takes (query_noted plan.now query.now (decision_of ended slot.now))
+        (decided result slot.now) (S.state side.old) (S.state side.new) }
+{
+    if !plan.covers(&query.name) {
+        return Ok(ended);
+    }
+    let line = log_line(alloc, query, outcome_of(ended, slot))?;
+    let _ = side.note(line.as_str().as_bytes());
+    Ok(ended)
+}
+
+fn outcome_of(ended: Ended, slot: &Slot) -> LogOutcome
+    ensures { result ≡ outcome_of (decision_of ended slot.now) }
+{
+    match ended {
+        Ended::Reply => LogOutcome::Rcode(slot.rcode),
+        Ended::Code(code, _) => LogOutcome::Rcode(number(code)),
+        Ended::Drop => LogOutcome::Dropped,
+    }
+}

@@ -1,0 +1,187 @@
+ghost use Rattle.std.specs.Prelude.{◌≡◌, None, Some, true, map, IfOk, OnOk};
+ghost use Rattle.plugin_api.specs.declared.ranks.Rank.TheVariants as rank;
+ghost use Rattle.plain_plugins.specs.{IsPlain};
+ghost use Rattle.chain_meaning.specs.Accepting.{is_built, is_timed, stands_in};
+ghost use Rattle.chain_meaning.specs.Steps.{plan_in};
+ghost use Rattle.chain_build.specs.Places.{ReadsBlock, ReadsMore, no_places, placed_by};
+ghost use Rattle.chain_build.specs.Reading.{ReadsAs, RefusesAs};
+ghost use Rattle.chain_build.specs.declared.fault.CheckFault.TheVariants as fault;
+ghost use Rattle.chain_meaning.specs.declared.refusal.Refusal.TheVariants as refusal;
+
+use crate::fault::CheckFault;
+use acl_plugin::AclPlan;
+use chain_meaning::Refusal;
+use dns_data::{Block, BlockKey, Copies, Directive, Names, NoMemory, Seq, Text};
+use plain_plugins::PlainPlan;
+use plugin_api::{DirectiveFault, DirectiveWhy, Rank, rank};
+use std::alloc::Global;
+
+/// What was read of a block's directives, each rank in a place of its own.
+#[derive(Debug, Drop)]
+pub struct Places {
+    pub errors: bool,
+    pub logs: Seq<PlainPlan>,
+    pub acls: Seq<AclPlan>,
+    pub any: bool,
+    pub whoami: bool,
+}
+
+impl Places {
+    fn new(alloc: Global) -> Places
+        ensures { result ≡ no_places }
+    {
+        Places {
+            errors: false,
+            logs: Seq::new(alloc),
+            acls: Seq::new(alloc),
+            any: false,
+            whoami: false,
+        }
+    }
+}
+
+/// Reads the directives of a block.
+pub fn read_block(alloc: Global, block: &Block) -> Result<Places, CheckFault>
+    ensures { ReadsBlock block.now result }
+{
+    let zones = key_zones(alloc, block.keys.as_slice())?;
+    let all = block.directives.as_slice();
+    let mut places = Places::new(alloc);
+    for (index, directive) in all.iter().enumerate() {
+        read_more(alloc, &zones, &all[..index], directive, &mut places)?;
+    }
+    Ok(places)
+}
+
+// The zones of keys.
+fn key_zones(alloc: Global, keys: &[BlockKey]) -> Result<Names, NoMemory>
+    ensures { IfOk result (λ zones. zones ≡ map (λ key. key.zone) keys.now) }
+{
+    let mut zones = Seq::with_capacity(alloc, keys.len())?;
+    let mut rest = keys;
+    while let Some((key, behind)) = rest.split_first() {
+        zones.push(key.zone.copy(alloc)?)?;
+        rest = behind;
+    }
+    Ok(zones)
+}
+
+// Reads one more directive.
+fn read_more(
+    alloc: Global,
+    zones: &Names,
+    before: &[Directive],
+    directive: &Directive,
+    places: &mut Places,
+) -> Result<(), CheckFault>
+    ensures { ReadsMore zones.now before.now directive.now places.old places.new result }
+{
+    let Some(rank) = rank(&directive.name) else {
+        return Err(unknown(directive));
+    };
+    if !is_built(rank) || is_timed(rank, directive.args.as_slice()) {
+        return Err(unknown(directive));
+    }
+    if rank.is_once() && stands_in(before, &directive.name) {
+        return Err(CheckFault::Refused(Refusal::Directive {
+            line: directive.line,
+            why: DirectiveWhy::Twice,
+        }));
+    }
+    read_as(alloc, rank, zones, directive, places)
+}
+
+fn unknown(directive: &Directive) -> CheckFault
+    ensures { result ≡ fault.Refused (refusal.Unknown directive.now.line) }
+{
+    CheckFault::Refused(Refusal::Unknown {
+        line: directive.line,
+    })
+}
+
+fn is_built(rank: Rank) -> bool
+    ensures { result ≡ is_built rank }
+{
+    match rank {
+        Rank::Passive | Rank::Reload | Rank::Errors | Rank::Log => true,
+        Rank::Acl | Rank::Any | Rank::Whoami => true,
+        _ => false,
+    }
+}
+
+// Whether it is a `reload` with times of its own.
+fn is_timed(rank: Rank, words: &[Text]) -> bool
+    ensures { result ≡ is_timed rank words.now }
+{
+    rank == Rank::Reload && !words.is_empty()
+}
+
+// Whether one of these directives has the name.
+fn stands_in(before: &[Directive], name: &Text) -> bool
+    ensures { result ≡ stands_in before.now name.now }
+{
+    for directive in before {
+        if directive.name.as_str().as_bytes() == name.as_str().as_bytes() {
+            return true;
+        }
+    }
+    false
+}
+
+// Reads a directive of this rank.
+fn read_as(
+    alloc: Global,
+    rank: Rank,
+    zones: &Names,
+    directive: &Directive,
+    places: &mut Places,
+) -> Result<(), CheckFault>
+    requires { is_built rank ≡ true }
+    ensures { ReadsAs rank zones.now directive.now places.old places.new result }
+{
+    match rank {
+        Rank::Acl => match AclPlan::read(alloc, directive, zones) {
+            Ok(plan) => {
+                places.acls.push(plan)?;
+                Ok(())
+            }
+            Err(fault) => Err(refused(fault)),
+        },
+        Rank::Passive | Rank::Reload | Rank::Errors | Rank::Log | Rank::Any | Rank::Whoami =>
+            match PlainPlan::read(alloc, rank, directive, zones) {
+                Ok(plan) => {
+                    place(rank, plan, places)?;
+                    Ok(())
+                }
+                Err(fault) => Err(refused(fault)),
+            },
+        _ => Err(CheckFault::NoMemory),
+    }
+}
+
+fn refused(fault: DirectiveFault) -> CheckFault
+    ensures { RefusesAs fault result }
+{
+    match fault {
+        DirectiveFault::Why { line, why } => CheckFault::Refused(Refusal::Directive { line, why }),
+        DirectiveFault::TooMany { what, number } => {
+            CheckFault::Refused(Refusal::TooMany { what, number })
+        }
+        DirectiveFault::NoMemory => CheckFault::NoMemory,
+    }
+}
+
+// Puts a plan of this rank in its place.
+fn place(rank: Rank, plan: PlainPlan, places: &mut Places) -> Result<(), NoMemory>
+    requires { IsPlain rank }
+    ensures { OnOk result (places.new ≡ placed_by (Some rank) plan places.old) }
+{
+    match rank {
+        Rank::Errors => places.errors = true,
+        Rank::Log => places.logs.push(plan)?,
+        Rank::Any => places.any = true,
+        Rank::Whoami => places.whoami = true,
+        _ => {}
+    }
+    Ok(())
+}

@@ -1,0 +1,209 @@
+ghost use Rattle.dns_data.specs.declared.limit.TheConstants as limits;
+ghost use Rattle.std.specs.Prelude.{◌≡◌, ◌<◌, Some, None, IsTrue, IsFalse, option_map};
+ghost use Rattle.dns_data.specs.Message.{no_answer};
+ghost use Rattle.dns_wire.specs.{QueriesThis};
+ghost use Rattle.outside.specs.Taking.{Takes};
+ghost use Rattle.chain_meaning.specs.Mean.{nothing};
+ghost use Rattle.chain_meaning.specs.Serving.{answer_in, block_decides, block_of, chain_decides};
+ghost use Rattle.chain_meaning.specs.Serving.{class_decides, query_decides};
+ghost use Rattle.chain_meaning.specs.Steps.{steps_of};
+ghost use Rattle.chain_meaning.specs.declared.decision.Decision.TheVariants as decision;
+ghost use Rattle.chain_build.specs.Chains.{IsChain, steps_in};
+ghost use Rattle.chain_build.specs.Replying.{TellsServing};
+ghost use Rattle.chain_build.specs.Walking.{decided, decision_of};
+
+use crate::asking::{
+    header_reply, is_known_version, limit_of, opt_reply, query_of, reply_message, upper_code,
+};
+use crate::chain::Chain;
+use crate::compiling::BlockChain;
+use crate::ended::Ended;
+use crate::front::run_front;
+use crate::room::Room;
+use chain_meaning::{Served, Silence, number};
+use dns_data::{NoMemory, Opt, Query, Slot, class, rcode};
+use dns_wire::{Asked, QueryFault, read_asked, write_parts};
+use outside::{Datagram, Side};
+use std::alloc::Global;
+
+/// Serves one datagram by a chain. The reply is made in the worker's room.
+pub fn serve<S: Side>(
+    alloc: Global,
+    chain: &Chain,
+    datagram: &Datagram,
+    side: &mut S,
+    room: &mut Room,
+) -> Served
+    requires { IsChain chain.now }
+    ensures { TellsServing chain.now.bundle chain.now.default_port datagram.now result
+        (S.state side.old) (S.state side.new) }
+{
+    match read_asked(alloc, datagram.bytes.as_slice()) {
+        Ok(asked) => reply(alloc, chain, datagram, asked, side, room),
+        Err(QueryFault::Short) => Served::Silent(Silence::Short),
+        Err(QueryFault::Response) => Served::Silent(Silence::Response),
+        Err(QueryFault::NotImp(head)) => match header_reply(alloc, head, rcode::NOTIMP) {
+            Ok(bytes) => Served::Reply(bytes),
+            Err(NoMemory) => Served::NoMemory,
+        },
+        Err(QueryFault::FormErr(head)) => match header_reply(alloc, head, rcode::FORMERR) {
+            Ok(bytes) => Served::Reply(bytes),
+            Err(NoMemory) => Served::NoMemory,
+        },
+        Err(QueryFault::NoMemory) => Served::NoMemory,
+    }
+}
+
+// The reply to what a query asks.
+fn reply<S: Side>(
+    alloc: Global,
+    chain: &Chain,
+    datagram: &Datagram,
+    asked: Asked,
+    side: &mut S,
+    room: &mut Room,
+) -> Served
+    requires chain { IsChain chain.now }
+    requires asks { QueriesThis datagram.now.bytes asked }
+    ensures { TellsServing chain.now.bundle chain.now.default_port datagram.now result
+        (S.state side.old) (S.state side.new) }
+{
+    let (id, class, opt) = (asked.id, asked.question.class, asked.opt);
+    let limit = limit_of(datagram.by, opt);
+    let query = query_of(datagram, asked);
+    let Ok(ended) = decide(alloc, opt, class, chain, &query, side, &mut room.slot) else {
+        return Served::NoMemory;
+    };
+    if !settle(ended, &mut room.slot) {
+        return Served::Silent(Silence::Dropped);
+    }
+    let code = upper_code(opt);
+    let free = room.take_reply(alloc);
+    let parts = reply_message(id, class, opt_reply(code, opt), &query, &room.slot);
+    match write_parts(alloc, free, &parts, limit) {
+        Ok(bytes) => Served::Reply(bytes),
+        Err(NoMemory) => Served::NoMemory,
+    }
+}
+
+// Leaves the answer of a chain that ended so in the slot, where it has one.
+fn settle(ended: Ended, slot: &mut Slot) -> bool
+    ensures reply { IsTrue result → answer_in (decision_of ended slot.old) ≡ Some slot.new }
+    ensures drop { IsFalse result → decision_of ended slot.old ≡ decision.Drop }
+{
+    match ended {
+        Ended::Reply => true,
+        Ended::Code(code, _) => {
+            slot.clear();
+            set_code(slot, number(code));
+            true
+        }
+        Ended::Drop => false,
+    }
+}
+
+// Becomes an RCODE without records.
+fn set_code(slot: &mut Slot, rcode: u8)
+    requires small { rcode < limits.CODE_END }
+    requires clear { slot.old ≡ no_answer }
+    ensures { slot.new ≡ nothing rcode }
+{
+    slot.rcode = rcode;
+}
+
+// What is decided for a query with this OPT record and class.
+fn decide<S: Side>(
+    alloc: Global,
+    opt: Option<Opt>,
+    class: u16,
+    chain: &Chain,
+    query: &Query,
+    side: &mut S,
+    slot: &mut Slot,
+) -> Result<Ended, NoMemory>
+    requires { IsChain chain.now }
+    ensures { Takes (query_decides opt class chain.now.blocks query.now)
+        (decided result slot.new) (S.state side.old) (S.state side.new) }
+{
+    slot.clear();
+    if is_known_version(opt) {
+        return decide_class(alloc, class, chain, query, side, slot);
+    }
+    Ok(Ended::Reply)
+}
+
+fn decide_class<S: Side>(
+    alloc: Global,
+    class: u16,
+    chain: &Chain,
+    query: &Query,
+    side: &mut S,
+    slot: &mut Slot,
+) -> Result<Ended, NoMemory>
+    requires chain { IsChain chain.now }
+    requires clear { slot.old ≡ no_answer }
+    ensures { Takes (class_decides class chain.now.blocks query.now)
+        (decided result slot.new) (S.state side.old) (S.state side.new) }
+{
+    if class == class::IN {
+        return decide_block(alloc, chain, query, side, slot);
+    }
+    set_code(slot, rcode::REFUSED);
+    Ok(Ended::Reply)
+}
+
+fn decide_block<S: Side>(
+    alloc: Global,
+    chain: &Chain,
+    query: &Query,
+    side: &mut S,
+    slot: &mut Slot,
+) -> Result<Ended, NoMemory>
+    requires chain { IsChain chain.now }
+    requires clear { slot.old ≡ no_answer }
+    ensures { Takes (block_decides (block_of chain.now.blocks query.now) query.now)
+        (decided result slot.new) (S.state side.old) (S.state side.new) }
+{
+    if let Some(steps) = chain_of(chain, query) {
+        return run_chain(alloc, steps, query, side, slot);
+    }
+    set_code(slot, rcode::REFUSED);
+    Ok(Ended::Reply)
+}
+
+// The chain of the block with the longest zone on the port at which the query came.
+#[tactic(auto, using(crate::proofs::Served::by_number))]
+fn chain_of<'a>(chain: &'a Chain, query: &Query) -> Option<&'a BlockChain>
+    requires { IsChain chain.now }
+    ensures { option_map (λ steps. steps_in steps.now) result
+        ≡ option_map steps_of (block_of chain.now.blocks query.now) }
+{
+    let number = chain.index.find(query.local, &query.name)? as usize;
+    if chain.chains.len() <= number {
+        return None;
+    }
+    Some(chain.chains.at(number))
+}
+
+// Runs the chain of a block. One without a step refuses.
+fn run_chain<S: Side>(
+    alloc: Global,
+    chain: &BlockChain,
+    query: &Query,
+    side: &mut S,
+    slot: &mut Slot,
+) -> Result<Ended, NoMemory>
+    requires clear { slot.old ≡ no_answer }
+    ensures { Takes (chain_decides (steps_in chain.now) query.now)
+        (decided result slot.new) (S.state side.old) (S.state side.new) }
+{
+    let (front, back) = (chain.front.as_slice(), chain.back.as_slice());
+    if 0 < front.len() {
+        return run_front(alloc, front, back, query, side, slot);
+    }
+    if 0 < back.len() {
+        return run_front(alloc, front, back, query, side, slot);
+    }
+    set_code(slot, rcode::REFUSED);
+    Ok(Ended::Reply)
+}

@@ -25,11 +25,11 @@ use Rattle.dns_server.specs.declared.worker.Turned.{Turned}
 use Rattle.dns_server.specs.declared.worker.Turned.TheVariants as turned
 use Rattle.dns_server.specs.declared.worker.WorkEnd.{WorkEnd}
 use Rattle.dns_server.specs.declared.worker.WorkEnd.TheVariants as ends
-use Rattle.dns_server.specs.Accepting.{IsAccepted}
+use Rattle.chain_meaning.specs.Accepting.{IsAccepted}
 use Rattle.dns_server.specs.Generation.{GenerationsData}
 use Rattle.dns_server.specs.Look.{LooksOnce, ServesGathered}
 use Rattle.dns_server.specs.Rounds.{WorksUnlessEnded, LooksUnlessEnded, EndsWatch, ServedRounds, end_of, left_by}
-use Rattle.dns_server.specs.Serve.{IsChain}
+use Rattle.chain_build.specs.Chains.{IsChain}
 use Rattle.dns_server.specs.States.{single_setup, RunSetup, WorkerState, LookState, RoundState, TurnState, turn_of, look_of}
 use Rattle.dns_server.specs.Tally.{TurnEnds, IsIdle, tallied}
 use Rattle.dns_server.specs.Turn.{Turn, failed, replied, silenced, starved, IsLawful, IsPublished}

@@ -7,10 +7,10 @@ use Rattle.outside.specs.WatchMarks.{AddsWatch}
 use Rattle.corefile_blocks.specs.declared.bundle.Bundle.{Bundle}
 use Rattle.corefile_bundle.specs.declared.fault.GatherFault.{GatherFault}
 use Rattle.corefile_bundle.specs.Gathering.{Source, TellsGathering, marks_of}
-use Rattle.dns_server.specs.declared.chain.Chain.{Chain}
+use Rattle.chain_build.specs.declared.chain.Chain.{Chain}
 use Rattle.dns_server.specs.declared.looking.Looking.{Looking}
 use Rattle.dns_server.specs.declared.looking.Looking.TheVariants as looking
-use Rattle.dns_server.specs.Accepting.{IsAccepted}
+use Rattle.chain_meaning.specs.Accepting.{IsAccepted}
 use Rattle.dns_server.specs.Generation.{GenerationsData}
 use Rattle.dns_server.specs.Look.{reloads, AnswersLook, standing_of, note_marks, publication, ServesBehind, ServesGathered, LooksOver, Starves, LooksOnce, AnswersKept, IsNext, IsNoted, NotesLook, PublishesNext}
 use Rattle.dns_server.specs.Messages.{look_text}

@@ -18,21 +18,21 @@ use Rattle.corefile_blocks.specs.declared.bundle.Bundle.{Bundle}
 use Rattle.corefile_bundle.specs.declared.fault.GatherFault.{GatherFault}
 use Rattle.corefile_bundle.specs.declared.fault.GatherFault.TheVariants as unread
 use Rattle.corefile_bundle.specs.Gathering.{GathersFrom, OneRead, Source, TellsGathering, marks_of}
-use Rattle.dns_server.specs.declared.chain.Chain.{Chain}
+use Rattle.chain_build.specs.declared.chain.Chain.{Chain}
 use Rattle.dns_server.specs.declared.first.FirstFault.{FirstFault}
 use Rattle.dns_server.specs.declared.first.FirstFault.TheVariants as fault
 use Rattle.dns_server.specs.declared.looking.Looking.{Looking}
 use Rattle.dns_server.specs.declared.looking.Looking.TheVariants as looking
 use Rattle.dns_server.specs.declared.status.Status.{Status}
 use Rattle.dns_server.specs.declared.status.Status.TheVariants as status
-use Rattle.dns_server.specs.Accepting.{IsAccepted}
+use Rattle.chain_meaning.specs.Accepting.{IsAccepted}
 use Rattle.dns_server.specs.Look.{AnswersLook, Standing}
-use Rattle.dns_server.specs.declared.refusal.Refusal.{Refusal}
+use Rattle.chain_meaning.specs.declared.refusal.Refusal.{Refusal}
 use Rattle.dns_server.specs.Opening.{IsReading, ReadsFirst, ReadsChain, RefusesSides, endpoints_of}
 use Rattle.dns_server.specs.Report.{RunData, CauseOf, Finishes, IsEndStatus, IsFirstStatus, IsServed, ReadGave, RunsBehind, RunsCommand, Supplies, SuppliesOnlySides, SuppliesSides, TellsRun, WasAccepted, opened_by, stopped_run}
 use Rattle.dns_server.specs.States.{LookState, RunSetup, SideRun}
 use Rattle.dns_server.specs.Rounds.{EndsWatch}
-use Rattle.dns_server.specs.Serve.{IsChain}
+use Rattle.chain_build.specs.Chains.{IsChain}
 use Rattle.dns_server.specs.WatchRun.{Tells, TellsLooks}
 use Rattle.dns_server.specs.WatchTurn.{WatchTurn, looked, starved, watch_marks, gathered, published_as, published_by, bundles_of, all_starved, AreLooks, IsLook}
 

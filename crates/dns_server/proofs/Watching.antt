@@ -16,10 +16,10 @@ use Rattle.corefile_bundle.specs.declared.fault.GatherFault.{GatherFault}
 use Rattle.corefile_bundle.specs.Gathering.{GathersFrom, OneRead, Source}
 use Rattle.dns_server.specs.declared.looking.Looking.{Looking}
 use Rattle.dns_server.specs.declared.looking.Looking.TheVariants as looking
-use Rattle.dns_server.specs.Accepting.{IsAccepted}
+use Rattle.chain_meaning.specs.Accepting.{IsAccepted}
 use Rattle.dns_server.specs.Generation.{GenerationsData}
 use Rattle.dns_server.specs.Look.{AnswersLook, reloads, standing_of, LooksOver, LooksOnce, Starves, ServesGathered, look_marks}
-use Rattle.dns_server.specs.Serve.{IsChain}
+use Rattle.chain_build.specs.Chains.{IsChain}
 use Rattle.dns_server.specs.States.{LookState}
 use Rattle.dns_server.specs.WatchTurn.{WatchTurn, looked, starved, watch_marks, published_by, bundles_of, look_starved, all_starved, IsLooked, IsLook, AreLooks}
 use Rattle.dns_server.specs.Watcher.{LooksAgain}

@@ -1,7 +1,7 @@
 -- The generation that serves, over the machine of pins of one worker. This server's own rule.
 use Rattle.std.specs.Prelude.{◌≡◌, ◌≢◌, ◌<◌, ℕ, true, Option, Some, None, Bool}
 use Rattle.std.specs.Option.{is_some}
-use Rattle.dns_server.specs.declared.chain.Chain.{Chain}
+use Rattle.chain_build.specs.declared.chain.Chain.{Chain}
 use Rattle.pin_core.specs.declared.slots.Phase.TheVariants.{Free}
 use Rattle.pin_core.specs.Machine.{Machine, IsSound, slot_at, worker_at, count}
 use Rattle.pin_core.specs.Slots.{is_current}

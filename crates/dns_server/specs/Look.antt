@@ -1,9 +1,11 @@
 -- One look for a changed configuration: what it answers, the marks that it leaves, and what serves
 -- behind it. This server's own rule. The answers are tried in the order in which they stand here.
-use Rattle.std.specs.Prelude.{◌≡◌, ◌≢◌, ◌<◌, ◌⊎◌, ℕ, ◌+◌, Bool, true, false}
+use Rattle.std.specs.Prelude.{◌≡◌, ◌≢◌, ◌<◌, ◌⊎◌, ℕ, ◌+◌, nat_eq, Bool, true, false}
 use Rattle.std.specs.Prelude.{List, [], ◌∷◌, ◌++◌, codes, Result, Ok, Err}
 use Rattle.std.specs.List.{list_any}
+use Rattle.std.specs.Cmp.Lexicographic.{pointwise}
 use Rattle.dns_data.specs.declared.block.Block.{Block}
+use Rattle.dns_data.specs.declared.directive.Directive.{Directive}
 use Rattle.pin_core.specs.declared.slots.TheConstants as pins
 use Rattle.outside.specs.declared.mark.WatchMark.{WatchMark}
 use Rattle.outside.specs.declared.mark.WatchMark.TheVariants.{Noted, Published}
@@ -14,16 +16,20 @@ use Rattle.corefile_blocks.specs.Ports.{ArePorts}
 use Rattle.corefile_bundle.specs.declared.fault.GatherFault.{GatherFault}
 use Rattle.corefile_bundle.specs.declared.fault.GatherFault.TheVariants as unread
 use Rattle.corefile_bundle.specs.Gathering.{GathersFrom, OneRead, Source, marks_of}
-use Rattle.dns_server.specs.declared.chain.Chain.{Chain}
+use Rattle.chain_build.specs.declared.chain.Chain.{Chain}
 use Rattle.dns_server.specs.declared.look.Found.{Found}
 use Rattle.dns_server.specs.declared.look.Found.TheVariants.{Kept, Next}
 use Rattle.dns_server.specs.declared.looking.Looking.{Looking}
 use Rattle.dns_server.specs.declared.looking.Looking.TheVariants as looking
-use Rattle.dns_server.specs.Accepting.{IsAccepted, has_name}
+use Rattle.chain_meaning.specs.Accepting.{IsAccepted}
 use Rattle.dns_server.specs.Generation.{GenerationsData}
 use Rattle.dns_server.specs.Messages.{look_text}
 use Rattle.dns_server.specs.Opening.{GathersThat, Refuses}
-use Rattle.dns_server.specs.Serve.{IsChain}
+use Rattle.chain_build.specs.Chains.{IsChain}
+
+-- whether one of these directives has this name
+abbrev pub has_name : List Directive → List ℕ → Bool
+has_name directives name = list_any (λ d. pointwise nat_eq d.name name) directives
 
 -- whether blocks are to be looked at again: one of them has `reload`
 abbrev pub reloads : List Block → Bool

@@ -15,15 +15,15 @@ use Rattle.corefile_blocks.specs.Ports.{ArePorts}
 use Rattle.corefile_bundle.specs.declared.fault.GatherFault.{GatherFault}
 use Rattle.corefile_bundle.specs.declared.fault.GatherFault.TheVariants as unread
 use Rattle.corefile_bundle.specs.Gathering.{GathersFrom, OneRead, Source, TellsGathering, marks_of}
-use Rattle.dns_server.specs.declared.chain.Chain.{Chain}
-use Rattle.dns_server.specs.declared.checking.CheckFault.{CheckFault}
-use Rattle.dns_server.specs.declared.checking.CheckFault.TheVariants as unmade
+use Rattle.chain_build.specs.declared.chain.Chain.{Chain}
+use Rattle.chain_build.specs.declared.fault.CheckFault.{CheckFault}
+use Rattle.chain_build.specs.declared.fault.CheckFault.TheVariants as unmade
 use Rattle.dns_server.specs.declared.first.FirstFault.{FirstFault}
 use Rattle.dns_server.specs.declared.first.FirstFault.TheVariants as fault
-use Rattle.dns_server.specs.declared.refusal.Refusal.{Refusal}
-use Rattle.dns_server.specs.declared.refusal.Refusal.TheVariants as refusal
-use Rattle.dns_server.specs.Accepting.{IsAccepted, bundle_says}
-use Rattle.dns_server.specs.Serve.{IsChain}
+use Rattle.chain_meaning.specs.declared.refusal.Refusal.{Refusal}
+use Rattle.chain_meaning.specs.declared.refusal.Refusal.TheVariants as refusal
+use Rattle.chain_meaning.specs.Accepting.{IsAccepted, bundle_says}
+use Rattle.chain_build.specs.Chains.{IsChain}
 
 -- the reads of a gathering, whatever it came to
 pub record IsReading (source : Source) (journal : List WatchMark) : Type 0 where
@@ -80,18 +80,6 @@ ReadsFirst source default_port old new (Err (fault.ReadFailed name)) =
     × Rose old.counts.reads new.counts.reads
 ReadsFirst source default_port old new (Err fault.NoMemory) =
     GathersThat source old new (λ gives. Unit {0})
-
--- what a bundle makes
-pub record IsMade (bundle : Bundle) (default_port : ℕ) (chain : Chain) : Type 0 where
-  pub bundle_is : chain.bundle ≡ bundle
-  pub port : chain.default_port ≡ default_port
-  pub is : IsChain chain
-
-abbrev pub MakesChain : Bundle → ℕ → Result Chain CheckFault → Type 0
-MakesChain bundle default_port (Ok chain) = IsMade bundle default_port chain
-MakesChain bundle default_port (Err (unmade.Refused why)) =
-    bundle_says default_port bundle ≡ Err why
-MakesChain bundle default_port (Err unmade.NoMemory) = Unit {0}
 
 -- more sides than may be opened, or than are built
 abbrev pub RefusesSides : List ℕ → ℕ → Refusal → Type 0

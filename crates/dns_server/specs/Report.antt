@@ -20,13 +20,13 @@ use Rattle.corefile_bundle.specs.Gathering.{GathersFrom, OneRead, marks_of}
 use Rattle.dns_server.specs.declared.first.FirstFault.{FirstFault}
 use Rattle.dns_server.specs.declared.first.FirstFault.TheVariants as fault
 use Rattle.dns_server.specs.declared.report.Ran.{Ran}
-use Rattle.dns_server.specs.declared.refusal.Refusal.{Refusal}
+use Rattle.chain_meaning.specs.declared.refusal.Refusal.{Refusal}
 use Rattle.dns_server.specs.declared.status.Status.{Status}
 use Rattle.dns_server.specs.declared.status.Status.TheVariants as status
 use Rattle.dns_server.specs.declared.worker.WorkEnd.{WorkEnd}
 use Rattle.dns_server.specs.declared.worker.WorkEnd.TheVariants as ends
 use Rattle.command_line.specs.Command.{ServeData, IsCommand, serve}
-use Rattle.dns_server.specs.Accepting.{IsAccepted}
+use Rattle.chain_meaning.specs.Accepting.{IsAccepted}
 use Rattle.dns_server.specs.Opening.{OpensSides, Refuses, RefusesSides}
 use Rattle.dns_server.specs.Rounds.{EndsWatch}
 use Rattle.dns_server.specs.States.{RunSetup, LookState, SideRun, setup_of, side_runs}

@@ -12,7 +12,7 @@ use Rattle.dns_data.specs.declared.block.Block.{Block}
 use Rattle.corefile_bundle.specs.Gathering.{Source}
 use Rattle.dns_server.specs.declared.watcher.WatchEnd.{WatchEnd}
 use Rattle.dns_server.specs.declared.worker.WorkEnd.{WorkEnd}
-use Rattle.dns_server.specs.Accepting.{IsAccepted}
+use Rattle.chain_meaning.specs.Accepting.{IsAccepted}
 use Rattle.dns_server.specs.Look.{reloads}
 use Rattle.dns_server.specs.States.{RunSetup, TurnState, LookState, RoundState, worked_of}
 use Rattle.dns_server.specs.WatchTurn.{WatchTurn, watch_marks, bundles_of, all_starved, AreLooks}

@@ -5,9 +5,9 @@ use Rattle.outside.specs.declared.datagram.Datagram.{Datagram}
 use Rattle.outside.specs.declared.mark.Mark.{Mark}
 use Rattle.outside.specs.declared.mark.Mark.TheVariants.{Got, RecvFailed, Sent, Pinned, Unpinned}
 use Rattle.corefile_blocks.specs.declared.bundle.Bundle.{Bundle}
-use Rattle.dns_server.specs.declared.serving.Served.TheVariants.{Reply, Silent, NoMemory}
-use Rattle.dns_server.specs.declared.serving.Silence.{Silence}
-use Rattle.dns_server.specs.Serve.{Serves}
+use Rattle.chain_meaning.specs.declared.served.Served.TheVariants.{Reply, Silent, NoMemory}
+use Rattle.chain_meaning.specs.declared.served.Silence.{Silence}
+use Rattle.chain_meaning.specs.Serving.{Serves}
 
 -- a receive that failed; or a datagram, served by the generation with this serial, with the marks
 -- that serving took, and the reply with whether it went out, or the cause of silence; or want of

@@ -12,7 +12,7 @@ use Rattle.corefile_bundle.specs.declared.fault.GatherFault.{GatherFault}
 use Rattle.corefile_bundle.specs.Gathering.{GathersFrom, OneRead, Source, marks_of}
 use Rattle.dns_server.specs.declared.looking.Looking.{Looking}
 use Rattle.dns_server.specs.declared.looking.Looking.TheVariants as looking
-use Rattle.dns_server.specs.Accepting.{IsAccepted}
+use Rattle.chain_meaning.specs.Accepting.{IsAccepted}
 use Rattle.dns_server.specs.Look.{AnswersLook, look_marks, reloads}
 
 -- a look, with its reads and what they came to, its answer, and whether its note went out; or a

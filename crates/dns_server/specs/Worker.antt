@@ -8,14 +8,14 @@ use Rattle.outside.specs.Causes.{Rose}
 use Rattle.outside.specs.Marks.{Adds, Grows}
 use Rattle.outside.specs.States.{SideState, Stays}
 use Rattle.corefile_blocks.specs.declared.bundle.Bundle.{Bundle}
-use Rattle.dns_server.specs.declared.serving.Served.{Served}
-use Rattle.dns_server.specs.declared.serving.Served.TheVariants.{Reply, Silent, NoMemory}
+use Rattle.chain_meaning.specs.declared.served.Served.{Served}
+use Rattle.chain_meaning.specs.declared.served.Served.TheVariants.{Reply, Silent, NoMemory}
 use Rattle.dns_server.specs.declared.worker.Turned.{Turned}
 use Rattle.dns_server.specs.declared.worker.Turned.TheVariants as turned
 use Rattle.dns_server.specs.declared.worker.WorkEnd.{WorkEnd}
 use Rattle.dns_server.specs.declared.worker.WorkEnd.TheVariants as ends
 use Rattle.dns_server.specs.Generation.{GenerationsData}
-use Rattle.dns_server.specs.Serve.{Serves}
+use Rattle.chain_meaning.specs.Serving.{Serves}
 use Rattle.dns_server.specs.States.{RunSetup, TurnState, Worked}
 use Rattle.dns_server.specs.Tally.{TurnEnds, tallied}
 use Rattle.dns_server.specs.Turn.{Turn, failed, replied, silenced, starved, marks_of, IsLawful, datagrams, starved_in, serials, NeverFall, total}

@@ -2,10 +2,9 @@ ghost use Rattle.outside.specs.States.{WatchStays};
 ghost use Rattle.dns_server.specs.Opening.{ReadsFirst};
 ghost use Rattle.dns_server.specs.States.{source_data};
 
-use crate::chain::Chain;
-use crate::checking::{CheckFault, check};
-use crate::refusal::Refusal;
 use crate::source::Source;
+use chain_build::{Chain, CheckFault, check};
+use chain_meaning::Refusal;
 use corefile_bundle::{GatherFault, gather};
 use dns_data::Text;
 use outside::Watch;

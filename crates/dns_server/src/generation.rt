@@ -1,7 +1,7 @@
 ghost use Rattle.std.specs.Prelude.{◌≡◌, ◌≤◌, ◌<◌, ◌+◌, true, false, IfOk};
 ghost use Rattle.dns_server.specs.Generation.{GenerationsData};
 
-use crate::chain::Chain;
+use chain_build::Chain;
 use dns_data::NoMemory;
 use pin_core::{MOST_PINS, MOST_SERIALS, PinReply, PinState, PinStep};
 use std::alloc::Global;

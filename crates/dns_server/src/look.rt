@@ -2,19 +2,18 @@ ghost use Rattle.std.specs.Prelude.{ℕ, ◌≡◌, ◌≢◌, false, List, IfOk
 ghost use Rattle.outside.specs.Causes.{Rose};
 ghost use Rattle.outside.specs.States.{WatchStays};
 ghost use Rattle.corefile_blocks.specs.{IsReadable};
-ghost use Rattle.dns_server.specs.Look.{Finds, LooksOnce, NotesLine, NotesLook, PublishesNext, reloads};
-ghost use Rattle.dns_server.specs.Serve.{IsChain};
+ghost use Rattle.dns_server.specs.Look.{Finds, LooksOnce, NotesLine, NotesLook, PublishesNext, has_name, reloads};
+ghost use Rattle.chain_build.specs.Chains.{IsChain};
 ghost use Rattle.dns_server.specs.States.{source_data};
 
-use crate::chain::Chain;
-use crate::checking::{CheckFault, check, has_name};
 use crate::generation::Generations;
 use crate::looking::{Looking, Ports};
-use crate::refusal::Refusal;
 use crate::source::Source;
+use chain_build::{Chain, CheckFault, check};
+use chain_meaning::Refusal;
 use corefile_blocks::Bundle;
 use corefile_bundle::{GatherFault, gather};
-use dns_data::{Block, NoMemory, Seq};
+use dns_data::{Block, Directive, NoMemory, Seq};
 use outside::Watch;
 use pin_core::MOST_SERIALS;
 use std::alloc::Global;
@@ -176,4 +175,13 @@ fn publish_next<W: Watch>(
     watch.saw_published(serial);
     note_line(watch, line.as_bytes());
     looking
+}
+
+// Whether one of these directives has this name.
+fn has_name(directives: &[Directive], name: &str) -> bool
+    ensures { result ≡ has_name directives.now name.now }
+{
+    directives
+        .iter()
+        .any(|directive| directive.name.as_str() == name)
 }

@@ -1,4 +1,4 @@
-use crate::refusal::Refusal;
+use chain_meaning::Refusal;
 use dns_data::{Seq, Text};
 use std::fmt;
 use std::fmt::{Display, Formatter, Write};

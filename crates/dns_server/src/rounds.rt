@@ -3,7 +3,7 @@ ghost use Rattle.std.specs.Prelude.{◌≡◌, ◌≤◌, ◌<◌, ◌+◌, ◌*
 ghost use Rattle.outside.specs.Causes.{RoseBy};
 ghost use Rattle.outside.specs.States.{WatchStays};
 ghost use Rattle.dns_server.specs.Rounds.{ServedRounds, WorksUnlessEnded, LooksUnlessEnded, end_of};
-ghost use Rattle.dns_server.specs.Serve.{IsChain};
+ghost use Rattle.chain_build.specs.Chains.{IsChain};
 ghost use Rattle.dns_server.specs.States.{round_state, single_setup, source_data};
 ghost use Rattle.dns_server.specs.States.{watcher_state, worker_state};
 ghost use Rattle.dns_server.specs.Tally.{IsIdle};

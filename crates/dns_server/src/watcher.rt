@@ -1,6 +1,6 @@
 ghost use Rattle.std.specs.Prelude.{◌≡◌, false, None};
 ghost use Rattle.outside.specs.States.{WatchStays};
-ghost use Rattle.dns_server.specs.Serve.{IsChain};
+ghost use Rattle.chain_build.specs.Chains.{IsChain};
 ghost use Rattle.dns_server.specs.States.{source_data, watcher_state};
 ghost use Rattle.dns_server.specs.Watcher.{TakesLook};
 

@@ -4,14 +4,14 @@ ghost use Rattle.outside.specs.declared.mark.Mark.TheVariants.{Got};
 ghost use Rattle.outside.specs.Marks.{Grows};
 ghost use Rattle.outside.specs.Causes.{Rose};
 ghost use Rattle.outside.specs.States.{Stays};
-ghost use Rattle.dns_server.specs.Serve.{IsChain};
+ghost use Rattle.chain_build.specs.Chains.{IsChain};
 ghost use Rattle.dns_server.specs.States.{worker_state};
 ghost use Rattle.dns_server.specs.Tally.{DatagramEnds, IsIdle, RowEnds, with_miss, with_datagram};
 ghost use Rattle.dns_server.specs.Worker.{AddsTurn, IsOfDatagram, Pins, PinsBy, SendsServed, TakesTurn};
 
 use crate::generation::Generations;
-use crate::room::Room;
-use crate::serving::{Served, serve};
+use chain_build::{Room, serve};
+use chain_meaning::Served;
 use dns_data::limit;
 use outside::{Datagram, Received, Seen, Side};
 use std::alloc::Global;
@@ -197,7 +197,7 @@ fn answer<S: Side>(
 {
     let serial = generations.pin();
     side.saw(Seen::Pinned(serial));
-    let served = serve(alloc, generations.chain(), datagram, room);
+    let served = serve(alloc, generations.chain(), datagram, side, room);
     let turned = send(side, serial, served, room);
     side.saw(Seen::Unpinned(serial));
     generations.unpin();

@@ -1,5 +1,5 @@
 use Rattle.std.proofs.Common.{true, ◌≡◌, subst, rules}
-use Rattle.dns_server.specs.declared.chain.Chain.{Chain}
+use Rattle.chain_build.specs.declared.chain.Chain.{Chain}
 use Rattle.dns_server.specs.Look.{reloads, AnswersKept, IsNext}
 use Rattle.dns_server.specs.States.{source_data}
 use Rattle.dns_server.proofs.Looks.{kept_looks, next_looks}

@@ -1,4 +1,4 @@
-mod Suffixes
-mod Finding
-mod Chaining
-mod PlainList
+pub mod Suffixes
+pub mod Finding
+pub mod Chaining
+pub mod PlainList

@@ -1,0 +1,199 @@
+#!/usr/bin/env python3
+"""User instructions of a zone's tree, by callgrind: of one lookup at 1,000 and at 72,000 names, and of making the tree of 36,000
+and of 72,000 records.
+
+It copies the crates below zone_tree into a folder of its own, adds the program that stands here, proves and builds that, and
+takes the difference of two runs of each case. Wants rt and valgrind. The first run takes some minutes.
+"""
+import os
+import re
+import shutil
+import subprocess
+import sys
+import tempfile
+
+TOP = os.path.dirname(os.path.dirname(os.path.abspath(__file__)))
+CRATES = ["dns_lists", "dns_addr", "dns_data", "name_table", "zone_lookup", "zone_tree"]
+CASES = ["hit", "wildcard", "nxdomain", "referral"]
+FEW, MANY = 2_000, 22_000
+
+PROGRAM = r'''// Answers questions for a zone of so many names, so many times.
+#![tactic(auto)]
+
+use dns_data::{Copies, Name, NoMemory, Rdata, Record, Records, Seq, Soa, Zone, class, kind};
+use std::alloc::Global;
+use std::{env, io};
+use zone_lookup::lookup;
+use zone_tree::TreeZone;
+
+fn below(alloc: Global, label: &[u8], origin: &Name) -> Result<Name, NoMemory> {
+    if label.len() == 0 || 63 < label.len() || 150 < origin.wire_len() {
+        return origin.copy(alloc);
+    }
+    origin.below(alloc, label)
+}
+
+fn at(alloc: Global, label: &str, origin: &Name) -> Result<Name, NoMemory> {
+    below(alloc, label.as_bytes(), origin)
+}
+
+fn host(alloc: Global, front: &str, number: u64, origin: &Name) -> Result<Name, NoMemory> {
+    let text = format!(in alloc; "{front}{number}")?;
+    below(alloc, text.as_str().as_bytes(), origin)
+}
+
+fn origin_of(alloc: Global) -> Result<Name, NoMemory> {
+    let org = below(alloc, b"org", &Name::root(alloc))?;
+    below(alloc, b"example", &org)
+}
+
+fn soa_of(alloc: Global, origin: &Name) -> Result<Soa, NoMemory> {
+    let mname = at(alloc, "ns", origin)?;
+    let rname = at(alloc, "admin", origin)?;
+    Ok(Soa { mname, rname, serial: 1, refresh: 7200, retry: 3600, expire: 1209600, minimum: 60 })
+}
+
+fn add_address(alloc: Global, records: &mut Records, owner: Name) -> Result<(), NoMemory> {
+    let _ = alloc;
+    records.push(Record::new(owner, class::IN, 300, Rdata::A(4)))
+}
+
+fn add_server(alloc: Global, records: &mut Records, owner: &Name) -> Result<(), NoMemory> {
+    let host = at(alloc, "ns", owner)?;
+    records.push(Record::new(owner.copy(alloc)?, class::IN, 300, Rdata::Ns(host)))
+}
+
+fn add_soa(alloc: Global, records: &mut Records, origin: &Name) -> Result<(), NoMemory> {
+    let soa = soa_of(alloc, origin)?;
+    records.push(Record::new(origin.copy(alloc)?, class::IN, 300, Rdata::Soa(soa)))
+}
+
+fn add_heads(alloc: Global, records: &mut Records, origin: &Name) -> Result<(), NoMemory> {
+    add_soa(alloc, records, origin)?;
+    add_server(alloc, records, origin)?;
+    add_address(alloc, records, at(alloc, "ns", origin)?)?;
+    add_address(alloc, records, at(alloc, "*", &at(alloc, "w", origin)?)?)?;
+    let sub = at(alloc, "sub", origin)?;
+    add_server(alloc, records, &sub)?;
+    add_address(alloc, records, at(alloc, "ns", &sub)?)
+}
+
+fn zone_of(alloc: Global, count: u64) -> Result<Zone, NoMemory> {
+    let origin = origin_of(alloc)?;
+    let mut records: Records = Seq::new(alloc);
+    add_heads(alloc, &mut records, &origin)?;
+    for number in 0..count {
+        add_address(alloc, &mut records, host(alloc, "host", number, &origin)?)?;
+    }
+    Ok(Zone { origin, records })
+}
+
+fn name_of(alloc: Global, case: &str, number: u64, origin: &Name) -> Result<Name, NoMemory> {
+    if case == "hit" {
+        return host(alloc, "host", number, origin);
+    }
+    if case == "wildcard" {
+        return host(alloc, "c", number, &at(alloc, "w", origin)?);
+    }
+    if case == "nxdomain" {
+        return host(alloc, "nope", number, origin);
+    }
+    host(alloc, "x", number, &at(alloc, "sub", origin)?)
+}
+
+#[inline(never)]
+fn ask(alloc: Global, zone: &TreeZone, name: &Name) -> Result<u64, NoMemory> {
+    let answer = lookup(alloc, zone, name, kind::A)?;
+    Ok(u64::from(answer.rcode).wrapping_add(answer.additional.len() as u64))
+}
+
+fn ask_all(alloc: Global, zone: Zone, case: &str, count: u64, times: u64) -> Result<u64, NoMemory> {
+    let tree = TreeZone::new(alloc, zone)?;
+    let origin = origin_of(alloc)?;
+    let mut names: Vec<Name> = Vec::new(alloc);
+    for i in 0..1024_u64 {
+        let number = i.wrapping_mul(7919).checked_rem(count).unwrap_or(0);
+        let name = name_of(alloc, case, number, &origin)?;
+        names.push(name)?;
+    }
+    let mut seen = 0_u64;
+    for t in 0..times {
+        let Some(name) = names.get((t % 1024) as usize) else {
+            break;
+        };
+        seen = seen.wrapping_add(ask(alloc, &tree, name)?);
+    }
+    Ok(seen)
+}
+
+fn run(alloc: Global, count: u64, case: &str, times: u64) -> Result<u64, NoMemory> {
+    let zone = zone_of(alloc, count)?;
+    if case == "list" {
+        return Ok(zone.records.len() as u64);
+    }
+    ask_all(alloc, zone, case, count, times)
+}
+
+fn word(words: &[String], index: usize) -> &str {
+    match words.get(index) {
+        Some(word) => word.as_str(),
+        None => "",
+    }
+}
+
+fn main(rt: HostRuntime) -> io::Result<()> {
+    let mut words = Vec::new(rt.alloc());
+    for word in env::args(&rt)? {
+        words.push(word)?;
+    }
+    let count = word(&words, 1).parse::<u64>().unwrap_or(1000);
+    let times = word(&words, 3).parse::<u64>().unwrap_or(1);
+    match run(rt.alloc(), count, word(&words, 2), times) {
+        Ok(seen) => println!(rt; "{seen}"),
+        Err(NoMemory) => println!(rt; "no memory"),
+    }
+}
+'''
+
+
+def build(folder):
+    """The built program, in a repository of its own."""
+    os.makedirs(os.path.join(folder, "crates", "zone_bench", "src"))
+    for crate in CRATES:
+        shutil.copytree(os.path.join(TOP, "crates", crate), os.path.join(folder, "crates", crate), ignore=shutil.ignore_patterns("out"))
+    with open(os.path.join(TOP, "crates.txt")) as file:
+        lines = [line for line in file if line.split(":")[0] in CRATES]
+    with open(os.path.join(folder, "crates.txt"), "w") as file:
+        file.writelines(lines + ["zone_bench: zone_tree zone_lookup dns_data\n"])
+    with open(os.path.join(folder, "crates", "zone_bench", "src", "main.rt"), "w") as file:
+        file.write(PROGRAM)
+    crate = os.path.join(folder, "crates", "zone_bench")
+    subprocess.run(["rt", "fmt"], cwd=crate, check=True, stdout=subprocess.DEVNULL)
+    subprocess.run(["rt", "run", "--", "10", "hit", "10"], cwd=crate, check=True, stdout=subprocess.DEVNULL)
+    return os.path.join(crate, "out", "zone_bench")
+
+
+def cost(program, folder, names, case, times):
+    """Instructions of one run."""
+    out = os.path.join(folder, "callgrind.out")
+    words = ["valgrind", "--tool=callgrind", f"--callgrind-out-file={out}", program, str(names), case, str(times)]
+    done = subprocess.run(words, check=True, capture_output=True, text=True)
+    return int(re.search(r"Collected : (\d+)", done.stderr).group(1))
+
+
+def main():
+    folder = tempfile.mkdtemp(prefix="zones-")
+    try:
+        program = sys.argv[1] if len(sys.argv) == 2 else build(folder)
+        for case in CASES:
+            each = [(cost(program, folder, names, case, MANY) - cost(program, folder, names, case, FEW)) // (MANY - FEW)
+                    for names in (1_000, 72_000)]
+            print(f"{case}: {each[0]} at 1,000 names, {each[1]} at 72,000", flush=True)
+        made = [cost(program, folder, names, "none", 0) - cost(program, folder, names, "list", 0) for names in (36_000, 72_000)]
+        print(f"making: {made[0]} for 36,000 records, {made[1]} for 72,000: {made[1] / made[0]:.3f} times")
+    finally:
+        shutil.rmtree(folder, ignore_errors=True)
+
+
+if __name__ == "__main__":
+    main()

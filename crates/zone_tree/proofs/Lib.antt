@@ -1,0 +1,5 @@
+mod Sorting
+mod Picking
+mod Shapes
+mod Filling
+mod Cutting

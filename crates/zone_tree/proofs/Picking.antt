@@ -1,0 +1,114 @@
+-- The records of numbers.
+use Rattle.std.proofs.Common.{◌≡◌, ℕ, ◌+◌, ◌<◌, ◌≤◌, Bool, true, false, List, [], ◌∷◌, ◌++◌, length, take, drop, get_or, Option, Some, None, refl, sym, ap, ◌∙◌, append_assoc}
+use Rattle.std.specs.Prelude.{◌||◌, slice_get}
+use Rattle.std.specs.List.{filter, list_any}
+use Rattle.std.proofs.lemmas.List.{drop_more, drop_all, take_all, take_more, append-nil}
+use Rattle.std.proofs.lemmas.List.Elements.{filter-append}
+use Rattle.std.proofs.lemmas.Bool.{cond-true, cond-false}
+use Rattle.dns_data.specs.Record.{RecordData}
+use Rattle.zone_tree.specs.Sets.{before, picked}
+
+before-append : {X : Type 0} (o : Option X) (xs ys : List X) → before o (xs ++ ys) ≡ before o xs ++ ys
+before-append None xs ys = refl
+before-append (Some x) xs ys = refl
+
+pub picked-append : (records : List RecordData) (is js : List ℕ) → picked records (is ++ js) ≡ picked records is ++ picked records js
+unfolding picked
+picked-append records [] js = refl
+picked-append records (i ∷ is) js = ap (before (slice_get records i)) (picked-append records is js) ∙ before-append (slice_get records i) (picked records is) (picked records js)
+
+pub picked_one : (records : List RecordData) (i : ℕ) → picked records (i ∷ []) ≡ before (slice_get records i) []
+unfolding picked
+picked_one records i = refl
+
+picked_front : (records : List RecordData) (i : ℕ) (is : List ℕ) → picked records (i ∷ is) ≡ before (slice_get records i) (picked records is)
+unfolding picked
+picked_front records i is = refl
+
+-- the records of one number more
+picked_more : (records : List RecordData) (set : List ℕ) (i : ℕ) → i < length set → picked records (take (i + 1) set) ≡ picked records (take i set) ++ before (slice_get records (get_or set i 0)) []
+picked_more records set i inside =
+    ap (picked records) (take_more set i 0 inside) ∙ picked-append records (take i set) (get_or set i 0 ∷ []) ∙ ap (λ (rs : List RecordData). picked records (take i set) ++ rs) (picked_one records (get_or set i 0))
+
+-- a record more, where it passes
+pub takes : (p : RecordData → Bool) (records old out new : List RecordData) (set : List ℕ) (i : ℕ) (r : RecordData) → out ≡ old ++ filter p (picked records (take i set)) → i < length set
+    → slice_get records (get_or set i 0) ≡ Some r → p r ≡ true → new ≡ out ++ r ∷ [] → new ≡ old ++ filter p (picked records (take (i + 1) set))
+takes p records old out new set i r was inside at passes is =
+    let done = picked records (take i set) in
+    let more : picked records (take (i + 1) set) ≡ done ++ r ∷ [] = picked_more records set i inside ∙ ap (λ (o : Option RecordData). done ++ before o []) at in
+    let one : filter p (r ∷ []) ≡ r ∷ [] = cond-true _ _ _ passes in
+    is ∙ ap (λ (rs : List RecordData). rs ++ r ∷ []) was ∙ append_assoc old (filter p done) (r ∷ [])
+    ∙ ap (λ (rs : List RecordData). old ++ (filter p done ++ rs)) (sym one)
+    ∙ ap (λ (rs : List RecordData). old ++ rs) (sym (filter-append p done (r ∷ [])) ∙ ap (filter p) (sym more))
+
+-- one that doesn't pass
+pub leaves : (p : RecordData → Bool) (records old out : List RecordData) (set : List ℕ) (i : ℕ) (r : RecordData) → out ≡ old ++ filter p (picked records (take i set)) → i < length set
+    → slice_get records (get_or set i 0) ≡ Some r → p r ≡ false → out ≡ old ++ filter p (picked records (take (i + 1) set))
+leaves p records old out set i r was inside at fails =
+    let done = picked records (take i set) in
+    let more : picked records (take (i + 1) set) ≡ done ++ r ∷ [] = picked_more records set i inside ∙ ap (λ (o : Option RecordData). done ++ before o []) at in
+    let none : filter p (r ∷ []) ≡ [] = cond-false _ _ _ fails in
+    was ∙ ap (λ (rs : List RecordData). old ++ rs) (sym (append-nil (filter p done)) ∙ ap (λ (rs : List RecordData). filter p done ++ rs) (sym none)
+    ∙ sym (filter-append p done (r ∷ [])) ∙ ap (filter p) (sym more))
+
+-- a number without a record
+pub leaves_none : (p : RecordData → Bool) (records old out : List RecordData) (set : List ℕ) (i : ℕ) → out ≡ old ++ filter p (picked records (take i set)) → i < length set
+    → slice_get records (get_or set i 0) ≡ None → out ≡ old ++ filter p (picked records (take (i + 1) set))
+leaves_none p records old out set i was inside at =
+    let done = picked records (take i set) in
+    let more : picked records (take (i + 1) set) ≡ done = picked_more records set i inside ∙ ap (λ (o : Option RecordData). done ++ before o []) at ∙ append-nil done in
+    was ∙ ap (λ (rs : List RecordData). old ++ filter p rs) (sym more)
+
+pub taken_all : (p : RecordData → Bool) (records old out : List RecordData) (set : List ℕ) (i : ℕ) → out ≡ old ++ filter p (picked records (take i set)) → length set ≤ i → out ≡ old ++ filter p (picked records set)
+taken_all p records old out set i was past = was ∙ ap (λ (is : List ℕ). old ++ filter p (picked records is)) (take_all i set past)
+
+-- copies of all
+pub copies_one : (records out new : List RecordData) (set : List ℕ) (i : ℕ) (r : RecordData) → out ≡ picked records (take i set) → i < length set
+    → slice_get records (get_or set i 0) ≡ Some r → new ≡ out ++ r ∷ [] → new ≡ picked records (take (i + 1) set)
+copies_one records out new set i r was inside at is =
+    is ∙ ap (λ (rs : List RecordData). rs ++ r ∷ []) was ∙ sym (picked_more records set i inside ∙ ap (λ (o : Option RecordData). picked records (take i set) ++ before o []) at)
+
+pub copies_none : (records out : List RecordData) (set : List ℕ) (i : ℕ) → out ≡ picked records (take i set) → i < length set
+    → slice_get records (get_or set i 0) ≡ None → out ≡ picked records (take (i + 1) set)
+copies_none records out set i was inside at =
+    was ∙ sym (picked_more records set i inside ∙ ap (λ (o : Option RecordData). picked records (take i set) ++ before o []) at ∙ append-nil (picked records (take i set)))
+
+pub copied_all : (records out : List RecordData) (set : List ℕ) (i : ℕ) → out ≡ picked records (take i set) → length set ≤ i → out ≡ picked records set
+copied_all records out set i was past = was ∙ ap (picked records) (take_all i set past)
+
+-- a test of each record in turn
+any_before : (p : RecordData → Bool) (o : Option RecordData) (rs : List RecordData) (r : RecordData) → o ≡ Some r → list_any p (before o rs) ≡ (p r || list_any p rs)
+any_before p None rs r e = absurd cc
+any_before p (Some x) rs r e = let same : x ≡ r = cc in ap (λ (y : RecordData). p y || list_any p rs) same
+
+any_at : (p : RecordData → Bool) (records : List RecordData) (set : List ℕ) (i : ℕ) → i < length set
+    → list_any p (picked records (drop i set)) ≡ list_any p (before (slice_get records (get_or set i 0)) (picked records (drop (i + 1) set)))
+any_at p records set i inside =
+    ap (λ (is : List ℕ). list_any p (picked records is)) (drop_more set i 0 inside) ∙ ap (list_any p) (picked_front records (get_or set i 0) (drop (i + 1) set))
+
+pub any_here : (p : RecordData → Bool) (records : List RecordData) (set : List ℕ) (i : ℕ) (r : RecordData) → list_any p (picked records (drop i set)) ≡ list_any p (picked records set) → i < length set
+    → slice_get records (get_or set i 0) ≡ Some r → p r ≡ true → true ≡ list_any p (picked records set)
+any_here p records set i r was inside at passes =
+    sym (ap (λ (b : Bool). b || list_any p (picked records (drop (i + 1) set))) passes) ∙ sym (any_before p (slice_get records (get_or set i 0)) (picked records (drop (i + 1) set)) r at)
+    ∙ sym (any_at p records set i inside) ∙ was
+
+pub any_later : (p : RecordData → Bool) (records : List RecordData) (set : List ℕ) (i : ℕ) (r : RecordData) → list_any p (picked records (drop i set)) ≡ list_any p (picked records set) → i < length set
+    → slice_get records (get_or set i 0) ≡ Some r → p r ≡ false → list_any p (picked records (drop (i + 1) set)) ≡ list_any p (picked records set)
+any_later p records set i r was inside at fails =
+    sym (ap (λ (b : Bool). b || list_any p (picked records (drop (i + 1) set))) fails) ∙ sym (any_before p (slice_get records (get_or set i 0)) (picked records (drop (i + 1) set)) r at)
+    ∙ sym (any_at p records set i inside) ∙ was
+
+pub any_none : (p : RecordData → Bool) (records : List RecordData) (set : List ℕ) (i : ℕ) → list_any p (picked records (drop i set)) ≡ list_any p (picked records set) → i < length set
+    → slice_get records (get_or set i 0) ≡ None → list_any p (picked records (drop (i + 1) set)) ≡ list_any p (picked records set)
+any_none p records set i was inside at =
+    sym (ap (λ (o : Option RecordData). list_any p (before o (picked records (drop (i + 1) set)))) at) ∙ sym (any_at p records set i inside) ∙ was
+
+pub picked_none : (records : List RecordData) → picked records [] ≡ []
+unfolding picked
+picked_none records = refl
+
+pub any_end : (p : RecordData → Bool) (records : List RecordData) (set : List ℕ) (i : ℕ) → list_any p (picked records (drop i set)) ≡ list_any p (picked records set) → length set ≤ i → false ≡ list_any p (picked records set)
+any_end p records set i was past = sym (ap (list_any p) (ap (picked records) (drop_all i set past) ∙ picked_none records)) ∙ was
+
+pub takes_none : (p : RecordData → Bool) (records old : List RecordData) → old ≡ old ++ filter p (picked records [])
+takes_none p records old = sym (append-nil old) ∙ ap (λ (rs : List RecordData). old ++ filter p rs) (sym (picked_none records))

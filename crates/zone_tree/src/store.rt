@@ -1,0 +1,98 @@
+use crate::sets::{copy_asked, copy_kind, has_asked};
+use crate::tree::TreeZone;
+use dns_data::{Name, NoMemory, Records, kind};
+use std::alloc::Global;
+use zone_lookup::{Find, Step, ZoneStore, nothing};
+
+impl ZoneStore for TreeZone {
+    ghost zone = { λ store. store };
+
+    fn origin(&self) -> &Name {
+        &self.tree.zone.origin
+    }
+
+    fn exists(&self, name: &Name) -> bool {
+        self.tree.table.find(&name.labels()).is_some()
+    }
+
+    fn has(&self, name: &Name, kind: u16) -> bool {
+        let tree = &self.tree;
+        match tree.table.find(&name.labels()) {
+            Some(number) => {
+                has_asked(
+                    tree.zone.records.as_slice(),
+                    tree.sets[number].as_slice(),
+                    kind,
+                )
+            }
+            None => false,
+        }
+    }
+
+    fn copy_set(
+        &self,
+        alloc: Global,
+        name: &Name,
+        kind: u16,
+        out: &mut Records,
+    ) -> Result<(), NoMemory> {
+        let tree = &self.tree;
+        let Some(number) = tree.table.find(&name.labels()) else {
+            return Ok(());
+        };
+        let records = tree.zone.records.as_slice();
+        copy_asked(alloc, records, tree.sets[number].as_slice(), kind, out)
+    }
+
+    fn cut(&self, alloc: Global, name: &Name) -> Result<Option<Name>, NoMemory> {
+        let tree = &self.tree;
+        let Some(encloser) = tree.table.find_longest(name) else {
+            return Ok(None);
+        };
+        let Some(cut) = tree.cuts[encloser.number] else {
+            return Ok(None);
+        };
+        let above = name.label_count() - tree.nodes[cut].labels;
+        Ok(Some(name.suffix(alloc, above)?))
+    }
+
+    fn encloser(&self, alloc: Global, name: &Name) -> Result<Option<Name>, NoMemory> {
+        let Some(encloser) = self.tree.table.find_longest(name) else {
+            return Ok(None);
+        };
+        Ok(Some(name.suffix(alloc, encloser.above)?))
+    }
+
+    fn find(
+        &self,
+        alloc: Global,
+        name: &Name,
+        kind: u16,
+        out: &mut Records,
+    ) -> Result<Find, NoMemory> {
+        let Some(encloser) = self.tree.table.find_longest(name) else {
+            return Ok(nothing());
+        };
+        self.tree.find(alloc, name, encloser, kind, out)
+    }
+
+    fn step(
+        &self,
+        alloc: Global,
+        name: &Name,
+        kind: u16,
+        out: &mut Records,
+    ) -> Result<Step, NoMemory> {
+        let tree = &self.tree;
+        let Some(encloser) = tree.table.find_longest(name) else {
+            return Ok(Step::Found(nothing()));
+        };
+        if let Some(cut) = tree.cuts[encloser.number] {
+            let records = tree.zone.records.as_slice();
+            copy_kind(alloc, records, tree.sets[cut].as_slice(), kind::NS, out)?;
+            return Ok(Step::Cut);
+        }
+        let find = tree.find(alloc, name, encloser, kind, out)?;
+        Ok(Step::Found(find))
+    }
+}

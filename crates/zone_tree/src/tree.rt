@@ -1,0 +1,79 @@
+ghost use Rattle.std.specs.Prelude.{◌≡◌, IfOk};
+ghost use Rattle.zone_tree.specs.Tree.{IsTree};
+
+use crate::cuts::cuts_of;
+use crate::node::{Node, Numbers};
+use crate::sets::sets_of;
+use crate::shape::add_owners;
+use dns_data::{NoMemory, Zone};
+use name_table::NameTable;
+use std::alloc::Global;
+use std::marker::Model;
+
+/// A zone, and what was found out of each of its names. Their numbers are their places in `nodes`,
+/// `sets` and `cuts`.
+#[derive(Debug, Drop)]
+pub struct Tree {
+    pub zone: Zone,
+    /// The names that exist, up to the root.
+    pub table: NameTable,
+    pub nodes: Vec<Node>,
+    /// The numbers of a name's records, in the zone's order.
+    pub sets: Vec<Numbers>,
+    /// The number of the cut at or above a name.
+    pub cuts: Vec<Option<usize>>,
+}
+
+/// A zone as a tree of its names. Contracts see the zone.
+#[derive(Debug, Drop)]
+pub struct TreeZone {
+    pub(crate) tree: Tree,
+}
+
+impl Model for TreeZone {
+    ghost use Rattle.dns_data.specs.declared.zone.Zone.{Zone};
+    ghost use Rattle.zone_tree.specs.Tree.{IsTree};
+
+    ghost Value = { Zone };
+
+    ghost view = { λ t. t.tree.zone };
+
+    ghost invariant = { λ t. IsTree t.tree };
+}
+
+impl TreeZone {
+    /// The tree of a zone, in three passes over its records.
+    pub fn new(alloc: Global, zone: Zone) -> Result<TreeZone, NoMemory>
+        ensures { IfOk result (λ made. made ≡ zone) }
+    {
+        Ok(TreeZone {
+            tree: Tree::new(alloc, zone)?,
+        })
+    }
+}
+
+impl Tree {
+    fn new(alloc: Global, zone: Zone) -> Result<Tree, NoMemory>
+        ensures zone { IfOk result (λ tree. tree.zone ≡ zone) }
+        ensures whole { IfOk result (λ tree. IsTree tree) }
+    {
+        let records = zone.records.as_slice();
+        let mut table = NameTable::new(alloc, expected(records.len()))?;
+        let mut nodes = Vec::new(alloc);
+        add_owners(alloc, records, &mut table, &mut nodes)?;
+        let sets = sets_of(alloc, records, &table)?;
+        let cuts = cuts_of(alloc, &zone, &table, &nodes, &sets)?;
+        Ok(Tree {
+            zone,
+            table,
+            nodes,
+            sets,
+            cuts,
+        })
+    }
+}
+
+// How many names to make room for.
+fn expected(records: usize) -> u32 {
+    u32::try_from(records).unwrap_or(u32::MAX)
+}

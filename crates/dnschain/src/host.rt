@@ -1,29 +1,28 @@
 ghost use Rattle.std.specs.Prelude.{None};
 
-use crate::lines::{count, tell_line};
-use crate::receive_buffer::widen;
-use crate::udp::UdpSide;
+use crate::endpoint::{Endpoint, Unopened};
 use crate::watch::FileWatch;
 use dns_data::Transport;
+use edge_net::{EdgeLine, End, NetSide, Why, count, line_text, note_line, tell_line};
 use outside::{Host, OpenFault, Wrote};
 use std::alloc::{AllocError, Global};
-use std::io;
-use std::io::ErrorKind;
-use std::net::{Ipv4Addr, Ipv6Addr, Net, SocketAddr, UdpSocket};
+use std::net::Net;
 use std::random::RandomSource;
 use std::rt::Files;
 use std::sync::Arc;
 use std::sync::atomic::AtomicU64;
 use std::time::Clock;
 
-/// The host over the system: UDP sockets at every address, files, standard output and standard
-/// error. It tells no lines, no opened sides and no supply, and counts its failing calls.
+/// The host over the system: sockets at every address, files, standard output and standard error.
+/// It tells no lines, no opened sides and no supply, and counts its failing calls.
 #[derive(Drop)]
 pub struct SystemHost<R: Net + Files + Clock + RandomSource + Print + Eprint + Copy + Send + Drop> {
     rt: R,
     alloc: Global,
     // How many sides have not left yet, which the watch asks. It is made with the watch.
     live: Option<Arc<AtomicU64, Global>>,
+    // The port that was opened last, for the sides of its further workers.
+    last: Option<Endpoint>,
     open_faults: u64,
     tell_faults: u64,
 }
@@ -34,6 +33,7 @@ impl<R: Net + Files + Clock + RandomSource + Print + Eprint + Copy + Send + Drop
             rt,
             alloc,
             live: None,
+            last: None,
             open_faults: 0,
             tell_faults: 0,
         }
@@ -42,7 +42,7 @@ impl<R: Net + Files + Clock + RandomSource + Print + Eprint + Copy + Send + Drop
 
 impl<R: Net + Files + Clock + RandomSource + Print + Eprint + Copy + Send + Drop> Host
     for SystemHost<R> {
-    type Side = UdpSide<R>;
+    type Side = NetSide<R>;
 
     type Watch = FileWatch<R>;
 
@@ -67,17 +67,16 @@ impl<R: Net + Files + Clock + RandomSource + Print + Eprint + Copy + Send + Drop
         &mut self,
         port: u16,
         by: Transport,
-        _number: u32,
-    ) -> Result<UdpSide<R>, OpenFault> {
+        number: u32,
+    ) -> Result<NetSide<R>, OpenFault> {
         let Ok(live) = counter(&self.live, self.alloc) else {
             return Err(OpenFault::NoMemory);
         };
-        match open_udp(&self.rt, port, by) {
-            Ok(socket) => match UdpSide::new(self.rt, self.alloc, socket, port, live) {
-                Ok(side) => Ok(side),
-                Err(_) => Err(OpenFault::NoMemory),
-            },
-            Err(_) => {
+        match open_end(&self.rt, self.alloc, &mut self.last, (port, by, number)) {
+            Ok(end) => Ok(NetSide::new(self.rt, self.alloc, end, port, live)),
+            Err(Unopened::NoMemory) => Err(OpenFault::NoMemory),
+            Err(Unopened::System(why)) => {
+                say_why(&self.rt, self.alloc, port, by, why);
                 count(&mut self.open_faults);
                 Err(OpenFault::Failed)
             }
@@ -104,20 +103,28 @@ fn counter(
     }
 }
 
-// A socket at every address of both families, or of IPv4 alone where the system has no IPv6. TCP
-// isn't built yet.
-fn open_udp(net: &impl Net, port: u16, by: Transport) -> io::Result<UdpSocket> {
-    if by == Transport::Tcp {
-        return Err(io::Error::from(ErrorKind::Unsupported));
+// A worker's share of a port. The first worker's opens it.
+fn open_end(
+    net: &impl Net,
+    alloc: Global,
+    last: &mut Option<Endpoint>,
+    place: (u16, Transport, u32),
+) -> Result<End, Unopened> {
+    let (port, by, number) = place;
+    if let Some(endpoint) = last {
+        if number != 0 && endpoint.is_at(port, by) {
+            return endpoint.share(net, alloc);
+        }
     }
-    let both = UdpSocket::bind(net, SocketAddr::from((Ipv6Addr::UNSPECIFIED, port)));
-    let socket = match both {
-        Ok(socket) => socket,
-        Err(fault) => match fault.kind() {
-            ErrorKind::AddrInUse | ErrorKind::PermissionDenied => return Err(fault),
-            _ => UdpSocket::bind(net, SocketAddr::from((Ipv4Addr::UNSPECIFIED, port)))?,
-        },
-    };
-    widen(&socket);
-    Ok(socket)
+    let endpoint = Endpoint::open(net, port, by)?;
+    let end = endpoint.share(net, alloc)?;
+    *last = Some(endpoint);
+    Ok(end)
+}
+
+// Says why a port wasn't opened. Where that fails, nothing is lost that the status tells.
+fn say_why(rt: &impl Eprint, alloc: Global, port: u16, by: Transport, why: Why) {
+    if let Ok(line) = line_text(alloc, &EdgeLine::NotOpen(by, port, why)) {
+        let _ = note_line(rt, line.as_str().as_bytes());
+    }
 }

@@ -2,16 +2,10 @@
 //! sockets, files and streams of the system. It ends with a number that says how the run ended: README.md.
 #![tactic(auto)]
 
-mod calls;
-mod clock;
+mod endpoint;
 mod host;
 mod kept;
-mod lines;
-mod receive_buffer;
-mod sender;
-#[cfg(test)]
-mod tests;
-mod udp;
+mod reading;
 mod watch;
 
 ghost use Rattle.std.specs.Prelude.{◌≡◌};
@@ -20,6 +14,7 @@ ghost use Rattle.dnschain.specs.Exit.{exit_number};
 use corefile_words::Pair;
 use dns_data::Text;
 use dns_server::{Status, run, tell_status};
+use edge_net::open_standard;
 use host::SystemHost;
 use std::alloc::Global;
 use std::env;
@@ -28,6 +23,7 @@ use std::process::ExitCode;
 use std::rt::Env;
 
 fn main(rt: HostRuntime) -> ExitCode {
+    open_standard();
     let alloc = rt.alloc();
     let words = words(&rt, alloc);
     let env = environment(&rt, alloc);

@@ -1,15 +1,12 @@
-ghost use Rattle.std.specs.Prelude.{◌≡◌, ◌≤◌, None, length, IfOk, IfSome, vec_len};
+ghost use Rattle.std.specs.Prelude.{◌≡◌, ◌≤◌, None, length, IfSome};
 
-use crate::clock::moment;
 use crate::kept::{KeptFile, KeptLine};
-use crate::lines::{count, note_line};
+use crate::reading::{Unread, read_regular};
 use dns_data::limit::{FILES, READ_BYTES};
 use dns_data::{Bytes, Copies, Text};
+use edge_net::{EdgeLine, Why, count, line_text, moment, note_line};
 use outside::{Look, Made, PatternMaker, ReadOut, RegexMaker, Watch, Wrote};
 use std::alloc::Global;
-use std::fs::File;
-use std::io;
-use std::io::{ErrorKind, Read};
 use std::rt::Files;
 use std::sync::Arc;
 use std::sync::atomic::{AtomicU64, Ordering};
@@ -27,6 +24,8 @@ pub struct FileWatch<R: Files + Clock + Eprint + Drop> {
     live: Arc<AtomicU64, Global>,
     files: Vec<KeptFile>,
     line: Option<KeptLine>,
+    // The last line that said why a file wasn't read.
+    why: Option<KeptLine>,
     read_faults: u64,
     note_faults: u64,
 }
@@ -43,6 +42,7 @@ impl<R: Files + Clock + Eprint + Drop> FileWatch<R> {
             live,
             files: Vec::new(alloc),
             line: None,
+            why: None,
             read_faults: 0,
             note_faults: 0,
         }
@@ -63,12 +63,24 @@ impl<R: Files + Clock + Eprint + Drop> FileWatch<R> {
         None
     }
 
-    // Whether a line was written too short a time before; without a clock no line was.
-    fn was_just_written(&self, line: &[u8], now: Option<u64>) -> bool {
-        match (&self.line, now) {
-            (Some(last), Some(now)) => last.is_fresh(line, now),
-            _ => false,
+    // Says why a file wasn't read. Where that fails, nothing is lost that a status or a look tells.
+    fn say_why(&mut self, name: &Text, why: Why, now: Option<u64>)
+        ensures { self.new ≡ record self.old { why = self.new.why } }
+    {
+        let Ok(name) = name.copy(self.alloc) else {
+            return;
+        };
+        let Ok(line) = line_text(self.alloc, &EdgeLine::NotRead(name, why)) else {
+            return;
+        };
+        let line = line.as_str().as_bytes();
+        if is_repeated(&self.why, line, now) || !note_line(&self.rt, line) {
+            return;
         }
+        self.why = match now {
+            Some(now) => KeptLine::new(self.alloc, line, now),
+            None => None,
+        };
     }
 }
 
@@ -107,7 +119,7 @@ impl<R: Files + Clock + Eprint + Drop> Watch for FileWatch<R> {
                 Err(_) => ReadOut::NoMemory,
             };
         }
-        match read_limited(&self.rt, self.alloc, name.as_str()) {
+        match read_regular(&self.rt, self.alloc, name.as_str()) {
             Ok(bytes) => {
                 let bytes = Bytes::of(bytes);
                 if let Some(now) = now {
@@ -115,20 +127,19 @@ impl<R: Files + Clock + Eprint + Drop> Watch for FileWatch<R> {
                 }
                 ReadOut::Got(bytes)
             }
-            Err(fault) => match fault.kind() {
-                ErrorKind::NotFound => ReadOut::Missing,
-                ErrorKind::OutOfMemory => ReadOut::NoMemory,
-                _ => {
-                    count(&mut self.read_faults);
-                    ReadOut::Failed
-                }
-            },
+            Err(Unread::Missing) => ReadOut::Missing,
+            Err(Unread::NoMemory) => ReadOut::NoMemory,
+            Err(Unread::Failed(why)) => {
+                count(&mut self.read_faults);
+                self.say_why(name, why, now);
+                ReadOut::Failed
+            }
         }
     }
 
     fn note(&mut self, line: &[u8]) -> Wrote {
         let now = moment(&self.rt);
-        if self.was_just_written(line, now) {
+        if is_repeated(&self.line, line, now) {
             return Wrote::Ok;
         }
         if !note_line(&self.rt, line) {
@@ -143,6 +154,14 @@ impl<R: Files + Clock + Eprint + Drop> Watch for FileWatch<R> {
     }
 
     fn saw_published(&mut self, _serial: u64) {}
+}
+
+// Whether a line was written too short a time before; without a clock none was.
+fn is_repeated(last: &Option<KeptLine>, line: &[u8], now: Option<u64>) -> bool {
+    match (last, now) {
+        (Some(last), Some(now)) => last.is_fresh(line, now),
+        _ => false,
+    }
 }
 
 // Keeps what was read of a file, in place of what was read before. Names that are no longer read go
@@ -163,15 +182,4 @@ fn keep(alloc: Global, files: &mut Vec<KeptFile>, name: &Text, bytes: &Bytes, no
         files.clear();
     }
     let _ = files.push(kept);
-}
-
-// The first bytes of a file, as many as `READ_BYTES`.
-fn read_limited(files: &impl Files, alloc: Global, name: &str) -> io::Result<Vec<u8>>
-    ensures { IfOk result (λ v. vec_len v ≤ READ_BYTES) }
-{
-    let file = File::open(files, name)?;
-    let mut bytes = Vec::new(alloc);
-    file.take(READ_BYTES as u64).read_to_end(&mut bytes)?;
-    bytes.truncate(READ_BYTES);
-    Ok(bytes)
 }

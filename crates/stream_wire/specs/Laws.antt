@@ -6,6 +6,9 @@ use Rattle.std.proofs.lemmas.List.{append-nil, length-append, take_at}
 use Rattle.stream_wire.specs.declared.reading.Frame.{Frame}
 use Rattle.stream_wire.specs.declared.reading.Frame.TheVariants as frame
 use Rattle.stream_wire.specs.Frames.{framed, IsTorn, ReadsFrame}
+use Rattle.stream_wire.specs.Fronts.{BeginsWith, frame_of}
+use Rattle.stream_wire.specs.declared.front.Front.{Front}
+use Rattle.stream_wire.specs.declared.front.Front.TheVariants as front
 use Rattle.stream_wire.specs.Streams.{SourceState, Takes, IsSpent}
 
 -- the bytes begin with a frame, are none, or are a torn frame; a failure and want of memory say
@@ -84,3 +87,18 @@ one_frame bytes frame.Failed s i j p q = absurd i
 one_frame bytes frame.NoMemory s i j p q = absurd i
 one_frame bytes r frame.Failed i j p q = absurd j
 one_frame bytes r frame.NoMemory i j p q = absurd j
+
+-- what bytes begin with is what a reader of them alone answers
+begins_as : (bytes : List ℕ) (f : Front) → BeginsWith bytes f → Begins bytes (frame_of f)
+begins_as bytes (front.Whole message) p = p
+begins_as bytes front.Nothing p = p
+begins_as bytes (front.Part want got) p = p
+
+is_of_bytes : (f : Front) → IsOfBytes (frame_of f)
+is_of_bytes (front.Whole message) = tt
+is_of_bytes front.Nothing = tt
+is_of_bytes (front.Part want got) = tt
+
+-- bytes have one front
+pub one_front : (bytes : List ℕ) (f g : Front) → BeginsWith bytes f → BeginsWith bytes g → frame_of f ≡ frame_of g
+one_front bytes f g p q = one_frame bytes (frame_of f) (frame_of g) (is_of_bytes f) (is_of_bytes g) (begins_as bytes f p) (begins_as bytes g q)

@@ -3,6 +3,7 @@
 #![tactic(auto)]
 
 mod filling;
+mod front;
 mod reading;
 mod sink;
 mod source;
@@ -10,6 +11,7 @@ mod source;
 mod tests;
 mod writing;
 
+pub use front::{Front, first_message};
 pub use reading::{Frame, read_frame};
 pub use sink::{ByteSink, Gave};
 pub use source::{ByteSource, Taken};

@@ -37,7 +37,7 @@ pub fn read_frame<B: ByteSource>(alloc: Global, source: &mut B) -> Frame
 }
 
 // The length that two bytes announce.
-fn length_of(high: u8, low: u8) -> u16
+pub(crate) fn length_of(high: u8, low: u8) -> u16
     ensures is { result ≡ 256 * high + low }
     ensures high { high < 256 }
     ensures low { low < 256 }

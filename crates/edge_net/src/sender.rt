@@ -1,6 +1,6 @@
 //! The address of a datagram's sender, as the system spells it and as a client is told.
 ghost use Rattle.std.specs.Prelude.{◌≡◌, ◌≤◌, ◌+◌};
-ghost use Rattle.dnschain.specs.Sender.{u16_at, u32_at, family_of, v6_of, client_of};
+ghost use Rattle.edge_net.specs.Sender.{u16_at, u32_at, family_of, v6_of, client_of};
 
 use dns_data::Addr;
 use libc::net as c;

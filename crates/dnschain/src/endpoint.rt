@@ -1,0 +1,75 @@
+use dns_data::{NoMemory, Transport};
+use edge_net::{Bounds, End, TcpEnd, UdpEnd, Why, open_tcp, open_udp};
+use std::alloc::Global;
+use std::io;
+use std::io::ErrorKind;
+use std::net::{Net, TcpListener, UdpSocket};
+
+/// Why a side of an endpoint isn't there.
+#[derive(Clone, Copy, Debug, PartialEq, Eq)]
+pub enum Unopened {
+    System(Why),
+    NoMemory,
+}
+
+#[derive(Drop)]
+enum Socket {
+    Udp(UdpSocket),
+    Tcp(TcpListener),
+}
+
+/// A port that is open by one transport. The sides of its workers share the socket.
+#[derive(Drop)]
+pub struct Endpoint {
+    port: u16,
+    socket: Socket,
+}
+
+impl Endpoint {
+    /// Opens a port.
+    pub fn open(net: &impl Net, port: u16, by: Transport) -> Result<Endpoint, Unopened> {
+        let opened = match by {
+            Transport::Udp => open_udp(net, port).map(Socket::Udp),
+            Transport::Tcp => open_tcp(net, port).map(Socket::Tcp),
+        };
+        match opened {
+            Ok(socket) => Ok(Endpoint { port, socket }),
+            Err(why) => Err(Unopened::System(why)),
+        }
+    }
+
+    /// Whether it is of this port and transport.
+    pub fn is_at(&self, port: u16, by: Transport) -> bool {
+        let same = match &self.socket {
+            Socket::Udp(_) => by == Transport::Udp,
+            Socket::Tcp(_) => by == Transport::Tcp,
+        };
+        same && self.port == port
+    }
+
+    /// One worker's share.
+    pub fn share(&self, net: &impl Net, alloc: Global) -> Result<End, Unopened> {
+        match &self.socket {
+            Socket::Udp(socket) => {
+                let socket = socket.try_clone().map_err(system_fault)?;
+                match UdpEnd::new(alloc, socket, self.port) {
+                    Ok(end) => Ok(End::Udp(end)),
+                    Err(NoMemory) => Err(Unopened::NoMemory),
+                }
+            }
+            Socket::Tcp(listener) => {
+                match TcpEnd::new(net, alloc, listener, Bounds::usual()) {
+                    Ok(end) => Ok(End::Tcp(end)),
+                    Err(fault) => Err(system_fault(fault)),
+                }
+            }
+        }
+    }
+}
+
+fn system_fault(fault: io::Error) -> Unopened {
+    if fault.kind() == ErrorKind::OutOfMemory && fault.raw_os_error().is_none() {
+        return Unopened::NoMemory;
+    }
+    Unopened::System(Why::of_error(&fault))
+}

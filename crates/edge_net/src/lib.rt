@@ -1,0 +1,41 @@
+//! The real sides of the server: datagrams over UDP, messages over many TCP connections (RFC 7766),
+//! and what the lines for the operator go through.
+#![tactic(auto)]
+
+mod addresses;
+mod arrival;
+mod backlog;
+mod bounds;
+mod calls;
+mod clock;
+mod connection;
+mod crowd;
+mod lines;
+mod pause;
+mod peer;
+mod sender;
+mod side;
+mod socket;
+mod start;
+mod tally;
+mod tcp;
+#[cfg(test)]
+mod tests;
+mod udp;
+mod why;
+
+pub use arrival::Arrival;
+pub use backlog::Backlog;
+pub use bounds::Bounds;
+pub use clock::moment;
+pub use connection::{Connection, Next, Replied};
+pub use lines::{count, note_line, tell_line};
+pub use pause::longer;
+pub use sender::{Client, Sender, client_of};
+pub use side::{End, NetSide};
+pub use socket::{open_tcp, open_udp};
+pub use start::open_standard;
+pub use tally::Tally;
+pub use tcp::TcpEnd;
+pub use udp::UdpEnd;
+pub use why::{EdgeLine, Why, line_text};

@@ -1,0 +1,154 @@
+ghost use Rattle.std.specs.Prelude.{◌≤◌, length};
+ghost use Rattle.dns_data.specs.declared.limit.TheConstants as limits;
+
+use crate::bounds::Bounds;
+use crate::connection::{Connection, Next, Replied};
+use crate::sender::Client;
+use dns_data::Bytes;
+use mio::net::TcpStream;
+use std::alloc::Global;
+use std::io::{ErrorKind, Read, Write};
+
+// How many reads one turn may take. A message of the largest size is whole behind five.
+const READS: usize = 5;
+
+// How many writes behind one another; the system mostly takes all in the first.
+const WRITES: usize = 64;
+
+// Replies to messages that came in one burst wait for each other up to so many bytes.
+const BURST: usize = 16_384;
+
+/// What a turn of a peer gave. More: it may have a message, in a further turn.
+#[derive(Clone, Copy, Debug, PartialEq, Eq)]
+pub(crate) enum Step {
+    Message,
+    More,
+    Blocked,
+    Closed,
+    NoMemory,
+}
+
+// What a read gave.
+#[derive(Clone, Copy, Debug, PartialEq, Eq)]
+enum Reading {
+    Some,
+    Blocked,
+    End,
+    Failed,
+}
+
+/// A client at the other end of a connection.
+#[derive(Drop)]
+pub(crate) struct Peer {
+    stream: TcpStream,
+    client: Client,
+    bytes: Connection,
+    // Whether its key stands in the queue of the crowd, or its message was the last one.
+    pub queued: bool,
+    // It sends no more.
+    ended: bool,
+    // A write failed.
+    broken: bool,
+}
+
+impl Peer {
+    pub fn new(alloc: Global, stream: TcpStream, client: Client, now: u64) -> Peer {
+        Peer {
+            stream,
+            client,
+            bytes: Connection::new(alloc, now),
+            queued: true,
+            ended: false,
+            broken: false,
+        }
+    }
+
+    pub fn client(&self) -> Client {
+        self.client
+    }
+
+    /// The next whole message. Before more is read, what waits goes out, so that the replies to a
+    /// burst leave together.
+    pub fn step(&mut self, piece: &mut [u8], message: &mut Bytes, now: u64) -> Step {
+        for _ in 0..READS {
+            match self.bytes.next(message, now) {
+                Next::Message => return Step::Message,
+                Next::NoMemory => return Step::NoMemory,
+                Next::Part => {}
+            }
+            self.flush();
+            if self.is_over() {
+                return Step::Closed;
+            }
+            if self.ended {
+                return Step::Blocked;
+            }
+            match self.read(piece, now) {
+                Reading::Some => {}
+                Reading::Blocked => return Step::Blocked,
+                Reading::End => self.ended = true,
+                Reading::Failed => return Step::Closed,
+            }
+        }
+        Step::More
+    }
+
+    // One read of what came.
+    fn read(&mut self, piece: &mut [u8], now: u64) -> Reading {
+        match self.stream.read(piece) {
+            Ok(0) => Reading::End,
+            Ok(count) => match self.bytes.come(&piece[..count], now) {
+                Ok(()) => Reading::Some,
+                Err(_) => Reading::Failed,
+            },
+            Err(fault) => match fault.kind() {
+                ErrorKind::WouldBlock => Reading::Blocked,
+                ErrorKind::Interrupted => Reading::Some,
+                _ => Reading::Failed,
+            },
+        }
+    }
+
+    /// Puts a reply behind those that wait, and says whether it may still go out. It is written at
+    /// once where no further message of the same burst waits.
+    pub fn reply(&mut self, bytes: &[u8], most: usize) -> bool
+        requires { length bytes.now ≤ limits.MESSAGE_BYTES }
+    {
+        if self.bytes.reply(bytes, most) != Replied::Waits {
+            self.broken = true;
+            return false;
+        }
+        if self.bytes.waiting().len() >= BURST || !self.bytes.has_message() {
+            self.flush();
+        }
+        !self.broken
+    }
+
+    /// Writes what waits, as far as the client takes it.
+    pub fn flush(&mut self) {
+        for _ in 0..WRITES {
+            if self.broken || self.bytes.waiting().is_empty() {
+                return;
+            }
+            match self.stream.write(self.bytes.waiting()) {
+                Ok(0) => self.broken = true,
+                Ok(count) => self.bytes.went(count),
+                Err(fault) => match fault.kind() {
+                    ErrorKind::WouldBlock => return,
+                    ErrorKind::Interrupted => {}
+                    _ => self.broken = true,
+                },
+            }
+        }
+    }
+
+    /// Whether nothing can go to the client any more, or nothing has to and it sends no more.
+    pub fn is_over(&self) -> bool {
+        self.broken || self.ended && self.bytes.waiting().is_empty()
+    }
+
+    /// Whether it is to be closed, where so many are open, since it was idle or slow for too long.
+    pub fn is_late(&self, bounds: &Bounds, count: usize, now: u64) -> bool {
+        !self.queued && self.bytes.is_late(bounds, count, now)
+    }
+}

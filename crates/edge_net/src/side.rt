@@ -1,0 +1,173 @@
+ghost use Rattle.std.specs.Prelude.{◌≡◌, IfOk};
+ghost use Rattle.edge_net.specs.Sides.{no_tally, side_state};
+
+use crate::arrival::Arrival;
+use crate::clock::moment;
+use crate::lines::{count, note_line};
+use crate::pause::longer;
+use crate::tally::Tally;
+use crate::tcp::TcpEnd;
+use crate::udp::UdpEnd;
+use dns_data::limit::MESSAGE_BYTES;
+use dns_data::{Bytes, Transport};
+use outside::{Datagram, Outcome, Received, Seen, Side, Upstream, Wrote};
+use std::alloc::Global;
+use std::random::RandomSource;
+use std::rt::Files;
+use std::sync::Arc;
+use std::sync::atomic::{AtomicU64, Ordering};
+use std::time::{Clock, Duration};
+use std::{mem, thread};
+
+/// Where the messages of a side come from.
+#[derive(Drop)]
+pub enum End {
+    Udp(UdpEnd),
+    Tcp(TcpEnd),
+}
+
+impl End {
+    fn by(&self) -> Transport {
+        match self {
+            End::Udp(_) => Transport::Udp,
+            End::Tcp(_) => Transport::Tcp,
+        }
+    }
+}
+
+/// A worker's side over sockets. It tells no journal and no script, and counts its failing calls.
+#[derive(Drop)]
+pub struct NetSide<R: Clock + RandomSource + Eprint + Files + Drop> {
+    rt: R,
+    alloc: Global,
+    end: End,
+    // The port at which it receives.
+    local: u16,
+    // The bytes of an earlier message, for the memory of the next.
+    spare: Bytes,
+    // How long it waited behind the last receive, where that failed, in milliseconds.
+    pause: u64,
+    // How many sides have not left yet.
+    live: Arc<AtomicU64, Global>,
+    tally: Tally,
+}
+
+impl<R: Clock + RandomSource + Eprint + Files + Drop> NetSide<R> {
+    /// A side at a port. `live` counts the sides that have not left.
+    pub fn new(
+        rt: R,
+        alloc: Global,
+        end: End,
+        local: u16,
+        live: Arc<AtomicU64, Global>,
+    ) -> NetSide<R>
+        ensures { result.tally ≡ no_tally }
+    {
+        live.fetch_add(1, Ordering::SeqCst);
+        NetSide {
+            rt,
+            alloc,
+            end,
+            local,
+            spare: Bytes::new(alloc),
+            pause: 0,
+            live,
+            tally: Tally::new(),
+        }
+    }
+}
+
+impl<R: Clock + RandomSource + Eprint + Files + Drop> Side for NetSide<R> {
+    ghost state = { λ s. side_state s.tally };
+
+    ghost quiet = { λ _. tt };
+
+    ghost answered = { λ _. tt };
+
+    /// Behind a failure it waits, up to 100 milliseconds behind many in a row.
+    fn recv(&mut self) -> Received {
+        let mut bytes = mem::replace(&mut self.spare, Bytes::new(self.alloc));
+        let arrival = match &mut self.end {
+            End::Udp(end) => end.recv(&self.rt, &mut bytes),
+            End::Tcp(end) => end.recv(&self.rt, &mut bytes),
+        };
+        match arrival {
+            Arrival::Got(client) => {
+                self.pause = 0;
+                Received::Got(Datagram {
+                    bytes,
+                    client: client.address,
+                    port: client.port,
+                    by: self.end.by(),
+                    local: self.local,
+                })
+            }
+            Arrival::Failed => {
+                self.spare = bytes;
+                count(&mut self.tally.recv);
+                self.pause = longer(self.pause);
+                thread::sleep(&self.rt, Duration::from_millis(self.pause));
+                Received::Failed
+            }
+            Arrival::NoMemory => Received::NoMemory,
+        }
+    }
+
+    fn send(&mut self, reply: &[u8]) -> Wrote {
+        let sent = reply.len() <= MESSAGE_BYTES as usize
+            && match &mut self.end {
+                End::Udp(end) => end.reply(reply),
+                End::Tcp(end) => end.reply(reply),
+            };
+        if sent {
+            return Wrote::Ok;
+        }
+        count(&mut self.tally.send);
+        Wrote::Failed
+    }
+
+    /// A clock that can't be read gives 0.
+    fn now(&mut self) -> u64 {
+        moment(&self.rt).unwrap_or(0)
+    }
+
+    /// A word of the system's random source, or 0 where that fails.
+    fn word(&mut self) -> u64 {
+        let mut bytes = [0u8; 8];
+        match self.rt.fill_bytes(&mut bytes) {
+            Ok(()) => u64::from_ne_bytes(bytes),
+            Err(_) => 0,
+        }
+    }
+
+    /// No plugin that is built asks an upstream, and none is asked: every ask fails.
+    fn ask(&mut self, _to: &Upstream, _by: Transport, _message: &[u8]) -> Outcome {
+        count(&mut self.tally.ask);
+        Outcome::Failed
+    }
+
+    fn more(&mut self) -> Outcome {
+        count(&mut self.tally.ask);
+        Outcome::Failed
+    }
+
+    fn note(&mut self, line: &[u8]) -> Wrote {
+        if note_line(&self.rt, line) {
+            return Wrote::Ok;
+        }
+        count(&mut self.tally.note);
+        Wrote::Failed
+    }
+
+    fn saw(&mut self, _what: Seen<'_>) {}
+
+    fn take_back(&mut self, bytes: Bytes) {
+        self.spare = bytes;
+    }
+
+    /// The watch answers End once the last side has left.
+    fn leave(&mut self) {
+        count(&mut self.tally.left);
+        self.live.fetch_sub(1, Ordering::SeqCst);
+    }
+}

@@ -1,0 +1,153 @@
+ghost use Rattle.std.specs.Prelude.{◌≤◌, length};
+ghost use Rattle.dns_data.specs.declared.limit.TheConstants as limits;
+
+use crate::arrival::Arrival;
+use crate::bounds::Bounds;
+use crate::calls::peer_of;
+use crate::clock::moment;
+use crate::crowd::{Crowd, Turn};
+use crate::sender::Sender;
+use dns_data::Bytes;
+use mio::net::TcpListener;
+use mio::{Events, Interest, Poll, Token};
+use std::alloc::Global;
+use std::net::Net;
+use std::time::{Clock, Duration};
+use std::{io, net};
+
+const LISTENER: Token = Token(usize::MAX);
+
+// How many bytes a read takes at most.
+const PIECE: usize = 16_384;
+
+// How many events the system tells at once, and how many connections are taken in behind one wait.
+const EVENTS: usize = 256;
+
+// How many turns there may be before the system is asked again.
+const TURNS: usize = 64;
+
+/// One worker's connections over TCP, and its share of the listener.
+#[derive(Drop)]
+pub struct TcpEnd {
+    poll: Poll,
+    events: Events,
+    listener: TcpListener,
+    crowd: Crowd,
+    piece: Vec<u8>,
+    from: Sender,
+    // Whether the listener may have more.
+    more: bool,
+    // Whether the last accept failed, as where descriptors have run out.
+    failed: bool,
+    // How many turns there may still be before the system is asked again.
+    turns: usize,
+}
+
+impl TcpEnd {
+    /// A side of a listener, which other sides may have as well.
+    pub fn new(
+        net: &impl Net,
+        alloc: Global,
+        listener: &net::TcpListener,
+        bounds: Bounds,
+    ) -> io::Result<TcpEnd> {
+        let listener = listener.try_clone()?;
+        listener.set_nonblocking(true)?;
+        let mut listener = TcpListener::from_std(listener);
+        let poll = Poll::new(net)?;
+        let readable = Interest::READABLE;
+        poll.registry().register(&mut listener, LISTENER, readable)?;
+        Ok(TcpEnd {
+            poll,
+            events: Events::with_capacity(alloc, EVENTS)?,
+            listener,
+            crowd: Crowd::new(alloc, bounds),
+            piece: Vec::from_elem(alloc, 0u8, PIECE)?,
+            from: Sender::nobody(),
+            more: true,
+            failed: false,
+            turns: 0,
+        })
+    }
+
+    /// Waits for the next whole message of any connection, each in its turn.
+    pub fn recv(&mut self, clock: &impl Clock, message: &mut Bytes) -> Arrival {
+        self.crowd.requeue();
+        for _ in 0..u64::MAX {
+            if self.turns == 0 || self.crowd.ready() == 0 {
+                if self.wait(clock).is_err() {
+                    return Arrival::Failed;
+                }
+            }
+            self.turns = self.turns.saturating_sub(1);
+            let now = moment(clock).unwrap_or(0);
+            match self.crowd.turn(self.piece.as_mut_slice(), message, now) {
+                Turn::Got(client) => return Arrival::Got(client),
+                Turn::NoMemory => return Arrival::NoMemory,
+                Turn::Nothing => {}
+            }
+        }
+        Arrival::Failed
+    }
+
+    /// Replies to the connection whose message was given last, and says whether it could.
+    pub fn reply(&mut self, bytes: &[u8]) -> bool
+        requires { length bytes.now ≤ limits.MESSAGE_BYTES }
+    {
+        self.crowd.reply(bytes)
+    }
+
+    // Asks the system what came, and waits for it where no connection may have a message.
+    fn wait(&mut self, clock: &impl Clock) -> io::Result<()> {
+        let time = self.patience();
+        self.poll.poll(&mut self.events, time)?;
+        for event in &self.events {
+            if event.token() == LISTENER {
+                self.more = true;
+            } else {
+                self.crowd.wake(event.token().0);
+            }
+        }
+        let now = moment(clock).unwrap_or(0);
+        self.crowd.walk(now);
+        if self.more || self.failed {
+            self.accept(now);
+        }
+        self.turns = self.crowd.ready().max(TURNS);
+        Ok(())
+    }
+
+    // For how long to wait: no time where a connection may have a message, and without limit where
+    // there is nothing to look after.
+    fn patience(&self) -> Option<Duration> {
+        if self.more || self.crowd.ready() != 0 {
+            return Some(Duration::from_millis(0));
+        }
+        if self.failed {
+            return Some(Duration::from_millis(100));
+        }
+        if self.crowd.is_empty() {
+            return None;
+        }
+        Some(Duration::from_millis(1_000))
+    }
+
+    // Takes the connections in that wait. Where that fails it is tried again a little later.
+    fn accept(&mut self, now: u64) {
+        self.failed = false;
+        for _ in 0..EVENTS {
+            match self.listener.accept() {
+                Ok((stream, _)) => {
+                    if let Some(client) = peer_of(&stream, &mut self.from) {
+                        self.crowd.add(self.poll.registry(), stream, client, now);
+                    }
+                }
+                Err(fault) => {
+                    self.more = false;
+                    self.failed = fault.kind() != io::ErrorKind::WouldBlock;
+                    return;
+                }
+            }
+        }
+    }
+}

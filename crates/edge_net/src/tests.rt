@@ -1,0 +1,5 @@
+mod addresses;
+mod connections;
+mod datagrams;
+mod senders;
+mod streams;

@@ -1,0 +1,211 @@
+ghost use Rattle.std.specs.Prelude.{◌≡◌, ◌≤◌, length, Some, IfOk};
+ghost use Rattle.edge_net.specs.Sender.{client_of};
+
+use crate::addresses::host_addresses;
+use crate::arrival::Arrival;
+use crate::calls::{Unreceived, receive, reply_to};
+use crate::clock::moment;
+use crate::sender::{Client, Sender};
+use crate::socket::{open_udp_at, share_port};
+use dns_data::{Addr, Bytes, NoMemory};
+use libc::net as c;
+use libc::types::pollfd;
+use std::alloc::Global;
+use std::net::UdpSocket;
+use std::os::fd::AsRawFd;
+use std::rt::Files;
+use std::time::Clock;
+
+// As many bytes as a datagram can have.
+const LARGEST: usize = 65_535;
+
+// The time after which the host's addresses are looked at again, in milliseconds, and how many
+// datagrams may come before the clock is.
+const BETWEEN: u64 = 10_000;
+
+const ROW: u32 = 64;
+
+/// One worker's share of a UDP port. A host with several addresses has a socket at each of them
+/// beside the one at every address, since the system would pick the source of a reply by itself.
+#[derive(Drop)]
+pub struct UdpEnd {
+    alloc: Global,
+    port: u16,
+    socket: UdpSocket,
+    // The addresses that were found last, and the sockets at those of them that could be bound.
+    addresses: Vec<Addr>,
+    others: Vec<UdpSocket>,
+    // All of these, for the system to say which has a datagram.
+    asked: Vec<pollfd>,
+    // Which had the last datagram: 0 the one at every address, n + 1 the n-th of the others.
+    at: usize,
+    packet: Vec<u8>,
+    // The sender of the last datagram.
+    from: Sender,
+    // How many datagrams may come before the clock is looked at.
+    row: u32,
+    // When the addresses were looked at last.
+    looked: Option<u64>,
+}
+
+impl UdpEnd {
+    /// A share of a socket that has the port at every address.
+    pub fn new(alloc: Global, socket: UdpSocket, port: u16) -> Result<UdpEnd, NoMemory> {
+        Ok(UdpEnd {
+            alloc,
+            port,
+            socket,
+            addresses: Vec::new(alloc),
+            others: Vec::new(alloc),
+            asked: Vec::new(alloc),
+            at: 0,
+            packet: Vec::from_elem(alloc, 0u8, LARGEST)?,
+            from: Sender::nobody(),
+            row: 0,
+            looked: None,
+        })
+    }
+
+    /// Waits for the next datagram, whose bytes come in place of what the message held.
+    pub fn recv(&mut self, rt: &(impl Clock + Files), message: &mut Bytes) -> Arrival
+        ensures { (client : Client) → result ≡ Arrival.Got client
+            → client_of self.new.from.bytes self.new.from.len ≡ Some client }
+    {
+        for _ in 0..u64::MAX {
+            if self.row == 0 {
+                self.row = ROW;
+                self.look(rt);
+            }
+            self.row = self.row.saturating_sub(1);
+            match self.receive() {
+                Ok((count, client)) => {
+                    message.clear();
+                    return match message.append(&self.packet[..count]) {
+                        Ok(()) => Arrival::Got(client),
+                        Err(_) => Arrival::NoMemory,
+                    };
+                }
+                Err(Unreceived::Nothing) => self.row = 0,
+                Err(Unreceived::Failed) => return Arrival::Failed,
+            }
+        }
+        Arrival::Failed
+    }
+
+    /// Replies to the sender of the last datagram, and says whether the system took it.
+    pub fn reply(&mut self, bytes: &[u8]) -> bool {
+        reply_to(
+            socket_at(&self.socket, &self.others, self.at),
+            bytes,
+            &self.from,
+        )
+    }
+
+    // A datagram of any of the sockets. While the one that had the last has more, it goes on.
+    fn receive(&mut self) -> Result<(usize, Client), Unreceived>
+        ensures count { IfOk result (λ r. r.0 ≤ length self.new.packet.items) }
+        ensures client { IfOk result (λ r.
+            client_of self.new.from.bytes self.new.from.len ≡ Some r.1) }
+    {
+        if self.others.is_empty() {
+            self.at = 0;
+            return receive(
+                &self.socket,
+                self.packet.as_mut_slice(),
+                &mut self.from,
+                true,
+            );
+        }
+        if self.row % 8 != 0 {
+            let socket = socket_at(&self.socket, &self.others, self.at);
+            match receive(socket, self.packet.as_mut_slice(), &mut self.from, false) {
+                Err(Unreceived::Nothing) => {}
+                received => return received,
+            }
+        }
+        self.at = next_ready(self.asked.as_mut_slice(), self.at)?;
+        let socket = socket_at(&self.socket, &self.others, self.at);
+        receive(socket, self.packet.as_mut_slice(), &mut self.from, false)
+    }
+
+    // Looks at the addresses of the host once in ten seconds. Where they changed, the sockets at
+    // them are opened anew.
+    fn look(&mut self, rt: &(impl Clock + Files)) {
+        let now = moment(rt).unwrap_or(0);
+        if let Some(looked) = self.looked {
+            if now.saturating_sub(looked) < BETWEEN {
+                return;
+            }
+        }
+        self.looked = Some(now);
+        let Some(found) = host_addresses(rt, self.alloc) else {
+            return;
+        };
+        if found.as_slice() == self.addresses.as_slice() {
+            return;
+        }
+        self.others.clear();
+        self.at = 0;
+        if self.open_others(&found).is_err() {
+            self.others.clear();
+            self.addresses.clear();
+            return;
+        }
+        self.addresses = found;
+    }
+
+    // A socket at each of the addresses that can be bound.
+    fn open_others(&mut self, found: &[Addr]) -> Result<(), NoMemory> {
+        self.asked.clear();
+        self.asked.push(readable(&self.socket))?;
+        if !found.is_empty() {
+            share_port(&self.socket);
+        }
+        for addr in found {
+            if let Ok(socket) = open_udp_at(*addr, self.port) {
+                self.asked.push(readable(&socket))?;
+                self.others.push(socket)?;
+            }
+        }
+        Ok(())
+    }
+}
+
+fn readable(socket: &UdpSocket) -> pollfd {
+    pollfd {
+        fd: socket.as_raw_fd(),
+        events: c::POLLIN,
+        revents: 0,
+    }
+}
+
+// The socket of a number.
+fn socket_at<'a>(first: &'a UdpSocket, others: &'a [UdpSocket], at: usize) -> &'a UdpSocket {
+    if at == 0 {
+        return first;
+    }
+    match others.get(at - 1) {
+        Some(socket) => socket,
+        None => first,
+    }
+}
+
+// The next socket behind this one that has a datagram, once one has. Nothing behind ten seconds.
+fn next_ready(asked: &mut [pollfd], at: usize) -> Result<usize, Unreceived> {
+    let polled = c::poll(asked, BETWEEN as i32);
+    if polled < 0 {
+        return Err(Unreceived::Failed);
+    }
+    let mut first = None;
+    for (index, socket) in asked.iter().enumerate() {
+        if socket.revents != 0 {
+            if index > at {
+                return Ok(index);
+            }
+            if first.is_none() {
+                first = Some(index);
+            }
+        }
+    }
+    first.ok_or(Unreceived::Nothing)
+}

@@ -1,0 +1,100 @@
+ghost use Rattle.std.specs.Prelude.{◌≡◌, pos, IfOk};
+ghost use Rattle.edge_net.specs.Whys.{edge_text};
+
+use dns_data::{NoMemory, Text, Transport};
+use std::alloc::Global;
+use std::fmt::{Display, Formatter, Write};
+use std::{fmt, io};
+
+/// Why the system didn't open a port or read a file. System: its own number of the error.
+#[derive(Clone, Copy, Debug, PartialEq, Eq)]
+pub enum Why {
+    Denied,
+    InUse,
+    Descriptors,
+    Memory,
+    NotRegular,
+    System(u32),
+}
+
+impl Why {
+    /// What an error's number means, by Linux's errno(3).
+    pub fn of(number: i32) -> Why
+        ensures denied { number ≡ pos 13 → result ≡ Why.Denied }
+        ensures in_use { number ≡ pos 98 → result ≡ Why.InUse }
+        ensures descriptors { number ≡ pos 24 → result ≡ Why.Descriptors }
+        ensures folder { number ≡ pos 21 → result ≡ Why.NotRegular }
+    {
+        match number {
+            libc::EPERM | libc::EACCES => Why::Denied,
+            libc::EADDRINUSE => Why::InUse,
+            libc::EMFILE | ENFILE => Why::Descriptors,
+            libc::ENOMEM | ENOBUFS => Why::Memory,
+            libc::EISDIR => Why::NotRegular,
+            _ => Why::System(number.unsigned_abs()),
+        }
+    }
+
+    /// Why a call of the kit failed.
+    pub fn of_error(error: &io::Error) -> Why {
+        Why::of(error.raw_os_error().unwrap_or(0))
+    }
+}
+
+// These two the kit doesn't name.
+const ENFILE: i32 = 23;
+
+const ENOBUFS: i32 = 105;
+
+impl Display for Why {
+    ghost use Rattle.std.specs.Prelude.{Some};
+    ghost use Rattle.edge_net.specs.Whys.{why_text};
+
+    ghost output = { λ why. Some (why_text why) };
+
+    fn fmt<W: Write>(&self, f: &mut Formatter<W>) -> fmt::Result {
+        match self {
+            Why::Denied => f.write_str("permission denied"),
+            Why::InUse => f.write_str("address in use"),
+            Why::Descriptors => f.write_str("too many open files"),
+            Why::Memory => f.write_str("out of memory"),
+            Why::NotRegular => f.write_str("not a regular file"),
+            Why::System(number) => write!(f, "error {number}"),
+        }
+    }
+}
+
+/// What the edge says by itself beside the line of a status or a look.
+#[derive(Debug, Drop)]
+pub enum EdgeLine {
+    NotOpen(Transport, u16, Why),
+    NotRead(Text, Why),
+}
+
+impl Display for EdgeLine {
+    ghost use Rattle.std.specs.Prelude.{Some};
+    ghost use Rattle.edge_net.specs.Whys.{edge_text};
+
+    ghost output = { λ line. Some (edge_text line) };
+
+    fn fmt<W: Write>(&self, f: &mut Formatter<W>) -> fmt::Result {
+        match self {
+            EdgeLine::NotOpen(Transport::Udp, port, why) => write!(
+                f,
+                "open udp port {port}: {why}"
+            ),
+            EdgeLine::NotOpen(Transport::Tcp, port, why) => write!(
+                f,
+                "open tcp port {port}: {why}"
+            ),
+            EdgeLine::NotRead(name, why) => write!(f, "read {}: {why}", name.as_str()),
+        }
+    }
+}
+
+/// The bytes of such a line.
+pub fn line_text(alloc: Global, line: &EdgeLine) -> Result<Text, NoMemory>
+    ensures { IfOk result (λ text. text ≡ edge_text line.now) }
+{
+    Ok(Text::of(format!(in alloc; "{line}")?))
+}

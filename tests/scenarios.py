@@ -42,7 +42,7 @@ class Run:
     """One run of the program, with a folder of its own. `{port}`, `{port2}` and `{dir}` in a text are what they are here."""
 
     def __init__(self, room):
-        self.room, self.process, self.words, self.env = room, None, [], dict(os.environ)
+        self.room, self.process, self.words, self.env, self.client = room, None, [], dict(os.environ), 0
         self.ports = {"port": free_port(), "port2": free_port()}
         self.noted, self.read = [], 0
         self.errors = os.path.join(room, ".stderr")
@@ -132,6 +132,7 @@ def take_query(run, rows, line, words, body):
     message = bytes.fromhex("".join(words[2:])) if words[1] == "hex" else query_bytes(words[1:])
     run.started()
     got, client = run.ask(message, seconds, address, port)
+    run.client = client
     want = [run.filled(text, client=address, **{"client-port": client}) for text in body]
     if got is None:
         lines = ["silence"]
@@ -162,7 +163,7 @@ def take_step(run, rows, title, line, body):
         take_query(run, rows, text, words, body)
     elif verb == "noted":
         run.started()
-        rows.equal(text, run.next_note(rest), run.filled(rest))
+        rows.equal(text, run.next_note(rest), run.filled(rest, **{"client-port": run.client}))
     elif verb == "run":
         ran = subprocess.run([PROGRAM, *map(run.filled, words[1:])], capture_output=True, text=True, timeout=SECONDS, env=run.env)
         rows.equal(text, [f"status {ran.returncode}", *ran.stdout.split("\n")[:-1], *ran.stderr.split("\n")[:-1]], [run.filled(line) for line in body])

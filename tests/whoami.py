@@ -106,7 +106,8 @@ def ends(rows):
             except OSError:
                 pass
             path = corefile(room, WHOAMI.replace("{port}", str(port)))
-            rows.equal("a taken port: status 3 and its line", status_of("serve", "--conf", path), told(3, "cannot open"))
+            why = f"open udp port {port}: address in use\n".encode()
+            rows.equal("a taken port: status 3 and its line", status_of("serve", "--conf", path), (3, b"cannot open\n", why))
 
 
 def told(status, line):

@@ -1,0 +1,290 @@
+"""The program's edge: odd starts, files that are no files, ports that can't be opened, streams that take nothing, failing receives."""
+import fcntl
+import os
+import shutil
+import socket
+import subprocess
+import sys
+import tempfile
+import time
+
+sys.path.insert(0, os.path.join(os.path.dirname(os.path.abspath(__file__)), "lib"))
+from program import PROGRAM, SECONDS, Client, Rows, Served, corefile, free_port, needs_program  # noqa: E402
+
+QUERY = bytes.fromhex("123401000001000000000000" "076578616d706c65036f726700" "00010001")
+WHOAMI = ".:{port} {\n\twhoami\n}\n"
+RELOAD = ".:{port} {\n\treload\n\twhoami\n}\n"
+NOBODY = 65534
+
+
+def told(status, out, err=""):
+    return status, out + "\n" if out else "", err + "\n" if err else ""
+
+
+def run(*words, **how):
+    """The status and what was written, of a run that is to end by itself."""
+    ran = subprocess.run([PROGRAM, *words], capture_output=True, text=True, timeout=SECONDS, **how)
+    return ran.returncode, ran.stdout, ran.stderr
+
+
+def put(server, text):
+    """Replaces the Corefile in one step, as editors and `mv` do."""
+    with open(server.path + ".new", "w") as file:
+        file.write(text.replace("{port}", str(server.port)))
+    os.replace(server.path + ".new", server.path)
+
+
+def no_regular_files(rows):
+    with tempfile.TemporaryDirectory() as room:
+        pipe = os.path.join(room, "pipe")
+        os.mkfifo(pipe)
+        for title, name in [("a pipe", pipe), ("a device", "/dev/zero"), ("a terminal's device", "/dev/tty"), ("a folder", room)]:
+            began = time.monotonic()
+            got = run("serve", "--conf", name)
+            want = told(3, f"cannot read {name}", f"read {name}: not a regular file")
+            rows.equal(f"{title} is no Corefile", got, want)
+            rows.row(f"{title} is refused at once", time.monotonic() - began < 2)
+        path = corefile(room, f". {{\n\timport {pipe}\n}}\n")
+        rows.equal("nor is a pipe a file to import", run("serve", "--conf", path),
+                   told(3, f"cannot read {pipe}", f"read {pipe}: not a regular file"))
+        link = os.path.join(room, "link")
+        os.symlink(corefile(room, ""), link)
+        rows.equal("a link to a file is one", run("serve", "--conf", link), told(0, ""))
+
+
+def a_pipe_while_it_serves(rows):
+    with Served(RELOAD) as server:
+        rows.row("a server with reload serves", server.is_serving(QUERY))
+        os.remove(server.path)
+        os.mkfifo(server.path)
+        time.sleep(1.1)
+        with Client(server.port) as client:
+            rows.row("it answers while its Corefile is a pipe", all(client.ask(QUERY) is not None for _ in range(5)))
+        rows.equal("and says so once", server.noted(),
+                   [f"read {server.path}: not a regular file", f"reload cannot read {server.path}"])
+
+
+def ports(rows):
+    with tempfile.TemporaryDirectory() as room, socket.socket(socket.AF_INET, socket.SOCK_DGRAM) as holder:
+        holder.bind(("0.0.0.0", 0))
+        port = holder.getsockname()[1]
+        path = corefile(room, WHOAMI.replace("{port}", str(port)))
+        rows.equal("a port that is taken", run("serve", "--conf", path),
+                   told(3, "cannot open", f"open udp port {port}: address in use"))
+        if os.geteuid() != 0:
+            print("skipped: rights, since this is not root")
+            return
+        os.chmod(room, 0o755)
+        program = shutil.copy(PROGRAM, os.path.join(room, "program"))
+        low = next(port for port in range(1, 1024) if port not in (53, 853))
+        with open("/proc/sys/net/ipv4/ip_unprivileged_port_start") as file:
+            if int(file.read()) <= low:
+                print("skipped: every port may be opened here")
+                return
+        path = corefile(room, WHOAMI.replace("{port}", str(low)))
+        as_nobody(rows, "a port without the right to it", program, path,
+                  told(3, "cannot open", f"open udp port {low}: permission denied"))
+        os.chmod(path, 0)
+        as_nobody(rows, "a Corefile without the right to it", program, path,
+                  told(3, f"cannot read {path}", f"read {path}: permission denied"))
+
+
+def as_nobody(rows, title, program, path, want):
+    ran = subprocess.run([program, "serve", "--conf", path], capture_output=True, text=True, timeout=SECONDS,
+                         user=NOBODY, group=NOBODY, extra_groups=[])
+    rows.equal(title, (ran.returncode, ran.stdout, ran.stderr), want)
+
+
+class Bare:
+    """A server with streams of its own making."""
+
+    def __init__(self, text, **how):
+        self.room = tempfile.TemporaryDirectory()
+        self.port = free_port()
+        self.path = corefile(self.room.name, text.replace("{port}", str(self.port)))
+        self.process = subprocess.Popen([PROGRAM, "serve", "--conf", self.path], **how)
+
+    def __enter__(self):
+        return self
+
+    def __exit__(self, *_):
+        if self.process.poll() is None:
+            self.process.kill()
+        self.process.wait(SECONDS)
+        self.room.cleanup()
+
+    is_serving = Served.is_serving
+
+    def answers(self, count):
+        with Client(self.port) as client:
+            return sum(client.ask(QUERY) is not None for _ in range(count))
+
+
+def close_streams():
+    for number in range(3):
+        os.close(number)
+
+
+def closed_streams(rows):
+    with Bare(WHOAMI, preexec_fn=close_streams) as server:
+        rows.row("it serves with descriptors 0 to 2 closed", server.is_serving(QUERY))
+        folder = f"/proc/{server.process.pid}/fd"
+        if os.path.isdir(folder):
+            rows.equal("they are open on /dev/null", [os.readlink(f"{folder}/{number}") for number in range(3)], ["/dev/null"] * 3)
+    with Bare(WHOAMI, preexec_fn=lambda: os.close(0)) as server:
+        rows.row("it serves with descriptor 0 closed", server.is_serving(QUERY))
+        folder = f"/proc/{server.process.pid}/fd"
+        if os.path.isdir(folder):
+            rows.equal("it is open on /dev/null", os.readlink(f"{folder}/0"), "/dev/null")
+
+
+def broken(count):
+    """A Corefile that is refused, in another line each time, so that each look has another note."""
+    return RELOAD + "\n" * count + "x {\n"
+
+
+def full_pipe(rows):
+    reader, writer = os.pipe()
+    fcntl.fcntl(writer, fcntl.F_SETPIPE_SZ, 4096)
+    os.set_blocking(writer, False)
+    try:
+        while True:
+            os.write(writer, b"." * 4096)
+    except BlockingIOError:
+        os.set_blocking(writer, True)
+    with Bare(RELOAD, stdout=subprocess.DEVNULL, stderr=writer) as server:
+        os.close(writer)
+        rows.row("it serves with standard error a full pipe", server.is_serving(QUERY))
+        for count in range(2):
+            time.sleep(1.1)
+            put(server, broken(count))
+            time.sleep(1.1)
+            rows.equal("no query waits for a note", server.answers(5), 5)
+        os.set_blocking(reader, False)
+        rest = drained(reader)
+        rows.row("the notes have failed", set(rest) <= {ord(".")}, rest[-80:])
+        put(server, broken(7))
+        time.sleep(1.2)
+        server.answers(2)
+        time.sleep(0.2)
+        rest = drained(reader)
+        rows.row("a later note goes out", rest.startswith(b"reload refused: ") and rest.endswith(b"\n"), rest)
+    os.close(reader)
+
+
+def drained(reader):
+    found = b""
+    try:
+        while True:
+            more = os.read(reader, 65536)
+            if not more:
+                return found
+            found += more
+    except BlockingIOError:
+        return found
+
+
+def nobody_reads(rows):
+    reader, writer = os.pipe()
+    with Bare(RELOAD, stdout=subprocess.DEVNULL, stderr=writer) as server:
+        os.close(writer)
+        rows.row("it serves with standard error a pipe", server.is_serving(QUERY))
+        os.close(reader)
+        time.sleep(1.1)
+        put(server, broken(0))
+        time.sleep(1.1)
+        rows.equal("it serves on when nobody reads that pipe", server.answers(5), 5)
+
+
+def failing_receives(rows):
+    if shutil.which("strace") is None:
+        print("skipped: there is no strace")
+        return
+    with tempfile.TemporaryDirectory() as room:
+        path = corefile(room, WHOAMI.replace("{port}", str(free_port())))
+        asked = ["strace", "-f", "-o", os.path.join(room, "calls"), "-e", "trace=recvfrom",
+                 "-e", "inject=recvfrom:error=ENOMEM", PROGRAM, "serve", "--conf", path]
+        began = time.monotonic()
+        ran = subprocess.run(asked, capture_output=True, text=True, timeout=60)
+        took = time.monotonic() - began
+        with open(os.path.join(room, "calls")) as file:
+            failed = sum("recvfrom(" in line for line in file)
+    if failed == 0:
+        print("skipped: strace can't trace here")
+        return
+    rows.equal("64 failing receives end the run", (ran.returncode, ran.stdout, failed), (6, "a worker could not receive\n", 64))
+    rows.row("over some seconds", 5 < took < 30, took)
+
+
+def asked_at(family, client, server, port):
+    """Whether a query from one address to another gets a reply that comes from the one that was asked."""
+    with socket.socket(family, socket.SOCK_DGRAM) as asker:
+        asker.bind((client, 0))
+        asker.connect((server, port))
+        asker.settimeout(1)
+        try:
+            asker.send(QUERY)
+            return len(asker.recv(512)) > 12
+        except (TimeoutError, ConnectionRefusedError):
+            return False
+
+
+def apart(rows):
+    """In a network of its own with several addresses, where IPv6 sockets keep IPv4 out unless they ask."""
+    with open("/proc/sys/net/ipv6/bindv6only") as file:
+        rows.equal("the system keeps IPv4 out of IPv6 sockets", file.read().strip(), "1")
+    with Served(WHOAMI) as server:
+        rows.row("IPv4 is served whatever bindv6only says", server.is_serving(QUERY))
+        with Client(server.port, socket.AF_INET6) as client:
+            rows.row("and IPv6 beside it", client.ask(QUERY) is not None)
+        for family, client, address in [(socket.AF_INET, "10.9.9.1", "10.9.9.1"), (socket.AF_INET, "10.9.9.1", "10.9.9.2"),
+                                        (socket.AF_INET6, "fd00:9::1", "fd00:9::2"), (socket.AF_INET, "127.0.0.1", "127.0.0.1")]:
+            rows.row(f"{address} replies to {client} itself", asked_at(family, client, address, server.port))
+        subprocess.run(["ip", "address", "add", "10.9.9.3/24", "dev", "lo"], check=True)
+        time.sleep(10.5)
+        rows.row("a new address replies itself behind ten seconds", asked_at(socket.AF_INET, "10.9.9.1", "10.9.9.3", server.port))
+        rows.row("and so do the others still", asked_at(socket.AF_INET, "10.9.9.1", "10.9.9.2", server.port))
+    with Served(WHOAMI) as server:
+        rows.row("it serves once more", server.is_serving(QUERY))
+        path = corefile(server.room.name, WHOAMI.replace("{port}", str(server.port)))
+        rows.equal("a port that another server of this user has is taken", run("serve", "--conf", path),
+                   told(3, "cannot open", f"open udp port {server.port}: address in use"))
+
+
+def in_own_network(rows):
+    if shutil.which("unshare") is None or shutil.which("ip") is None:
+        print("skipped: there is no unshare or no ip")
+        return
+    script = ("ip link set lo up && echo 1 >/proc/sys/net/ipv6/bindv6only && "
+              "for address in 10.9.9.1/24 10.9.9.2/24; do ip address add $address dev lo || exit; done && "
+              "for address in fd00:9::1/64 fd00:9::2/64; do ip -6 address add $address dev lo nodad || exit; done && "
+              'exec "$@"')
+    for alone in [["unshare", "--net"], ["unshare", "--map-root-user", "--net"]]:
+        ran = subprocess.run([*alone, "sh", "-c", script, "sh", sys.executable, os.path.abspath(__file__), "apart"],
+                             capture_output=True, text=True, timeout=60)
+        if "ok " in ran.stdout:
+            print(ran.stdout, end="", flush=True)
+            rows.failed += ran.returncode != 0
+            return
+    print("skipped: no network of its own can be made here")
+
+
+def main():
+    needs_program()
+    rows = Rows()
+    if sys.argv[1:] == ["apart"]:
+        apart(rows)
+        rows.end()
+    no_regular_files(rows)
+    a_pipe_while_it_serves(rows)
+    ports(rows)
+    closed_streams(rows)
+    full_pipe(rows)
+    nobody_reads(rows)
+    failing_receives(rows)
+    in_own_network(rows)
+    rows.end()
+
+
+if __name__ == "__main__":
+    main()

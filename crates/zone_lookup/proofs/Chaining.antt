@@ -1,5 +1,5 @@
 -- Runs of CNAME records, and the tests of names.
-use Rattle.std.proofs.Common.{◌≡◌, ◌↔◌, ℕ, zero, suc, ◌+◌, ◌-◌, ◌<◌, ◌≤◌, Bool, true, false, cond, IsTrue, nat_eq, List, [], ◌∷◌, ◌++◌, length, drop, get_or, Option, Some, None, refl, sym, ap, subst, ◌∙◌, arith, map, length-append, append_assoc, rules}
+use Rattle.std.proofs.Common.{◌≡◌, ◌↔◌, ℕ, zero, suc, ◌+◌, ◌-◌, ◌<◌, ◌≤◌, Bool, true, false, IsTrue, nat_eq, List, [], ◌∷◌, ◌++◌, length, drop, get_or, Option, Some, None, refl, sym, ap, subst, ◌∙◌, arith, map, length-append, append_assoc, rules}
 use Rattle.std.specs.Prelude.{not}
 use Rattle.std.proofs.lemmas.List.{length-map, drop_more}
 use Rattle.std.proofs.lemmas.Bool.Decides.{same_from_decides, Decides-eqb}
@@ -10,11 +10,11 @@ use Rattle.dns_data.specs.Record.{RecordData}
 use Rattle.dns_data.specs.declared.zone.Zone.{Zone}
 use Rattle.zone_lookup.specs.declared.find.Find.{Find}
 use Rattle.zone_lookup.specs.declared.answering.End.{End}
-use Rattle.dns_data.specs.Message.{AnswerData}
+use Rattle.dns_data.specs.Message.{AnswerData, no_answer}
 use Rattle.dns_data.specs.declared.kind.TheConstants as kinds
 use Rattle.zone_lookup.specs.Zone.{is_under, has_items, cut_of, set_at}
 use Rattle.zone_lookup.specs.declared.find.Step.TheVariants as step
-use Rattle.zone_lookup.specs.ZoneAnswer.{Finds, Chain, Ends, found, chain, is_followed, with_hosts, with_addresses, host_of, referral, positive, additional, the_answer, rcode_of, authority, own_answer, whole_chain, answer_under, zone_answer, sought, Steps, StepsAt}
+use Rattle.zone_lookup.specs.ZoneAnswer.{Finds, Chain, Ends, found, chain, is_followed, with_hosts, with_addresses, host_of, referral, positive, additional, the_answer, rcode_of, authority, own_answer, whole_chain, answer_under, zone_answer, sought, with_answer, Steps, StepsAt}
 
 length_drop : {X : Type 0} (n : ℕ) (xs : List X) → n ≤ length xs → length (drop n xs) + n ≡ length xs
 length_drop zero xs h = omega arith
@@ -106,6 +106,55 @@ pub own_is : (zone : Zone) (name : List (List ℕ)) (kind : ℕ) (a : AnswerData
     → a ≡ own_answer zone name kind
 unfolding own_answer
 own_is zone name kind a e = e
+
+-- an answer with other sections, or another RCODE and AA
+abbrev pub with_sections : AnswerData → List RecordData → List RecordData → List RecordData → AnswerData
+with_sections a answer authority additional = record {
+  rcode = a.rcode;
+  aa = a.aa;
+  ra = a.ra;
+  tc = a.tc;
+  answer = answer;
+  authority = authority;
+  additional = additional;
+}
+
+abbrev pub with_code : AnswerData → ℕ → AnswerData
+with_code a rcode = record {
+  rcode = rcode;
+  aa = true;
+  ra = a.ra;
+  tc = a.tc;
+  answer = a.answer;
+  authority = a.authority;
+  additional = a.additional;
+}
+
+-- a referral in a slot that had the servers as its answer
+pub refers : (zone : Zone) (slot : AnswerData) (servers answer authority additional : List RecordData) → slot ≡ with_answer servers → answer ≡ slot.authority → authority ≡ slot.answer
+    → additional ≡ with_hosts zone answer slot.additional authority
+    → with_sections slot answer authority additional ≡ referral zone servers
+refers zone slot servers answer authority additional e was moved add =
+    let none : answer ≡ [] = was ∙ ap (λ (a : AnswerData). a.authority) e in
+    let same : authority ≡ servers = moved ∙ ap (λ (a : AnswerData). a.answer) e in
+    let glue : additional ≡ with_hosts zone answer [] authority = add ∙ ap (λ (rs : List RecordData). with_hosts zone answer rs authority) (ap (λ (a : AnswerData). a.additional) e) in
+    ap (λ (a : AnswerData). with_sections a answer authority additional) e ∙ referral_is zone servers answer authority additional none same glue
+
+-- the answer from what the name itself gave, in a slot that had that as its answer
+pub answers : (zone : Zone) (name : List (List ℕ)) (kind : ℕ) (slot : AnswerData) (first : List RecordData) (rcode : ℕ) (end : End) (answer auth middle additional : List RecordData) → slot ≡ with_answer first
+    → rcode ≡ rcode_of end.absent → Ends (whole_chain zone name kind) end [] answer → auth ≡ slot.authority ++ authority zone name kind end.denied → middle ≡ with_hosts zone answer slot.additional answer
+    → additional ≡ with_hosts zone answer middle auth → with_code (with_sections slot answer auth additional) rcode ≡ own_answer zone name kind
+answers zone name kind slot first rcode end answer auth middle additional e code0 ends was mid add =
+    let c = whole_chain zone name kind in
+    let servers : auth ≡ authority zone name kind c.denied = was ∙ ap (λ (a : AnswerData). a.authority ++ authority zone name kind end.denied) e ∙ ap (authority zone name kind) ends.denied in
+    let begun : middle ≡ with_hosts zone answer [] answer = mid ∙ ap (λ (a : AnswerData). with_hosts zone answer a.additional answer) e in
+    let code : rcode ≡ rcode_of c.absent = code0 ∙ ap rcode_of ends.absent in
+    ap (λ (a : AnswerData). with_code (with_sections a answer auth additional) rcode) e ∙ ap (λ (n : ℕ). the_answer true n answer auth additional) code
+    ∙ own_is zone name kind _ (positive_is zone c end _ answer auth middle additional ends servers begun add)
+
+-- an answer section in a slot that was clear
+pub begins_with : (slot : AnswerData) (answer : List RecordData) → slot ≡ no_answer → with_sections slot answer slot.authority slot.additional ≡ with_answer answer
+begins_with slot answer e = ap (λ (a : AnswerData). with_sections a answer a.authority a.additional) e
 
 cut_at : (zone : Zone) (name : List (List ℕ)) (kind : ℕ) (cut : Option (List (List ℕ))) (new : List RecordData) → StepsAt cut (sought zone name kind) step.Cut [] new
     → referral zone new ≡ answer_under zone name kind cut

@@ -1,12 +1,11 @@
 -- A zone as the plain list of its records.
-use Rattle.std.proofs.Common.{◌≡◌, ℕ, zero, suc, ◌+◌, ◌<◌, ◌≤◌, Bool, true, false, cond, List, [], ◌∷◌, ◌++◌, length, take, drop, get_or, refl, sym, ap, subst, ◌∙◌, arith, append_assoc, rules}
+use Rattle.std.proofs.Common.{◌≡◌, ℕ, ◌+◌, ◌<◌, ◌≤◌, Bool, true, false, cond, List, [], ◌∷◌, ◌++◌, length, take, drop, get_or, refl, sym, ap, ◌∙◌, arith, append_assoc, rules}
 use Rattle.std.specs.Prelude.{◌||◌, ◌==◌, insert, nat_le}
 use Rattle.std.specs.List.{filter, list_any}
 use Rattle.std.proofs.lemmas.List.{drop_more, drop_all, take_all, take_more, append-nil}
 use Rattle.std.proofs.lemmas.List.Elements.{filter_more}
 use Rattle.dns_data.specs.Record.{RecordData, kind_of}
 use Rattle.dns_data.specs.declared.zone.Zone.{Zone}
-use Rattle.dns_data.specs.declared.kind.TheConstants as kinds
 use Rattle.zone_lookup.specs.Zone.{is_at, is_of, placed, by_type, set_at, has_at, has_items, Begins}
 
 has_cond : (b : Bool) (r : RecordData) (rs : List RecordData) → has_items (cond b (r ∷ rs) rs) ≡ (b || has_items rs)

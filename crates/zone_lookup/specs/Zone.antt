@@ -1,7 +1,7 @@
 -- What stands in a zone (RFC 1034, section 4.3.2; RFC 4592), as tests over the plain list of its
 -- records.
 use Rattle.std.specs.Cmp.Lexicographic.{pointwise}
-use Rattle.std.specs.Prelude.{nat_eq, ℕ, zero, suc, ◌+◌, ◌-◌, nat_lt, nat_le, ◌==◌}
+use Rattle.std.specs.Prelude.{nat_eq, ℕ, ◌+◌, ◌-◌, nat_lt, nat_le, ◌==◌}
 use Rattle.std.specs.Prelude.{Bool, true, false, cond, not, ◌&&◌, Option, Some, None}
 use Rattle.std.specs.Prelude.{◌≡◌, List, [], ◌∷◌, ◌++◌, length, drop}
 use Rattle.std.specs.List.{filter, list_any}

@@ -221,6 +221,10 @@ the_answer aa rcode answer authority additional = record {
   additional = additional;
 }
 
+-- these records as the answer section, and nothing else yet
+abbrev pub with_answer : List RecordData → AnswerData
+with_answer records = the_answer false rcodes.NOERROR records [] []
+
 -- NXDOMAIN for a name that is absent
 abbrev pub rcode_of : Bool → ℕ
 rcode_of absent = cond absent rcodes.NXDOMAIN rcodes.NOERROR

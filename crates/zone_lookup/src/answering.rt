@@ -1,17 +1,19 @@
 ghost use Rattle.std.specs.Prelude.{◌≡◌, ◌<◌, ◌++◌, ◌&&◌, ◌==◌, [], false, OnOk, IfOk};
+ghost use Rattle.dns_data.specs.Message.{no_answer};
 ghost use Rattle.dns_data.specs.declared.kind.TheConstants as kinds;
 ghost use Rattle.dns_data.specs.declared.rcode.TheConstants as rcodes;
 ghost use Rattle.zone_lookup.specs.Zone.{is_same};
 ghost use Rattle.zone_lookup.specs.ZoneAnswer.{chain, is_followed, authority, referral, rcode_of};
 ghost use Rattle.zone_lookup.specs.ZoneAnswer.{own_answer, zone_answer, whole_chain, found};
-ghost use Rattle.zone_lookup.specs.ZoneAnswer.{Ends, Finds};
+ghost use Rattle.zone_lookup.specs.ZoneAnswer.{Ends, Finds, with_answer};
 
 use crate::ZoneStore;
 use crate::find::{Find, Step};
 use crate::hosts::push_hosts;
 use crate::names::{is_under, same};
-use dns_data::{Answer, Name, NoMemory, Records, Seq, kind, rcode};
+use dns_data::{Name, NoMemory, RecordRoom, Slot, kind, rcode};
 use std::alloc::Global;
+use std::mem;
 
 /// CNAME records that are followed at most, the first one among them.
 const STEPS: u32 = 8;
@@ -24,86 +26,69 @@ pub struct End {
     pub denied: bool,
 }
 
-/// The answer of a zone to a question for a name within it.
+/// Fills a slot with the answer of a zone to a question for a name within it.
 pub fn lookup<Z: ZoneStore>(
     alloc: Global,
     zone: &Z,
     name: &Name,
     kind: u16,
-) -> Result<Answer, NoMemory>
-    ensures { IfOk result (λ answer. answer ≡ zone_answer (Z.zone zone.now) name.now kind) }
+    slot: &mut Slot,
+) -> Result<(), NoMemory>
+    requires clear { slot.old ≡ no_answer }
+    ensures { OnOk result (slot.new ≡ zone_answer (Z.zone zone.now) name.now kind) }
 {
-    let mut records = Seq::new(alloc);
-    match zone.step(alloc, name, kind, &mut records)? {
-        // What was found is the cut's NS set, which stands in authority.
-        Step::Cut => referral(alloc, zone, records),
-        Step::Found(find) => positive(alloc, zone, name, kind, find, records),
+    match zone.step(alloc, name, kind, &mut slot.answer)? {
+        Step::Cut => referral(alloc, zone, slot),
+        Step::Found(find) => positive(alloc, zone, name, kind, find, slot),
     }
 }
 
-fn referral<Z: ZoneStore>(alloc: Global, zone: &Z, servers: Records) -> Result<Answer, NoMemory>
-    ensures { IfOk result (λ made. made ≡ referral (Z.zone zone.now) servers) }
+// The referral of the NS set that stands in the slot, which moves to authority.
+fn referral<Z: ZoneStore>(alloc: Global, zone: &Z, slot: &mut Slot) -> Result<(), NoMemory>
+    requires { slot.old ≡ with_answer slot.old.answer }
+    ensures { OnOk result (slot.new ≡ referral (Z.zone zone.now) slot.old.answer) }
 {
-    let answer = Seq::new(alloc);
-    let mut additional = Seq::new(alloc);
+    mem::swap(&mut slot.answer, &mut slot.authority);
     push_hosts(
         alloc,
         zone,
-        answer.as_slice(),
-        servers.as_slice(),
-        &mut additional,
-    )?;
-    Ok(Answer {
-        rcode: rcode::NOERROR,
-        aa: false,
-        ra: false,
-        tc: false,
-        answer,
-        authority: servers,
-        additional,
-    })
+        slot.answer.as_slice(),
+        slot.authority.as_slice(),
+        &mut slot.additional,
+    )
 }
 
-// The answer from what the name itself gave.
+// The answer from what the name itself gave, which stands in the slot.
 fn positive<Z: ZoneStore>(
     alloc: Global,
     zone: &Z,
     name: &Name,
     kind: u16,
     find: Find,
-    records: Records,
-) -> Result<Answer, NoMemory>
-    requires { Finds (found (Z.zone zone.now) name.now kind) find [] records }
-    ensures { IfOk result (λ made. made ≡ own_answer (Z.zone zone.now) name.now kind) }
+    slot: &mut Slot,
+) -> Result<(), NoMemory>
+    requires clear { slot.old ≡ with_answer slot.old.answer }
+    requires finds { Finds (found (Z.zone zone.now) name.now kind) find [] slot.old.answer }
+    ensures { OnOk result (slot.new ≡ own_answer (Z.zone zone.now) name.now kind) }
 {
-    let mut answer = records;
-    let mut authority = Seq::new(alloc);
-    let mut additional = Seq::new(alloc);
-    let end = follow(alloc, zone, kind, name, find, &mut answer)?;
-    push_authority(alloc, zone, name, kind, end.denied, &mut authority)?;
+    let end = follow(alloc, zone, kind, name, find, &mut slot.answer)?;
+    slot.aa = true;
+    slot.rcode = rcode_of(end.absent);
+    push_authority(alloc, zone, name, kind, end.denied, &mut slot.authority)?;
     push_hosts(
         alloc,
         zone,
-        answer.as_slice(),
-        answer.as_slice(),
-        &mut additional,
+        slot.answer.as_slice(),
+        slot.answer.as_slice(),
+        &mut slot.additional,
     )?;
     push_hosts(
         alloc,
         zone,
-        answer.as_slice(),
-        authority.as_slice(),
-        &mut additional,
-    )?;
-    Ok(Answer {
-        rcode: rcode_of(end.absent),
-        aa: true,
-        ra: false,
-        tc: false,
-        answer,
-        authority,
-        additional,
-    })
+        slot.answer.as_slice(),
+        slot.authority.as_slice(),
+        &mut slot.additional,
+    )
 }
 
 fn rcode_of(absent: bool) -> u8
@@ -124,7 +109,7 @@ fn follow<Z: ZoneStore>(
     kind: u16,
     name: &Name,
     find: Find,
-    out: &mut Records,
+    out: &mut RecordRoom,
 ) -> Result<End, NoMemory>
     requires { Finds (found (Z.zone zone.now) name.now kind) find [] out.old }
     ensures { IfOk result
@@ -150,7 +135,7 @@ fn chain<Z: ZoneStore>(
     left: u32,
     kind: u16,
     name: &Name,
-    out: &mut Records,
+    out: &mut RecordRoom,
 ) -> Result<End, NoMemory>
     ensures { IfOk result
         (λ end. Ends (chain left (Z.zone zone.now) kind name.now) end out.old out.new) }
@@ -199,7 +184,7 @@ fn push_authority<Z: ZoneStore>(
     name: &Name,
     kind: u16,
     denied: bool,
-    out: &mut Records,
+    out: &mut RecordRoom,
 ) -> Result<(), NoMemory>
     ensures { OnOk result
         (out.new ≡ out.old ++ authority (Z.zone zone.now) name.now kind denied) }

@@ -6,7 +6,7 @@ ghost use Rattle.zone_lookup.specs.Zone.{only_if, star_of};
 ghost use Rattle.zone_lookup.specs.ZoneAnswer.{with_owner, target_of, alias_of, denying};
 ghost use Rattle.zone_lookup.specs.ZoneAnswer.{negative_ttl};
 
-use dns_data::{Copies, Name, NoMemory, Rdata, Record, Records, kind, limit};
+use dns_data::{Copies, Name, NoMemory, Rdata, Record, RecordRoom, kind, limit};
 use std::alloc::Global;
 
 /// What a name gave beside records: whether neither it nor a wildcard for it exists, and where a
@@ -67,12 +67,16 @@ pub fn star_below(alloc: Global, top: Option<Name>) -> Result<Option<Name>, NoMe
 }
 
 /// Where the first record of a list from some place on leads to.
-pub fn target_from(alloc: Global, records: &Records, from: usize) -> Result<Option<Name>, NoMemory>
+pub fn target_from(
+    alloc: Global,
+    records: &RecordRoom,
+    from: usize,
+) -> Result<Option<Name>, NoMemory>
     requires { from ≤ length records.now }
     ensures { IfOk result (λ target. target ≡ target_of (drop from records.now)) }
 {
     if from < records.len() {
-        return alias(alloc, records.at(from));
+        return alias(alloc, &records.as_slice()[from]);
     }
     Ok(None)
 }
@@ -91,40 +95,33 @@ pub fn push_owned(
     alloc: Global,
     records: &[Record],
     name: &Name,
-    out: &mut Records,
+    out: &mut RecordRoom,
 ) -> Result<(), NoMemory>
     ensures { OnOk result (out.new ≡ out.old ++ map (with_owner name.now) records.now) }
 {
     for record in records {
-        out.push(Record {
-            owner: name.copy(alloc)?,
-            class: record.class,
-            ttl: record.ttl,
-            rdata: record.rdata.copy(alloc)?,
-        })?;
+        let ttl = record.ttl;
+        out.push_copy(alloc, name, ttl, record)?;
     }
     Ok(())
 }
 
 /// Appends SOA records with the TTL of a denial.
-pub fn push_denying(alloc: Global, records: &[Record], out: &mut Records) -> Result<(), NoMemory>
+pub fn push_denying(alloc: Global, records: &[Record], out: &mut RecordRoom) -> Result<(), NoMemory>
     ensures { OnOk result (out.new ≡ out.old ++ map denying records.now) }
 {
     for record in records {
-        out.push(denying(alloc, record)?)?;
+        push_one_denying(alloc, record, out)?;
     }
     Ok(())
 }
 
-fn denying(alloc: Global, entry: &Record) -> Result<Record, NoMemory>
-    ensures { IfOk result (λ made. made ≡ denying entry.now) }
+/// Appends an SOA record with the TTL of a denial.
+pub fn push_one_denying(alloc: Global, entry: &Record, out: &mut RecordRoom) -> Result<(), NoMemory>
+    ensures { OnOk result (out.new ≡ out.old ++ denying entry.now ∷ []) }
 {
-    Ok(Record {
-        owner: entry.owner.copy(alloc)?,
-        class: entry.class,
-        ttl: negative_ttl(&entry.rdata, entry.ttl),
-        rdata: entry.rdata.copy(alloc)?,
-    })
+    let ttl = negative_ttl(&entry.rdata, entry.ttl);
+    out.push_copy(alloc, &entry.owner, ttl, entry)
 }
 
 fn negative_ttl(rdata: &Rdata, ttl: u32) -> u32

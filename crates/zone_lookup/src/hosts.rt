@@ -6,7 +6,7 @@ ghost use Rattle.zone_lookup.specs.ZoneAnswer.{host_of, with_set, with_addresses
 
 use crate::ZoneStore;
 use crate::names::is_of;
-use dns_data::{Name, NoMemory, Rdata, Record, Records, kind};
+use dns_data::{Name, NoMemory, Rdata, Record, RecordRoom, kind};
 use std::alloc::Global;
 
 /// Appends the addresses of the hosts that records name.
@@ -15,7 +15,7 @@ pub fn push_hosts<Z: ZoneStore>(
     zone: &Z,
     answer: &[Record],
     records: &[Record],
-    out: &mut Records,
+    out: &mut RecordRoom,
 ) -> Result<(), NoMemory>
     ensures { OnOk result
         (out.new ≡ with_hosts (Z.zone zone.now) answer.now out.old records.now) }
@@ -41,7 +41,7 @@ fn push_addresses<Z: ZoneStore>(
     zone: &Z,
     answer: &[Record],
     host: Option<&Name>,
-    out: &mut Records,
+    out: &mut RecordRoom,
 ) -> Result<(), NoMemory>
     ensures { OnOk result (out.new ≡ with_addresses (Z.zone zone.now) answer.now out.old
         (option_map (λ name. name.now) host.entry)) }
@@ -60,7 +60,7 @@ fn push_set<Z: ZoneStore>(
     answer: &[Record],
     name: &Name,
     kind: u16,
-    out: &mut Records,
+    out: &mut RecordRoom,
 ) -> Result<(), NoMemory>
     ensures { OnOk result (out.new ≡ with_set (Z.zone zone.now) answer.now out.old name.now kind) }
 {

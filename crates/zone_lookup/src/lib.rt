@@ -11,7 +11,7 @@ mod store;
 mod tests;
 
 pub use answering::lookup;
-pub use find::{Find, Step, is_aliased_kind, nothing, push_owned, target_from};
-pub use names::{is_star, type_of};
+pub use find::{Find, Step, is_aliased_kind, nothing, push_one_denying, push_owned, target_from};
+pub use names::{is_star, same, type_of};
 pub use plain::PlainZone;
 pub use store::ZoneStore;

@@ -5,7 +5,7 @@ ghost use Rattle.zone_lookup.specs.Zone.{is_under, is_at, is_of, placed, by_type
 use crate::ZoneStore;
 use crate::hosts::stands_in;
 use crate::names::{is_at, is_of, is_under, type_of};
-use dns_data::{Copies, Name, NoMemory, Record, Records, Zone, kind};
+use dns_data::{Copies, Name, NoMemory, Record, RecordRoom, Zone, kind};
 use std::alloc::Global;
 
 /// A zone as the plain list of its records. Each call walks the whole list.
@@ -47,7 +47,7 @@ impl ZoneStore for PlainZone {
         alloc: Global,
         name: &Name,
         kind: u16,
-        out: &mut Records,
+        out: &mut RecordRoom,
     ) -> Result<(), NoMemory> {
         let records = self.zone.records.as_slice();
         if kind == kind::ANY {
@@ -86,14 +86,14 @@ fn copy_kind(
     records: &[Record],
     name: &Name,
     kind: u16,
-    out: &mut Records,
+    out: &mut RecordRoom,
 ) -> Result<(), NoMemory>
     ensures ok { OnOk result (out.new ≡ out.old ++ filter (is_of name.now kind) records.now) }
     ensures err { OnErr result (Begins out.old out.new) }
 {
     for record in records {
         if is_of(record, name, kind) {
-            out.push(record.copy(alloc)?)?;
+            out.push(alloc, record)?;
         }
     }
     Ok(())
@@ -103,7 +103,7 @@ fn copy_all(
     alloc: Global,
     records: &[Record],
     name: &Name,
-    out: &mut Records,
+    out: &mut RecordRoom,
 ) -> Result<(), NoMemory>
     ensures ok { OnOk result
         (out.new ≡ out.old ++ by_type [] (filter (is_at name.now) records.now)) }
@@ -116,12 +116,12 @@ fn copy_all(
     append(alloc, sorted.as_slice(), out)
 }
 
-fn append(alloc: Global, records: &[Record], out: &mut Records) -> Result<(), NoMemory>
+fn append(alloc: Global, records: &[Record], out: &mut RecordRoom) -> Result<(), NoMemory>
     ensures ok { OnOk result (out.new ≡ out.old ++ records.now) }
     ensures err { OnErr result (Begins out.old out.new) }
 {
     for record in records {
-        out.push(record.copy(alloc)?)?;
+        out.push(alloc, record)?;
     }
     Ok(())
 }

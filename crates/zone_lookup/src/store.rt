@@ -9,7 +9,7 @@ use crate::find::{
     Find, Step, cut_or, is_aliased_kind, nothing, push_denying, push_owned, star_below, target_from,
 };
 use crate::names::is_star;
-use dns_data::{Copies, Name, NoMemory, Records, Seq, kind};
+use dns_data::{Copies, Name, NoMemory, RecordRoom, kind};
 use std::alloc::Global;
 
 /// The records of a zone, which contracts see as a list.
@@ -34,7 +34,7 @@ pub trait ZoneStore {
         alloc: Global,
         name: &Name,
         kind: u16,
-        out: &mut Records,
+        out: &mut RecordRoom,
     ) -> Result<(), NoMemory>
         ensures ok { OnOk result (out.new ≡ out.old ++ set_at (zone self.now) name.now kind) }
         ensures err { OnErr result (Begins out.old out.new) };
@@ -87,7 +87,7 @@ pub trait ZoneStore {
         alloc: Global,
         name: &Name,
         kind: u16,
-        out: &mut Records,
+        out: &mut RecordRoom,
     ) -> Result<Find, NoMemory>
         ensures { IfOk result
             (λ find. Finds (found_at (zone self.now) name.now kind) find out.old out.new) }
@@ -115,7 +115,7 @@ pub trait ZoneStore {
         alloc: Global,
         name: &Name,
         kind: u16,
-        out: &mut Records,
+        out: &mut RecordRoom,
     ) -> Result<Find, NoMemory>
         ensures { IfOk result
             (λ find. Finds (found (zone self.now) name.now kind) find out.old out.new) }
@@ -130,18 +130,18 @@ pub trait ZoneStore {
         if !self.exists(&star) {
             return Ok(nothing());
         }
-        let mut records = Seq::new(alloc);
+        let mut records = RecordRoom::new(alloc);
         let find = self.find_at(alloc, &star, kind, &mut records)?;
         push_owned(alloc, records.as_slice(), name, out)?;
         Ok(find)
     }
 
     /// Appends the SOA records of a denial.
-    fn copy_denial(&self, alloc: Global, out: &mut Records) -> Result<(), NoMemory>
+    fn copy_denial(&self, alloc: Global, out: &mut RecordRoom) -> Result<(), NoMemory>
         ensures { OnOk result (out.new ≡ out.old
             ++ map denying (set_at (zone self.now) (zone self.now).origin kinds.SOA)) }
     {
-        let mut records = Seq::new(alloc);
+        let mut records = RecordRoom::new(alloc);
         self.copy_set(alloc, self.origin(), kind::SOA, &mut records)?;
         push_denying(alloc, records.as_slice(), out)
     }
@@ -152,7 +152,7 @@ pub trait ZoneStore {
         alloc: Global,
         name: &Name,
         kind: u16,
-        out: &mut Records,
+        out: &mut RecordRoom,
     ) -> Result<Step, NoMemory>
         ensures { IfOk result
             (λ step. Steps (sought (zone self.now) name.now kind) step out.old out.new) }

@@ -2,9 +2,7 @@ ghost use Rattle.std.specs.Prelude.{IfOk};
 ghost use Rattle.dns_data.specs.{IsFormed};
 
 use super::*;
-use dns_data::{
-    Answer, Name, NoMemory, Rdata, Record, Records, Seq, Soa, Zone, class, kind, rcode,
-};
+use dns_data::{Name, NoMemory, Rdata, Record, Records, Seq, Slot, Soa, Zone, class, kind, rcode};
 use std::alloc::Global;
 use std::test::Fail;
 
@@ -53,14 +51,16 @@ const ROWS: [(&str, u16, Told); 8] = [
 #[test]
 fn a_plain_zone_answers(rt: HostRuntime) -> Result<(), Fail> {
     let zone = PlainZone::new(zone(rt.alloc())?);
+    let mut slot = Slot::new(rt.alloc());
     for (text, kind, told) in ROWS {
-        let answer = lookup(rt.alloc(), &zone, &name(rt.alloc(), text)?, kind)?;
-        assert_eq!(rt; told_of(&answer), told, "{text}");
+        slot.clear();
+        lookup(rt.alloc(), &zone, &name(rt.alloc(), text)?, kind, &mut slot)?;
+        assert_eq!(rt; told_of(&slot), told, "{text}");
     }
     Ok(())
 }
 
-fn told_of(answer: &Answer) -> Told {
+fn told_of(answer: &Slot) -> Told {
     let lengths = [
         answer.answer.len(),
         answer.authority.len(),

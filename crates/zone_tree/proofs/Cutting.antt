@@ -12,7 +12,7 @@ use Rattle.dns_data.specs.declared.zone.Zone.{Zone}
 use Rattle.name_table.specs.Table.{IsMissing, IsNamed, IsLongest}
 use Rattle.name_table.specs.declared.table.Longest.{Longest}
 use Rattle.zone_lookup.specs.Zone.{is_at, is_of, is_star, is_cut, has_items, only_if, by_type, cut_of, encloser, exists_in, has_at, set_at, star_of, where_it_exists}
-use Rattle.zone_lookup.specs.ZoneAnswer.{Finds, Steps, found, sought, with_owner}
+use Rattle.zone_lookup.specs.ZoneAnswer.{Finds, Steps, found, owned_by, sought, with_owner}
 use Rattle.zone_lookup.specs.declared.find.Find.{Find}
 use Rattle.zone_lookup.specs.declared.find.Step.TheVariants as step
 use Rattle.zone_lookup.proofs.Suffixes.{encloser_here, encloser_up, no_encloser}
@@ -288,6 +288,11 @@ finds_star tree name kind longest star set find old new some t l below s is f e 
     let finds = subst (λ (what : _). Finds what find [] some) (found_in_at tree.zone (star_at rest) kind (picked tree.zone.records set) at) f in
     finds_wild tree.zone name (star_at rest) kind find old new some (missing_in tree.table tree.zone name t.names (l.longer 0 (omega arith))) (ap star_of (encloser_at tree name longest t l) ∙ some_star rest s.1)
     (named_in tree.table tree.zone star (star_at rest) t.names s.0) finds e
+
+pub finds_star_as : (tree : Tree) (name : List (List ℕ)) (kind : ℕ) (longest : Longest) (star : ℕ) (set : List ℕ) (find : Find) (old new : List RecordData) → IsTree tree → IsLongest tree.table name longest → (longest.above ≡ 0 → ⊥)
+    → IsStarOf tree.table (Some star) (drop longest.above name) → set ≡ get_or tree.sets.items star set → Finds (owned_by name (found_in (picked tree.zone.records set) kind)) find old new → Finds (found tree.zone name kind) find old new
+finds_star_as tree name kind longest star set find old new t l below s is f =
+    finds_star tree name kind longest star set find old new (found_in (picked tree.zone.records set) kind).records t l below s is (record { absent = f.absent; target = f.target; records = refl }) f.records
 
 -- the cuts of one name more
 cut_joins : (names : List (List (List ℕ))) (o : Option (List (List ℕ))) (above : Option ℕ) (b : Bool) (i : ℕ) (name : List (List ℕ)) → IsCutAt names o above → IsNamed names i name

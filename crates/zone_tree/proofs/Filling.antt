@@ -1,5 +1,5 @@
 -- The records of each name, as they are told one by one.
-use Rattle.std.proofs.Common.{◌≡◌, ℕ, ◌+◌, ◌<◌, Bool, true, false, cond, List, [], ◌∷◌, ◌++◌, length, take, drop, get_or, Option, Some, None, refl, sym, ap, subst, ◌∙◌, arith, inl, inr}
+use Rattle.std.proofs.Common.{◌≡◌, ℕ, ◌+◌, ◌<◌, Bool, true, false, cond, List, [], ◌∷◌, ◌++◌, length, take, drop, get_or, map, Option, Some, None, refl, sym, ap, subst, ◌∙◌, arith, inl, inr}
 use Rattle.std.specs.Prelude.{IfSome, IfNone, is_some, slice_get, slice_set, ◌&&◌, ◌||◌, ◌==◌, not}
 use Rattle.std.specs.List.{filter, list_any}
 use Rattle.std.proofs.lemmas.List.{length-set, take_more, take_all, append-nil}
@@ -14,7 +14,7 @@ use Rattle.dns_data.specs.Record.{RecordData, kind_of}
 use Rattle.dns_data.specs.declared.zone.Zone.{Zone}
 use Rattle.name_table.specs.Table.{IsMissing, IsNamed, IsNumberOf}
 use Rattle.zone_lookup.specs.Zone.{is_same, is_under, is_at, is_of, by_type, exists_in, set_at, has_at}
-use Rattle.zone_lookup.specs.ZoneAnswer.{found_at, is_alias, alias_found, set_found, Finds, target_of}
+use Rattle.zone_lookup.specs.ZoneAnswer.{found_at, is_alias, alias_found, set_found, Finds, owned_by, target_of, with_owner}
 use Rattle.zone_lookup.specs.declared.find.Find.{Find}
 use Rattle.zone_lookup.proofs.PlainList.{has_any, has_of}
 use Rattle.zone_tree.specs.Sets.{before, is_asked, is_kind, picked, set_in, is_alias_in, found_in}
@@ -222,6 +222,25 @@ alias_finds node kind find old new e code is target = rw e (record {
   target = target ∙ ap target_of (ap (drop (length old)) is ∙ drop_at old (set_in node 5) (length old) refl);
   records = is;
 })
+
+target_as : (name : List (List ℕ)) (rs : List RecordData) → target_of (map (with_owner name) rs) ≡ target_of rs
+target_as name [] = refl
+target_as name (r ∷ rs) = refl
+
+-- the same for a name at which a wildcard stands in
+pub alias_finds_as : (name : List (List ℕ)) (node : List RecordData) (kind : ℕ) (find : Find) (old new : List RecordData) → is_alias_in node kind ≡ true → find.absent ≡ false → new ≡ old ++ map (with_owner name) (set_in node 5)
+    → find.target ≡ target_of (drop (length old) new) → Finds (owned_by name (found_in node kind)) find old new
+unfolding found_in
+alias_finds_as name node kind find old new e code is target = rw e (record {
+  absent = code;
+  target = target ∙ ap target_of (ap (drop (length old)) is ∙ drop_at old (map (with_owner name) (set_in node 5)) (length old) refl) ∙ target_as name (set_in node 5);
+  records = is;
+})
+
+pub set_finds_as : (name : List (List ℕ)) (node : List RecordData) (kind : ℕ) (find : Find) (old new : List RecordData) → is_alias_in node kind ≡ false → find.absent ≡ false → find.target ≡ None
+    → new ≡ old ++ map (with_owner name) (set_in node kind) → Finds (owned_by name (found_in node kind)) find old new
+unfolding found_in
+set_finds_as name node kind find old new e code target is = rw e (record { absent = code; target = target; records = is })
 
 pub set_finds : (node : List RecordData) (kind : ℕ) (find : Find) (old new : List RecordData) → is_alias_in node kind ≡ false → find.absent ≡ false → find.target ≡ None → new ≡ old ++ set_in node kind
     → Finds (found_in node kind) find old new

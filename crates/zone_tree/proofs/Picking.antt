@@ -1,8 +1,8 @@
 -- The records of numbers.
-use Rattle.std.proofs.Common.{◌≡◌, ℕ, ◌+◌, ◌<◌, ◌≤◌, Bool, true, false, List, [], ◌∷◌, ◌++◌, length, take, drop, get_or, Option, Some, None, refl, sym, ap, ◌∙◌, append_assoc}
+use Rattle.std.proofs.Common.{◌≡◌, ℕ, ◌+◌, ◌<◌, ◌≤◌, Bool, true, false, List, [], ◌∷◌, ◌++◌, length, take, drop, get_or, map, Option, Some, None, refl, sym, ap, ◌∙◌, append_assoc}
 use Rattle.std.specs.Prelude.{◌||◌, slice_get}
 use Rattle.std.specs.List.{filter, list_any}
-use Rattle.std.proofs.lemmas.List.{drop_more, drop_all, take_all, take_more, append-nil}
+use Rattle.std.proofs.lemmas.List.{drop_more, drop_all, take_all, take_more, append-nil, map-append}
 use Rattle.std.proofs.lemmas.List.Elements.{filter-append}
 use Rattle.std.proofs.lemmas.Bool.{cond-true, cond-false}
 use Rattle.dns_data.specs.Record.{RecordData}
@@ -112,3 +112,28 @@ any_end p records set i was past = sym (ap (list_any p) (ap (picked records) (dr
 
 pub takes_none : (p : RecordData → Bool) (records old : List RecordData) → old ≡ old ++ filter p (picked records [])
 takes_none p records old = sym (append-nil old) ∙ ap (λ (rs : List RecordData). old ++ filter p rs) (sym (picked_none records))
+
+-- a list beside it, of what is made of each record that passes
+pub takes_as : (f : RecordData → RecordData) (p : RecordData → Bool) (records old out new : List RecordData) (set : List ℕ) (i : ℕ) (r : RecordData)
+    → out ≡ old ++ map f (filter p (picked records (take i set))) → i < length set → slice_get records (get_or set i 0) ≡ Some r → p r ≡ true → new ≡ out ++ f r ∷ []
+    → new ≡ old ++ map f (filter p (picked records (take (i + 1) set)))
+takes_as f p records old out new set i r was inside at passes is =
+    let done = filter p (picked records (take i set)) in
+    let more : done ++ r ∷ [] ≡ filter p (picked records (take (i + 1) set)) = takes p records [] done (done ++ r ∷ []) set i r refl inside at passes refl in
+    is ∙ ap (λ (rs : List RecordData). rs ++ f r ∷ []) was ∙ append_assoc old (map f done) (f r ∷ []) ∙ ap (λ (rs : List RecordData). old ++ rs) (sym (map-append f done (r ∷ [])))
+    ∙ ap (λ (rs : List RecordData). old ++ map f rs) more
+
+pub leaves_as : (f : RecordData → RecordData) (p : RecordData → Bool) (records old out : List RecordData) (set : List ℕ) (i : ℕ) (r : RecordData)
+    → out ≡ old ++ map f (filter p (picked records (take i set))) → i < length set → slice_get records (get_or set i 0) ≡ Some r → p r ≡ false
+    → out ≡ old ++ map f (filter p (picked records (take (i + 1) set)))
+leaves_as f p records old out set i r was inside at fails =
+    was ∙ ap (λ (rs : List RecordData). old ++ map f rs) (leaves p records [] (filter p (picked records (take i set))) set i r refl inside at fails)
+
+pub leaves_none_as : (f : RecordData → RecordData) (p : RecordData → Bool) (records old out : List RecordData) (set : List ℕ) (i : ℕ)
+    → out ≡ old ++ map f (filter p (picked records (take i set))) → i < length set → slice_get records (get_or set i 0) ≡ None
+    → out ≡ old ++ map f (filter p (picked records (take (i + 1) set)))
+leaves_none_as f p records old out set i was inside at =
+    was ∙ ap (λ (rs : List RecordData). old ++ map f rs) (leaves_none p records [] (filter p (picked records (take i set))) set i refl inside at)
+
+pub takes_none_as : (f : RecordData → RecordData) (p : RecordData → Bool) (records old : List RecordData) → old ≡ old ++ map f (filter p (picked records []))
+takes_none_as f p records old = sym (append-nil old) ∙ ap (λ (rs : List RecordData). old ++ map f (filter p rs)) (sym (picked_none records))

@@ -1,15 +1,17 @@
-ghost use Rattle.std.specs.Prelude.{◌≡◌, ◌++◌, [], Some, None, length, slice_get};
-ghost use Rattle.std.specs.Prelude.{IfSome, IfNone, IfOk, OnOk, OnErr};
+ghost use Rattle.std.specs.Prelude.{◌≡◌, ◌++◌, [], ◌∷◌, Some, None, length, slice_get};
+ghost use Rattle.std.specs.Prelude.{IfSome, IfNone, IfOk, OnOk, OnErr, map};
+ghost use Rattle.dns_data.specs.declared.kind.TheConstants as kinds;
 ghost use Rattle.std.specs.List.{filter, list_any};
 ghost use Rattle.zone_lookup.specs.Zone.{by_type, Begins};
+ghost use Rattle.zone_lookup.specs.ZoneAnswer.{denying, with_owner};
 ghost use Rattle.zone_tree.specs.Sets.{is_asked, is_kind, picked, set_in};
 ghost use Rattle.zone_tree.specs.Tree.{AreEmpty, AreSets};
 
 use crate::node::Numbers;
-use dns_data::{Copies, NoMemory, Record, Records, kind};
+use dns_data::{Copies, Name, NoMemory, Record, RecordRoom, kind};
 use name_table::NameTable;
 use std::alloc::Global;
-use zone_lookup::type_of;
+use zone_lookup::{push_one_denying, push_owned, type_of};
 
 /// The numbers of the records of each name, in the zone's order.
 pub fn sets_of(
@@ -88,7 +90,7 @@ pub fn copy_asked(
     records: &[Record],
     set: &[usize],
     kind: u16,
-    out: &mut Records,
+    out: &mut RecordRoom,
 ) -> Result<(), NoMemory>
     ensures ok { OnOk result (out.new ≡ out.old ++ set_in (picked records.now set.now) kind) }
     ensures err { OnErr result (Begins out.old out.new) }
@@ -105,7 +107,7 @@ pub fn copy_kind(
     records: &[Record],
     set: &[usize],
     kind: u16,
-    out: &mut Records,
+    out: &mut RecordRoom,
 ) -> Result<(), NoMemory>
     ensures ok { OnOk result
         (out.new ≡ out.old ++ filter (is_kind kind) (picked records.now set.now)) }
@@ -114,7 +116,88 @@ pub fn copy_kind(
     for number in set {
         if let Some(record) = record_at(records, *number) {
             if is_kind(record, kind) {
-                out.push(record.copy(alloc)?)?;
+                out.push(alloc, record)?;
+            }
+        }
+    }
+    Ok(())
+}
+
+/// Appends the same with another owner.
+pub fn copy_owned(
+    alloc: Global,
+    records: &[Record],
+    set: &[usize],
+    kind: u16,
+    name: &Name,
+    out: &mut RecordRoom,
+) -> Result<(), NoMemory>
+    ensures { OnOk result (out.new ≡ out.old
+        ++ map (with_owner name.now) (set_in (picked records.now set.now) kind)) }
+{
+    if kind == kind::ANY {
+        return copy_all_owned(alloc, records, set, name, out);
+    }
+    copy_kind_owned(alloc, records, set, kind, name, out)
+}
+
+fn copy_all_owned(
+    alloc: Global,
+    records: &[Record],
+    set: &[usize],
+    name: &Name,
+    out: &mut RecordRoom,
+) -> Result<(), NoMemory>
+    ensures { OnOk result (out.new ≡ out.old
+        ++ map (with_owner name.now) (by_type [] (picked records.now set.now))) }
+{
+    let mut all = copies(alloc, records, set)?;
+    sort_by_type(&mut all)?;
+    push_owned(alloc, all.as_slice(), name, out)
+}
+
+fn copy_kind_owned(
+    alloc: Global,
+    records: &[Record],
+    set: &[usize],
+    kind: u16,
+    name: &Name,
+    out: &mut RecordRoom,
+) -> Result<(), NoMemory>
+    ensures { OnOk result (out.new ≡ out.old
+        ++ map (with_owner name.now) (filter (is_kind kind) (picked records.now set.now))) }
+{
+    for number in set {
+        if let Some(record) = record_at(records, *number) {
+            if is_kind(record, kind) {
+                push_as(alloc, record, name, out)?;
+            }
+        }
+    }
+    Ok(())
+}
+
+fn push_as(alloc: Global, entry: &Record, name: &Name, out: &mut RecordRoom) -> Result<(), NoMemory>
+    ensures { OnOk result (out.new ≡ out.old ++ with_owner name.now entry.now ∷ []) }
+{
+    let ttl = entry.ttl;
+    out.push_copy(alloc, name, ttl, entry)
+}
+
+/// Appends the SOA records, with the TTL of a denial.
+pub fn copy_denying(
+    alloc: Global,
+    records: &[Record],
+    set: &[usize],
+    out: &mut RecordRoom,
+) -> Result<(), NoMemory>
+    ensures { OnOk result (out.new ≡ out.old
+        ++ map denying (filter (is_kind kinds.SOA) (picked records.now set.now))) }
+{
+    for number in set {
+        if let Some(record) = record_at(records, *number) {
+            if is_kind(record, kind::SOA) {
+                push_one_denying(alloc, record, out)?;
             }
         }
     }
@@ -125,7 +208,7 @@ fn copy_all(
     alloc: Global,
     records: &[Record],
     set: &[usize],
-    out: &mut Records,
+    out: &mut RecordRoom,
 ) -> Result<(), NoMemory>
     ensures ok { OnOk result (out.new ≡ out.old ++ by_type [] (picked records.now set.now)) }
     ensures err { OnErr result (Begins out.old out.new) }
@@ -155,12 +238,12 @@ fn sort_by_type(all: &mut Vec<Record>) -> Result<(), NoMemory>
     Ok(())
 }
 
-fn append(alloc: Global, records: &[Record], out: &mut Records) -> Result<(), NoMemory>
+fn append(alloc: Global, records: &[Record], out: &mut RecordRoom) -> Result<(), NoMemory>
     ensures ok { OnOk result (out.new ≡ out.old ++ records.now) }
     ensures err { OnErr result (Begins out.old out.new) }
 {
     for record in records {
-        out.push(record.copy(alloc)?)?;
+        out.push(alloc, record)?;
     }
     Ok(())
 }

@@ -1,6 +1,6 @@
-use crate::sets::{copy_asked, copy_kind, has_asked};
+use crate::sets::{copy_asked, copy_denying, copy_kind, has_asked};
 use crate::tree::TreeZone;
-use dns_data::{Name, NoMemory, Records, kind};
+use dns_data::{Name, NoMemory, RecordRoom, kind};
 use std::alloc::Global;
 use zone_lookup::{Find, Step, ZoneStore, nothing};
 
@@ -34,7 +34,7 @@ impl ZoneStore for TreeZone {
         alloc: Global,
         name: &Name,
         kind: u16,
-        out: &mut Records,
+        out: &mut RecordRoom,
     ) -> Result<(), NoMemory> {
         let tree = &self.tree;
         let Some(number) = tree.table.find(&name.labels()) else {
@@ -68,7 +68,7 @@ impl ZoneStore for TreeZone {
         alloc: Global,
         name: &Name,
         kind: u16,
-        out: &mut Records,
+        out: &mut RecordRoom,
     ) -> Result<Find, NoMemory> {
         let Some(encloser) = self.tree.table.find_longest(name) else {
             return Ok(nothing());
@@ -76,12 +76,21 @@ impl ZoneStore for TreeZone {
         self.tree.find(alloc, name, encloser, kind, out)
     }
 
+    fn copy_denial(&self, alloc: Global, out: &mut RecordRoom) -> Result<(), NoMemory> {
+        let tree = &self.tree;
+        let Some(number) = tree.table.find(&tree.zone.origin.labels()) else {
+            return Ok(());
+        };
+        let records = tree.zone.records.as_slice();
+        copy_denying(alloc, records, tree.sets[number].as_slice(), out)
+    }
+
     fn step(
         &self,
         alloc: Global,
         name: &Name,
         kind: u16,
-        out: &mut Records,
+        out: &mut RecordRoom,
     ) -> Result<Step, NoMemory> {
         let tree = &self.tree;
         let Some(encloser) = tree.table.find_longest(name) else {

@@ -1,10 +1,11 @@
-use Rattle.std.proofs.Common.{◌++◌, ◌∙◌, ap, subst, arith, map, []}
+use Rattle.std.proofs.Common.{◌∙◌, subst, arith}
 use Rattle.std.specs.Prelude.{IfOk}
-use Rattle.zone_lookup.specs.ZoneAnswer.{Finds, with_owner}
+use Rattle.std.proofs.lemmas.Result.{IfOk-weaker}
+use Rattle.zone_lookup.specs.ZoneAnswer.{Finds, owned_by}
 use Rattle.zone_tree.specs.Sets.{found_in, picked}
 use Rattle.zone_tree.specs.Tree.{star_at}
 use Rattle.zone_tree.proofs.Shapes.{inside}
-use Rattle.zone_tree.proofs.Cutting.{finds_itself, finds_no_star, finds_star, star_number, longest_inside}
+use Rattle.zone_tree.proofs.Cutting.{finds_itself, finds_no_star, finds_star_as, star_number, longest_inside}
 use Rattle.std.proofs.Common.{drop}
 use Rattle.zone_tree.proofs.tree.Tree.find.Goals as goal
 
@@ -31,7 +32,8 @@ index-requires-3 c =
 pub returns : goal.returns
 returns c =
     let star = star_number c.args.self.now c.args.name.now c.args.encloser c.index-2.result.now c.in-Some.star c.requires.tree c.requires.longest c.index-2.ensures c.in-Some.is in
-    let some = rw c.new-wild.ensures at c.in_ok-find.ensures in
-    let here = subst (λ f. Finds f c.in_ok-find.find [] c.find_in-2.new.out) (λ j. found_in (picked (c.as_slice-records.ensures j) (c.as_slice.ensures j)) c.args.kind) some in
-    finds_star c.args.self.now c.args.name.now c.args.kind c.args.encloser c.in-Some.star c.index-3.result.now c.in_ok-find.find c.args.out.now c.push_owned.new.out c.find_in-2.new.out c.requires.tree c.requires.longest
-    c.if-encloser-eq0.false star c.index-3.ensures here (c.in_ok-push_owned.ensures ∙ ap (λ rs. c.args.out.now ++ map (with_owner c.args.name.now) rs) c.as_slice-2.ensures)
+    let here = subst (λ f. IfOk c.find_owned.result (λ find. Finds f find c.args.out.now c.find_owned.new.out))
+    (λ j. owned_by c.args.name.now (found_in (picked (c.as_slice-records.ensures j) (c.as_slice.ensures j)) c.args.kind)) c.find_owned.ensures in
+    IfOk-weaker c.find_owned.result _ _
+    (λ find f. finds_star_as c.args.self.now c.args.name.now c.args.kind c.args.encloser c.in-Some.star c.index-3.result.now find c.args.out.now c.find_owned.new.out c.requires.tree c.requires.longest c.if-encloser-eq0.false star c.index-3.ensures f)
+    here

@@ -12,6 +12,16 @@ use crate::table::{ENDED, FRONT, PinTable, SERIAL, SLOT_UNIT};
 use crate::tagged::Tagged;
 use pin_core::{MOST_PINS, WORKERS};
 
+impl<C> Pass<C> {
+    /// How many generations it knows to be published: behind a pin one more than its serial.
+    #[inline]
+    pub fn seen(&self) -> u64
+        ensures { result ≡ (pass_of self.now).seen }
+    {
+        self.seen
+    }
+}
+
 impl<C> PinTable<C> {
     /// Pins the current generation, and gives this worker's chain of it.
     pub fn pin(&self, pass: &mut Pass<C>) -> Pin<C>

@@ -114,8 +114,8 @@ pub(crate) fn snippet_of<'a>(snippets: &'a [Snippet], name: &[u8]) -> Option<&'a
     None
 }
 
-// The bytes of the file of a name.
-fn file_of<'a>(files: &'a [FileText], name: &str) -> Option<&'a [u8]>
+/// The bytes of the file of a name, where it isn't missing.
+pub fn file_of<'a>(files: &'a [FileText], name: &str) -> Option<&'a [u8]>
     requires { All HasShortBytes files.now }
     ensures value { option_map (λ bytes. bytes.now) result ≡ file_of name.now files.now }
     ensures short { IfSome result (λ bytes. length bytes.now < 2 ^ 32) }

@@ -25,5 +25,6 @@ pub use dns_data::{
     Lines, Texts,
 };
 pub use fault::{BlockWhy, CorefileFault};
+pub use import::file_of;
 pub use port_list::ports;
 pub use reading::{read_blocks, wants};

@@ -1,0 +1,87 @@
+-- The zones of `file` directives, and which of them answers (RFC 1034, section 4.3.2). The choice is
+-- this server's own rule, in the manner of CoreDNS.
+use Rattle.std.specs.Prelude.{◌≡◌, ℕ, nat_lt, List, [], ◌∷◌, ◌++◌, length}
+use Rattle.std.specs.Prelude.{Option, Some, None, unwrap_or, Result, Ok, Err, if◌then◌else◌}
+use Rattle.dns_data.specs.{is_within}
+use Rattle.dns_data.specs.Message.{AnswerData, no_answer}
+use Rattle.dns_data.specs.declared.directive.Directive.{Directive}
+use Rattle.dns_data.specs.declared.query.Query.{Query}
+use Rattle.dns_data.specs.declared.zone.Zone.{Zone}
+use Rattle.zone_file.specs.declared.fault.ZoneFault.{ZoneFault}
+use Rattle.zone_file.specs.Zones.{and_then, as_zone, zone_of}
+use Rattle.zone_lookup.specs.{zone_answer}
+use Rattle.zone_words.specs.{zones_or}
+use Rattle.file_plugin.specs.declared.choice.FileSay.{FileSay}
+use Rattle.file_plugin.specs.declared.choice.FileSay.TheVariants as say
+
+-- what a plan was read from: the directive, the zones of its block, and the bytes of its file
+pub record FileData : Type 0 where
+  pub directive : Directive
+  pub zones : List (List (List ℕ))
+  pub text : List ℕ
+
+-- the zones that the words behind the file name, or else those of the block
+abbrev pub origins_or : List (List (List ℕ)) → List (List ℕ) → Option (List (List (List ℕ)))
+origins_or zones [] = None
+origins_or zones (file ∷ words) = zones_or zones words
+
+abbrev pub origins_of : List (List (List ℕ)) → List (List ℕ) → List (List (List ℕ))
+origins_of zones words = unwrap_or (origins_or zones words) []
+
+-- the zone of an origin that a text spells, or its first refusal
+abbrev pub read_from : List ℕ → List (List ℕ) → Result Zone ZoneFault
+read_from text origin = as_zone origin (zone_of text origin)
+
+-- zones, and behind them that of each further origin, read from the text in turn, or the first
+-- refusal
+abbrev pub zones_from : List ℕ → List Zone → List (List (List ℕ)) → Result (List Zone) ZoneFault
+zones_from text before [] = Ok before
+zones_from text before (origin ∷ origins) =
+    and_then (λ zone. zones_from text (before ++ zone ∷ []) origins) (read_from text origin)
+
+-- the zones, where none was refused
+abbrev pub read_well : Result (List Zone) ZoneFault → List Zone
+read_well (Ok zones) = zones
+read_well (Err refused) = []
+
+-- the zones of a plan
+unfoldable pub file_zones : FileData → List Zone
+file_zones plan =
+    read_well (zones_from plan.text [] (origins_of plan.zones plan.directive.args))
+
+-- the zone with the longer origin; the one before, where they are as long
+abbrev pub longer_of : Option Zone → Zone → Zone
+longer_of None zone = zone
+longer_of (Some before) zone =
+    if nat_lt (length before.origin) (length zone.origin) then zone else before
+
+-- the same, where the name is within the zone
+abbrev pub longer_for : List (List ℕ) → Option Zone → Zone → Option Zone
+longer_for name before zone =
+    if is_within name zone.origin then Some (longer_of before zone) else before
+
+-- the zone with the longest origin that has the name, of one that stands before and of these
+abbrev pub longest : List (List ℕ) → Option Zone → List Zone → Option Zone
+longest name before [] = before
+longest name before (zone ∷ zones) = longest name (longer_for name before zone) zones
+
+-- the same of the zones of plans
+abbrev pub longest_of : List (List ℕ) → Option Zone → List FileData → Option Zone
+longest_of name before [] = before
+longest_of name before (plan ∷ plans) =
+    longest_of name (longest name before (file_zones plan)) plans
+
+-- the answer of a zone
+abbrev pub answer_from : Query → Option Zone → Option AnswerData
+answer_from q None = None
+answer_from q (Some zone) = Some (zone_answer zone q.name q.kind)
+
+-- what the plans of a block say of a query: the answer of the zone with the longest origin that has
+-- the name; where none has, the query goes on
+unfoldable pub file_say : List FileData → Query → Option AnswerData
+file_say plans q = answer_from q (longest_of q.name None plans)
+
+-- what was said, with the answer in a slot
+abbrev pub Says : FileSay → Option AnswerData → AnswerData → Type 0
+Says say.Reply said slot = said ≡ Some slot
+Says say.Next said slot = (said ≡ None) × (slot ≡ no_answer)

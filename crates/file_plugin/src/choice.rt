@@ -1,0 +1,96 @@
+ghost use Rattle.std.specs.Prelude.{◌≡◌, None, option_map, IfOk};
+ghost use Rattle.std.specs.List.{flat_map};
+ghost use Rattle.dns_data.specs.Message.{no_answer};
+ghost use Rattle.file_plugin.specs.Choosing.{Picks};
+ghost use Rattle.file_plugin.specs.Zones.{Says, file_say, longer_for, longer_of, longest};
+ghost use Rattle.file_plugin.specs.Zones.{file_zones, longest_of};
+
+use crate::plan::FilePlan;
+use dns_data::{Name, NoMemory, Query, Slot};
+use std::alloc::Global;
+use zone_lookup::{ZoneStore, lookup};
+use zone_tree::TreeZone;
+use zone_words::covers;
+
+/// What `file` says of a query: it is answered, or it goes on.
+#[derive(Clone, Copy, Debug, PartialEq, Eq)]
+pub enum FileSay {
+    Reply,
+    Next,
+}
+
+/// What the plans of a block say of a query: the zone with the longest origin that has the name fills
+/// the slot with its answer. Where none has, the query goes on.
+#[tactic(auto, unfolding(crate::specs::Zones::file_say))]
+pub fn decide(
+    alloc: Global,
+    plans: &[FilePlan],
+    query: &Query,
+    slot: &mut Slot,
+) -> Result<FileSay, NoMemory>
+    requires clear { slot.old ≡ no_answer }
+    ensures { IfOk result (λ say. Says say (file_say plans.now query.now) slot.new) }
+{
+    let Some(zone) = zone_for(plans, &query.name) else {
+        return Ok(FileSay::Next);
+    };
+    lookup(alloc, zone, &query.name, query.kind, slot)?;
+    Ok(FileSay::Reply)
+}
+
+/// The zone with the longest origin that has the name, over all zones of these plans.
+
+pub fn zone_for<'a>(plans: &'a [FilePlan], name: &Name) -> Option<&'a TreeZone>
+    ensures value { option_map (λ zone. zone.now) result ≡ longest_of name.now None plans.now }
+    ensures picks { Picks name.now (flat_map file_zones plans.now)
+        (option_map (λ zone. zone.now) result) }
+{
+    let mut best = None;
+    for plan in plans {
+        best = longest(plan.zones(), name, best);
+    }
+    best
+}
+
+// The same of one that stands before and of these zones.
+fn longest<'a>(
+    zones: &'a [TreeZone],
+    name: &Name,
+    before: Option<&'a TreeZone>,
+) -> Option<&'a TreeZone>
+    ensures { option_map (λ zone. zone.now) result
+        ≡ longest name.now (option_map (λ zone. zone.now) before.entry) zones.now }
+{
+    let mut best = before;
+    for zone in zones {
+        best = longer_for(name, best, zone);
+    }
+    best
+}
+
+// The zone with the longer origin, where the name is within it.
+fn longer_for<'a>(
+    name: &Name,
+    before: Option<&'a TreeZone>,
+    zone: &'a TreeZone,
+) -> Option<&'a TreeZone>
+    ensures { option_map (λ zone. zone.now) result
+        ≡ longer_for name.now (option_map (λ zone. zone.now) before.entry) zone.now }
+{
+    if covers(zone.origin(), name) {
+        return Some(longer_of(before, zone));
+    }
+    before
+}
+
+fn longer_of<'a>(before: Option<&'a TreeZone>, zone: &'a TreeZone) -> &'a TreeZone
+    ensures { result.now ≡ longer_of (option_map (λ zone. zone.now) before.entry) zone.now }
+{
+    let Some(before) = before else {
+        return zone;
+    };
+    if before.origin().label_count() < zone.origin().label_count() {
+        return zone;
+    }
+    before
+}

@@ -1,0 +1,13 @@
+//! The plugin `file`: zones from zone files, which answer with authority.
+#![tactic(auto)]
+
+mod choice;
+mod fault;
+mod plan;
+mod reading;
+#[cfg(test)]
+mod tests;
+
+pub use choice::{FileSay, decide, zone_for};
+pub use fault::FileFault;
+pub use plan::FilePlan;

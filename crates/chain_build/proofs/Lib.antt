@@ -1,2 +1,3 @@
+pub mod BlockReading
 pub mod Served
 pub mod Walks

@@ -1,25 +1,25 @@
 -- Which chain a query goes through, and what serving took.
-use Rattle.std.proofs.Common.{◌≡◌, ◌≤◌, ◌<◌, ℕ, ◌+◌, List, [], ◌∷◌, ◌++◌, map, length, Option, Some, None, option_map, slice_get, Ok, refl, sym, ap, subst, ◌∙◌, arith}
+use Rattle.std.proofs.Common.{◌≡◌, ◌<◌, ℕ, ◌+◌, List, [], ◌∷◌, map, length, Option, Some, None, option_map, slice_get, Ok, refl, sym, ap, subst, ◌∙◌, arith}
 use Rattle.std.proofs.lemmas.List.{append-nil, length-map}
 use Rattle.std.proofs.Common.{length-append}
 use Rattle.std.proofs.lemmas.Option.{slice_get-map}
 use Rattle.dns_data.specs.declared.block.Block.{Block}
+use Rattle.dns_data.specs.declared.file.FileText.{FileText}
 use Rattle.dns_data.specs.declared.query.Query.{Query}
 use Rattle.outside.specs.Meanings.{Meaning, Done, Starved, Took}
 use Rattle.outside.specs.declared.mark.Mark.{Mark}
-use Rattle.chain_meaning.specs.declared.decision.Decision.{Decision}
 use Rattle.chain_meaning.specs.Mean.{mean}
 use Rattle.chain_meaning.specs.Serving.{block_decides, chain_decides, refused}
 use Rattle.chain_meaning.specs.Steps.{Step, steps_of}
-use Rattle.chain_build.specs.Chains.{steps_in}
+use Rattle.chain_build.specs.Plans.{steps_in}
 use Rattle.chain_build.specs.Compiled.{back_of, front_of, whole}
 use Rattle.chain_build.specs.declared.back.BackAnswerer.{BackAnswerer}
 use Rattle.chain_build.specs.declared.compiling.BlockChain.{BlockChain}
 use Rattle.chain_build.specs.declared.front.FrontStep.{FrontStep}
 
-pub by_number : (chains : List BlockChain) (blocks : List Block) (n : ℕ) → map steps_in chains ≡ map steps_of blocks
-    → option_map steps_in (slice_get chains n) ≡ option_map steps_of (slice_get blocks n)
-by_number chains blocks n e = sym (slice_get-map steps_in chains n) ∙ ap (λ l. slice_get l n) e ∙ slice_get-map steps_of blocks n
+pub by_number : (files : List FileText) (chains : List BlockChain) (blocks : List Block) (n : ℕ) → map steps_in chains ≡ map (steps_of files) blocks
+    → option_map steps_in (slice_get chains n) ≡ option_map (steps_of files) (slice_get blocks n)
+by_number files chains blocks n e = sym (slice_get-map steps_in chains n) ∙ ap (λ l. slice_get l n) e ∙ slice_get-map (steps_of files) blocks n
 
 -- a chain that has steps means what they mean
 some_steps : (steps : List Step) (q : Query) → 0 < length steps → (marks : List Mark) → chain_decides steps q marks ≡ mean steps q marks
@@ -31,13 +31,14 @@ runs front back q h =
     some_steps (whole front back) q (omega (arith, h, length-append (map front_of front) (map back_of back), length-map front front_of, length-map back back_of))
 
 -- the block of a chain that was found, and that there is none where none was
-pub block_some : (o : Option Block) (steps : List Step) (q : Query) → Some steps ≡ option_map steps_of o → (marks : List Mark) → block_decides o q marks ≡ chain_decides steps q marks
-block_some None steps q e marks = absurd cc
-block_some (Some block) steps q e marks = let same : steps ≡ steps_of block = cc in ap (λ s. chain_decides s q marks) (sym same)
+pub block_some : (files : List FileText) (o : Option Block) (steps : List Step) (q : Query) → Some steps ≡ option_map (steps_of files) o → (marks : List Mark)
+    → block_decides files o q marks ≡ chain_decides steps q marks
+block_some files None steps q e marks = absurd cc
+block_some files (Some block) steps q e marks = let same : steps ≡ steps_of files block = cc in ap (λ s. chain_decides s q marks) (sym same)
 
-pub block_none : (o : Option Block) (q : Query) → None ≡ option_map steps_of o → (marks : List Mark) → block_decides o q marks ≡ Done refused marks
-block_none None q e marks = refl
-block_none (Some block) q e marks = absurd cc
+pub block_none : (files : List FileText) (o : Option Block) (q : Query) → None ≡ option_map (steps_of files) o → (marks : List Mark) → block_decides files o q marks ≡ Done refused marks
+block_none files None q e marks = refl
+block_none files (Some block) q e marks = absurd cc
 
 -- an answer took all of its marks
 pub starved_after : {A : Type 0} (means : List Mark → Meaning A) (v : A) (marks : List Mark) → Took means (Ok v) marks → Starved (means marks)

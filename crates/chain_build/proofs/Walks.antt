@@ -1,5 +1,5 @@
 -- What a walk took: one lemma for each way on.
-use Rattle.std.proofs.Common.{◌≡◌, List, [], ◌∷◌, map, length, Option, Some, None, Result, Ok, Err, refl, sym, ap, subst, ◌∙◌, arith}
+use Rattle.std.proofs.Common.{◌≡◌, List, [], ◌∷◌, map, length, Option, Some, None, Result, Ok, Err, refl, ap, subst, ◌∙◌, arith}
 use Rattle.std.specs.Prelude.{IsErr}
 use Rattle.dns_lists.specs.declared.memory.NoMemory.{NoMemory}
 use Rattle.dns_data.specs.Message.{AnswerData}
@@ -18,7 +18,7 @@ use Rattle.chain_meaning.specs.declared.decision.Decision.{Decision}
 use Rattle.chain_meaning.specs.declared.decision.Decision.TheVariants as decision
 use Rattle.chain_meaning.specs.Mean.{answer_of, error_noted, mean, or_rest, query_noted, rule}
 use Rattle.chain_meaning.specs.MeanLaws.{mean-end, mean-step, rule-answers, rule-errors, rule-log}
-use Rattle.chain_meaning.specs.Steps.{Answerer, Step}
+use Rattle.chain_meaning.specs.Steps.{Answerer}
 use Rattle.chain_build.specs.Compiled.{back_answerer, back_of, front_answerer, front_of, whole}
 use Rattle.chain_build.specs.Walking.{Answered, decided, decision_of}
 use Rattle.chain_build.specs.declared.back.BackAnswerer.{BackAnswerer}

@@ -1,4 +1,6 @@
 pub mod Chains
+pub mod Plans
+pub mod Workers
 pub mod Compiled
 pub mod Places
 pub mod PlacesLaws
@@ -6,5 +8,7 @@ pub mod Reading
 pub mod Replying
 pub mod Walking
 -- what public clauses cite
-pub use Rattle.chain_build.specs.Chains.{IsChain, IsMade, MakesChain}
+pub use Rattle.chain_build.specs.Chains.{IsMade, MakesPlans}
+pub use Rattle.chain_build.specs.Plans.{ArePlans, PlansData}
+pub use Rattle.chain_build.specs.Workers.{chain_identity, chain_log, plans_of}
 pub use Rattle.chain_build.specs.Replying.{TellsServing}

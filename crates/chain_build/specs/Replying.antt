@@ -1,6 +1,5 @@
 -- What the parts of serving do.
-use Rattle.std.specs.Prelude.{◌≡◌, ℕ, List, Bool, true, false}
-use Rattle.dns_data.specs.Message.{AnswerData}
+use Rattle.std.specs.Prelude.{ℕ, List}
 use Rattle.outside.specs.Marks.{Adds}
 use Rattle.outside.specs.States.{SideState, Stays}
 use Rattle.outside.specs.declared.mark.Mark.{Mark}

@@ -6,7 +6,8 @@ ghost use Rattle.chain_build.specs.Compiled.{back_answerer, back_of};
 ghost use Rattle.chain_build.specs.Walking.{Answered, decided};
 
 use crate::ended::Ended;
-use dns_data::{NoMemory, Query, Slot};
+use dns_data::{NoMemory, Query, Seq, Slot};
+use file_plugin::{FilePlan, FileSay, decide};
 use outside::{Kept, Side};
 use plain_plugins::whoami_answer;
 use plugin_api::{Cause, Code};
@@ -15,6 +16,7 @@ use std::alloc::Global;
 /// A plugin behind a cache, which answers or goes on, and notes nothing.
 #[derive(Debug, Drop)]
 pub enum BackAnswerer {
+    File(Seq<FilePlan>),
     Whoami,
 }
 
@@ -52,6 +54,10 @@ fn answer(
     ensures { Answered (back_answerer plugin.now) query.now slot.old slot.new result }
 {
     match plugin {
+        BackAnswerer::File(plans) => match decide(alloc, plans.as_slice(), query, slot)? {
+            FileSay::Reply => Ok(Some(Ended::Reply)),
+            FileSay::Next => Ok(None),
+        },
         BackAnswerer::Whoami => {
             whoami_answer(alloc, query, slot)?;
             Ok(Some(Ended::Reply))

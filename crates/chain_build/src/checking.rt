@@ -1,23 +1,25 @@
 ghost use Rattle.std.specs.Prelude.{◌≡◌, None, Some, Ok, Err, IfOk};
+ghost use Rattle.std.specs.List.{All};
 ghost use Rattle.corefile_blocks.specs.{IsReadable, ReadsBlocks};
-ghost use Rattle.chain_meaning.specs.Accepting.{IsAccepted, bundle_says};
-ghost use Rattle.chain_build.specs.Chains.{MakesBlock, MakesBlocks, MakesChain};
+ghost use Rattle.corefile_blocks.specs.Readable.{HasShortBytes};
+ghost use Rattle.chain_meaning.specs.Accepting.{bundle_says};
+ghost use Rattle.chain_build.specs.Chains.{MakesBlock, MakesBlocks, MakesPlans};
 
-use crate::chain::Chain;
 use crate::compiling::{BlockChain, compile};
 use crate::fault::CheckFault;
 use crate::places::read_block;
+use crate::plans::Plans;
 use chain_meaning::Refusal;
 use corefile_blocks::{Bundle, CorefileFault, ports, read_blocks};
-use dns_data::{Block, Seq};
+use dns_data::{Block, FileText, Seq};
 use plugin_api::BlockIndex;
 use std::alloc::Global;
 
-/// The chains of a bundle, or its first refusal.
+/// What a bundle serves by, or its first refusal.
 #[tactic(auto, unfolding(chain_meaning::specs::Accepting::bundle_says))]
-pub fn check(alloc: Global, bundle: Bundle, default_port: u16) -> Result<Chain, CheckFault>
+pub fn check(alloc: Global, bundle: Bundle, default_port: u16) -> Result<Plans, CheckFault>
     requires { IsReadable bundle }
-    ensures { MakesChain bundle default_port result }
+    ensures { MakesPlans bundle default_port result }
 {
     let blocks = match read_blocks(alloc, &bundle, default_port) {
         Ok(blocks) => blocks,
@@ -30,10 +32,10 @@ pub fn check(alloc: Global, bundle: Bundle, default_port: u16) -> Result<Chain, 
     if u32::MAX as usize <= blocks.len() {
         return Err(CheckFault::NoMemory);
     }
-    let chains = block_chains(alloc, blocks.as_slice())?;
+    let chains = block_chains(alloc, bundle.files.as_slice(), blocks.as_slice())?;
     let index = BlockIndex::new(alloc, &blocks)?;
     let ports = Seq::of(ports(alloc, &blocks)?);
-    Ok(Chain {
+    Ok(Plans {
         bundle,
         default_port,
         blocks,
@@ -43,23 +45,29 @@ pub fn check(alloc: Global, bundle: Bundle, default_port: u16) -> Result<Chain, 
     })
 }
 
-// The chains of blocks.
-fn block_chains(alloc: Global, blocks: &[Block]) -> Result<Seq<BlockChain>, CheckFault>
-    ensures { MakesBlocks blocks.now result }
+// The chains of blocks in a bundle with these files.
+fn block_chains(
+    alloc: Global,
+    files: &[FileText],
+    blocks: &[Block],
+) -> Result<Seq<BlockChain>, CheckFault>
+    requires { All HasShortBytes files.now }
+    ensures { MakesBlocks files.now blocks.now result }
 {
     let mut chains = Seq::with_capacity(alloc, blocks.len())?;
     let mut rest = blocks;
     while let Some((block, behind)) = rest.split_first() {
-        chains.push(block_chain(alloc, block)?)?;
+        chains.push(block_chain(alloc, files, block)?)?;
         rest = behind;
     }
     Ok(chains)
 }
 
 // The chain of a block.
-fn block_chain(alloc: Global, block: &Block) -> Result<BlockChain, CheckFault>
-    ensures { MakesBlock block.now result }
+fn block_chain(alloc: Global, files: &[FileText], block: &Block) -> Result<BlockChain, CheckFault>
+    requires { All HasShortBytes files.now }
+    ensures { MakesBlock files.now block.now result }
 {
-    let places = read_block(alloc, block)?;
+    let places = read_block(alloc, files, block)?;
     Ok(compile(alloc, places)?)
 }

@@ -1,7 +1,7 @@
 ghost use Rattle.std.specs.Prelude.{◌≡◌, ◌++◌, map, IfOk, OnOk};
 ghost use Rattle.plugin_api.specs.{PlanData};
 ghost use Rattle.chain_meaning.specs.Steps.{acl_steps, any_steps, error_steps, log_steps};
-ghost use Rattle.chain_meaning.specs.Steps.{whoami_steps};
+ghost use Rattle.chain_meaning.specs.Steps.{file_steps, whoami_steps};
 ghost use Rattle.chain_build.specs.Compiled.{back_of, front_of};
 ghost use Rattle.chain_build.specs.Places.{back_in, front_in};
 
@@ -10,6 +10,7 @@ use crate::front::{FrontAnswerer, FrontStep};
 use crate::places::Places;
 use acl_plugin::AclPlan;
 use dns_data::{NoMemory, Seq};
+use file_plugin::FilePlan;
 use plain_plugins::PlainPlan;
 use std::alloc::Global;
 
@@ -30,6 +31,7 @@ pub fn compile(alloc: Global, places: Places) -> Result<BlockChain, NoMemory>
         logs,
         acls,
         any,
+        files,
         whoami,
     } = places;
     let mut front = Seq::new(alloc);
@@ -38,6 +40,7 @@ pub fn compile(alloc: Global, places: Places) -> Result<BlockChain, NoMemory>
     push_acls(&mut front, acls)?;
     push_any(&mut front, any)?;
     let mut back = Seq::new(alloc);
+    push_files(&mut back, files)?;
     push_whoami(&mut back, whoami)?;
     Ok(BlockChain { front, back })
 }
@@ -79,6 +82,15 @@ fn push_any(steps: &mut Seq<FrontStep>, any: bool) -> Result<(), NoMemory>
 {
     if any {
         return steps.push(FrontStep::Answers(FrontAnswerer::Any));
+    }
+    Ok(())
+}
+
+fn push_files(steps: &mut Seq<BackAnswerer>, files: Seq<FilePlan>) -> Result<(), NoMemory>
+    ensures { OnOk result (map back_of steps.new ≡ map back_of steps.old ++ file_steps files) }
+{
+    if files.len() > 0 {
+        return steps.push(BackAnswerer::File(files));
     }
     Ok(())
 }

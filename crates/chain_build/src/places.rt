@@ -1,17 +1,22 @@
 ghost use Rattle.std.specs.Prelude.{◌≡◌, None, Some, true, map, IfOk, OnOk};
 ghost use Rattle.plugin_api.specs.declared.ranks.Rank.TheVariants as rank;
 ghost use Rattle.plain_plugins.specs.{IsPlain};
-ghost use Rattle.chain_meaning.specs.Accepting.{is_built, is_timed, stands_in};
-ghost use Rattle.chain_meaning.specs.Steps.{plan_in};
-ghost use Rattle.chain_build.specs.Places.{ReadsBlock, ReadsMore, no_places, placed_by};
-ghost use Rattle.chain_build.specs.Reading.{ReadsAs, RefusesAs};
+ghost use Rattle.chain_meaning.specs.Accepting.{is_built, stands_in};
+ghost use Rattle.std.specs.List.{All};
+ghost use Rattle.corefile_blocks.specs.Readable.{HasShortBytes};
+ghost use Rattle.chain_meaning.specs.Steps.{file_plans, file_word};
+ghost use Rattle.chain_build.specs.Places.{ReadsBlock, ReadsMore, context_in, no_places};
+ghost use Rattle.chain_build.specs.Places.{placed_plain};
+ghost use Rattle.chain_build.specs.Reading.{ReadsAs, RefusesAs, RefusesFileAs};
 ghost use Rattle.chain_build.specs.declared.fault.CheckFault.TheVariants as fault;
 ghost use Rattle.chain_meaning.specs.declared.refusal.Refusal.TheVariants as refusal;
 
 use crate::fault::CheckFault;
 use acl_plugin::AclPlan;
 use chain_meaning::Refusal;
-use dns_data::{Block, BlockKey, Copies, Directive, Names, NoMemory, Seq, Text};
+use corefile_blocks::file_of;
+use dns_data::{Block, BlockKey, Copies, Directive, FileText, Names, NoMemory, Seq, Text};
+use file_plugin::{FileFault, FilePlan};
 use plain_plugins::PlainPlan;
 use plugin_api::{DirectiveFault, DirectiveWhy, Rank, rank};
 use std::alloc::Global;
@@ -23,6 +28,7 @@ pub struct Places {
     pub logs: Seq<PlainPlan>,
     pub acls: Seq<AclPlan>,
     pub any: bool,
+    pub files: Seq<FilePlan>,
     pub whoami: bool,
 }
 
@@ -35,20 +41,22 @@ impl Places {
             logs: Seq::new(alloc),
             acls: Seq::new(alloc),
             any: false,
+            files: Seq::new(alloc),
             whoami: false,
         }
     }
 }
 
-/// Reads the directives of a block.
-pub fn read_block(alloc: Global, block: &Block) -> Result<Places, CheckFault>
-    ensures { ReadsBlock block.now result }
+/// Reads the directives of a block in a bundle with these files.
+pub fn read_block(alloc: Global, files: &[FileText], block: &Block) -> Result<Places, CheckFault>
+    requires { All HasShortBytes files.now }
+    ensures { ReadsBlock files.now block.now result }
 {
     let zones = key_zones(alloc, block.keys.as_slice())?;
     let all = block.directives.as_slice();
     let mut places = Places::new(alloc);
     for (index, directive) in all.iter().enumerate() {
-        read_more(alloc, &zones, &all[..index], directive, &mut places)?;
+        read_more(alloc, &zones, files, &all[..index], directive, &mut places)?;
     }
     Ok(places)
 }
@@ -70,16 +78,20 @@ fn key_zones(alloc: Global, keys: &[BlockKey]) -> Result<Names, NoMemory>
 fn read_more(
     alloc: Global,
     zones: &Names,
+    files: &[FileText],
     before: &[Directive],
     directive: &Directive,
     places: &mut Places,
 ) -> Result<(), CheckFault>
-    ensures { ReadsMore zones.now before.now directive.now places.old places.new result }
+    requires short { All HasShortBytes files.now }
+    requires plans { places.old.files ≡ file_plans (context_in zones.now files.now) before.now }
+    ensures { ReadsMore (context_in zones.now files.now) before.now directive.now
+        places.old places.new result }
 {
     let Some(rank) = rank(&directive.name) else {
         return Err(unknown(directive));
     };
-    if !is_built(rank) || is_timed(rank, directive.args.as_slice()) {
+    if !is_built(rank) {
         return Err(unknown(directive));
     }
     if rank.is_once() && stands_in(before, &directive.name) {
@@ -88,7 +100,7 @@ fn read_more(
             why: DirectiveWhy::Twice,
         }));
     }
-    read_as(alloc, rank, zones, directive, places)
+    read_as(alloc, rank, zones, files, directive, places)
 }
 
 fn unknown(directive: &Directive) -> CheckFault
@@ -104,16 +116,9 @@ fn is_built(rank: Rank) -> bool
 {
     match rank {
         Rank::Passive | Rank::Reload | Rank::Errors | Rank::Log => true,
-        Rank::Acl | Rank::Any | Rank::Whoami => true,
+        Rank::Acl | Rank::Any | Rank::File | Rank::Whoami => true,
         _ => false,
     }
-}
-
-// Whether it is a `reload` with times of its own.
-fn is_timed(rank: Rank, words: &[Text]) -> bool
-    ensures { result ≡ is_timed rank words.now }
-{
-    rank == Rank::Reload && !words.is_empty()
 }
 
 // Whether one of these directives has the name.
@@ -133,13 +138,17 @@ fn read_as(
     alloc: Global,
     rank: Rank,
     zones: &Names,
+    files: &[FileText],
     directive: &Directive,
     places: &mut Places,
 ) -> Result<(), CheckFault>
-    requires { is_built rank ≡ true }
-    ensures { ReadsAs rank zones.now directive.now places.old places.new result }
+    requires built { is_built rank ≡ true }
+    requires short { All HasShortBytes files.now }
+    ensures { ReadsAs rank (context_in zones.now files.now) directive.now places.old places.new
+        result }
 {
     match rank {
+        Rank::File => read_file(alloc, zones, files, directive, places),
         Rank::Acl => match AclPlan::read(alloc, directive, zones) {
             Ok(plan) => {
                 places.acls.push(plan)?;
@@ -159,6 +168,51 @@ fn read_as(
     }
 }
 
+// Reads a directive `file`.
+fn read_file(
+    alloc: Global,
+    zones: &Names,
+    files: &[FileText],
+    directive: &Directive,
+    places: &mut Places,
+) -> Result<(), CheckFault>
+    requires { All HasShortBytes files.now }
+    ensures { ReadsAs rank.File (context_in zones.now files.now) directive.now places.old
+        places.new result }
+{
+    let file = file_of(files, file_word(directive.args.as_slice()));
+    match FilePlan::read(alloc, directive, zones, places.files.as_slice(), file) {
+        Ok(plan) => {
+            places.files.push(plan)?;
+            Ok(())
+        }
+        Err(fault) => Err(refused_file(fault)),
+    }
+}
+
+// The file that the words of a directive name.
+fn file_word(words: &[Text]) -> &str
+    ensures { result.now ≡ file_word words.now }
+{
+    match words {
+        [] => "",
+        [word, ..] => word.as_str(),
+    }
+}
+
+fn refused_file(fault: FileFault) -> CheckFault
+    ensures { RefusesFileAs fault result }
+{
+    match fault {
+        FileFault::Why { line, why } => CheckFault::Refused(Refusal::Directive { line, why }),
+        FileFault::Zone { line, at, why } => CheckFault::Refused(Refusal::Zone { line, at, why }),
+        FileFault::TooMany { what, number } => {
+            CheckFault::Refused(Refusal::TooMany { what, number })
+        }
+        FileFault::NoMemory => CheckFault::NoMemory,
+    }
+}
+
 fn refused(fault: DirectiveFault) -> CheckFault
     ensures { RefusesAs fault result }
 {
@@ -174,7 +228,7 @@ fn refused(fault: DirectiveFault) -> CheckFault
 // Puts a plan of this rank in its place.
 fn place(rank: Rank, plan: PlainPlan, places: &mut Places) -> Result<(), NoMemory>
     requires { IsPlain rank }
-    ensures { OnOk result (places.new ≡ placed_by (Some rank) plan places.old) }
+    ensures { OnOk result (places.new ≡ placed_plain (Some rank) plan places.old) }
 {
     match rank {
         Rank::Errors => places.errors = true,

@@ -8,7 +8,8 @@ ghost use Rattle.chain_meaning.specs.Serving.{answer_in, block_decides, block_of
 ghost use Rattle.chain_meaning.specs.Serving.{class_decides, query_decides};
 ghost use Rattle.chain_meaning.specs.Steps.{steps_of};
 ghost use Rattle.chain_meaning.specs.declared.decision.Decision.TheVariants as decision;
-ghost use Rattle.chain_build.specs.Chains.{IsChain, steps_in};
+ghost use Rattle.chain_build.specs.Plans.{steps_in};
+ghost use Rattle.chain_build.specs.Workers.{plans_of};
 ghost use Rattle.chain_build.specs.Replying.{TellsServing};
 ghost use Rattle.chain_build.specs.Walking.{decided, decision_of};
 
@@ -19,6 +20,7 @@ use crate::chain::Chain;
 use crate::compiling::BlockChain;
 use crate::ended::Ended;
 use crate::front::run_front;
+use crate::plans::Plans;
 use crate::room::Room;
 use chain_meaning::{Served, Silence, number};
 use dns_data::{NoMemory, Opt, Query, Slot, class, rcode};
@@ -34,12 +36,25 @@ pub fn serve<S: Side>(
     side: &mut S,
     room: &mut Room,
 ) -> Served
-    requires { IsChain chain.now }
-    ensures { TellsServing chain.now.bundle chain.now.default_port datagram.now result
+    ensures { TellsServing (plans_of chain.now).bundle (plans_of chain.now).default_port
+        datagram.now result (S.state side.old) (S.state side.new) }
+{
+    serve_by(alloc, &chain.plans, datagram, side, room)
+}
+
+// Serves one datagram by what was read.
+fn serve_by<S: Side>(
+    alloc: Global,
+    plans: &Plans,
+    datagram: &Datagram,
+    side: &mut S,
+    room: &mut Room,
+) -> Served
+    ensures { TellsServing plans.now.bundle plans.now.default_port datagram.now result
         (S.state side.old) (S.state side.new) }
 {
     match read_asked(alloc, datagram.bytes.as_slice()) {
-        Ok(asked) => reply(alloc, chain, datagram, asked, side, room),
+        Ok(asked) => reply(alloc, plans, datagram, asked, side, room),
         Err(QueryFault::Short) => Served::Silent(Silence::Short),
         Err(QueryFault::Response) => Served::Silent(Silence::Response),
         Err(QueryFault::NotImp(head)) => match header_reply(alloc, head, rcode::NOTIMP) {
@@ -57,21 +72,21 @@ pub fn serve<S: Side>(
 // The reply to what a query asks.
 fn reply<S: Side>(
     alloc: Global,
-    chain: &Chain,
+    plans: &Plans,
     datagram: &Datagram,
     asked: Asked,
     side: &mut S,
     room: &mut Room,
 ) -> Served
-    requires chain { IsChain chain.now }
     requires asks { QueriesThis datagram.now.bytes asked }
-    ensures { TellsServing chain.now.bundle chain.now.default_port datagram.now result
+    ensures { TellsServing plans.now.bundle plans.now.default_port datagram.now result
         (S.state side.old) (S.state side.new) }
 {
+    plans.tell();
     let (id, class, opt) = (asked.id, asked.question.class, asked.opt);
     let limit = limit_of(datagram.by, opt);
     let query = query_of(datagram, asked);
-    let Ok(ended) = decide(alloc, opt, class, chain, &query, side, &mut room.slot) else {
+    let Ok(ended) = decide(alloc, opt, class, plans, &query, side, &mut room.slot) else {
         return Served::NoMemory;
     };
     if !settle(ended, &mut room.slot) {
@@ -116,18 +131,18 @@ fn decide<S: Side>(
     alloc: Global,
     opt: Option<Opt>,
     class: u16,
-    chain: &Chain,
+    plans: &Plans,
     query: &Query,
     side: &mut S,
     slot: &mut Slot,
 ) -> Result<Ended, NoMemory>
-    requires { IsChain chain.now }
-    ensures { Takes (query_decides opt class chain.now.blocks query.now)
+    ensures { Takes
+        (query_decides opt class plans.now.bundle.files plans.now.blocks query.now)
         (decided result slot.new) (S.state side.old) (S.state side.new) }
 {
     slot.clear();
     if is_known_version(opt) {
-        return decide_class(alloc, class, chain, query, side, slot);
+        return decide_class(alloc, class, plans, query, side, slot);
     }
     Ok(Ended::Reply)
 }
@@ -135,18 +150,18 @@ fn decide<S: Side>(
 fn decide_class<S: Side>(
     alloc: Global,
     class: u16,
-    chain: &Chain,
+    plans: &Plans,
     query: &Query,
     side: &mut S,
     slot: &mut Slot,
 ) -> Result<Ended, NoMemory>
-    requires chain { IsChain chain.now }
     requires clear { slot.old ≡ no_answer }
-    ensures { Takes (class_decides class chain.now.blocks query.now)
+    ensures { Takes
+        (class_decides class plans.now.bundle.files plans.now.blocks query.now)
         (decided result slot.new) (S.state side.old) (S.state side.new) }
 {
     if class == class::IN {
-        return decide_block(alloc, chain, query, side, slot);
+        return decide_block(alloc, plans, query, side, slot);
     }
     set_code(slot, rcode::REFUSED);
     Ok(Ended::Reply)
@@ -154,17 +169,17 @@ fn decide_class<S: Side>(
 
 fn decide_block<S: Side>(
     alloc: Global,
-    chain: &Chain,
+    plans: &Plans,
     query: &Query,
     side: &mut S,
     slot: &mut Slot,
 ) -> Result<Ended, NoMemory>
-    requires chain { IsChain chain.now }
     requires clear { slot.old ≡ no_answer }
-    ensures { Takes (block_decides (block_of chain.now.blocks query.now) query.now)
+    ensures { Takes
+        (block_decides plans.now.bundle.files (block_of plans.now.blocks query.now) query.now)
         (decided result slot.new) (S.state side.old) (S.state side.new) }
 {
-    if let Some(steps) = chain_of(chain, query) {
+    if let Some(steps) = chain_of(plans, query) {
         return run_chain(alloc, steps, query, side, slot);
     }
     set_code(slot, rcode::REFUSED);
@@ -173,16 +188,15 @@ fn decide_block<S: Side>(
 
 // The chain of the block with the longest zone on the port at which the query came.
 #[tactic(auto, using(crate::proofs::Served::by_number))]
-fn chain_of<'a>(chain: &'a Chain, query: &Query) -> Option<&'a BlockChain>
-    requires { IsChain chain.now }
+fn chain_of<'a>(plans: &'a Plans, query: &Query) -> Option<&'a BlockChain>
     ensures { option_map (λ steps. steps_in steps.now) result
-        ≡ option_map steps_of (block_of chain.now.blocks query.now) }
+        ≡ option_map (steps_of plans.now.bundle.files) (block_of plans.now.blocks query.now) }
 {
-    let number = chain.index.find(query.local, &query.name)? as usize;
-    if chain.chains.len() <= number {
+    let number = plans.index.find(query.local, &query.name)? as usize;
+    if plans.chains.len() <= number {
         return None;
     }
-    Some(chain.chains.at(number))
+    Some(plans.chains.at(number))
 }
 
 // Runs the chain of a block. One without a step refuses.

@@ -1,7 +1,7 @@
 -- What a list of steps means for a query and the marks of a side. Each step is a rule over the rest,
 -- which is the meaning of the steps behind it. This server's own rule, in the manner of CoreDNS.
 use Rattle.std.specs.Prelude.{ℕ, nat_eq, Bool, false, List, [], ◌∷◌, Option, Some, None}
-use Rattle.std.specs.Prelude.{if◌then◌else◌}
+use Rattle.std.specs.Prelude.{option_map, if◌then◌else◌}
 use Rattle.std.specs.Cmp.Lexicographic.{pointwise}
 use Rattle.dns_data.specs.Message.{AnswerData}
 use Rattle.dns_data.specs.declared.query.Query.{Query}
@@ -10,6 +10,7 @@ use Rattle.outside.specs.Meanings.{Meaning, Done, More, Off, onward}
 use Rattle.outside.specs.declared.mark.Mark.{Mark}
 use Rattle.outside.specs.declared.mark.Mark.TheVariants.{Noted}
 use Rattle.acl_plugin.specs.{acl_say}
+use Rattle.file_plugin.specs.{file_say}
 use Rattle.acl_plugin.specs.declared.plan.AclSay.{AclSay}
 use Rattle.acl_plugin.specs.declared.plan.AclSay.TheVariants as acl
 use Rattle.plain_plugins.specs.{any_of, error_line, is_any, log_line, plain_zones, whoami_of}
@@ -22,7 +23,8 @@ use Rattle.plugin_api.specs.declared.verdict.Code.TheVariants as code
 use Rattle.zone_words.specs.{is_in}
 use Rattle.chain_meaning.specs.declared.decision.Decision.{Decision}
 use Rattle.chain_meaning.specs.declared.decision.Decision.TheVariants as decision
-use Rattle.chain_meaning.specs.Steps.{Answerer, Acl, Any, Whoami, Step, Errors, Log, Answers}
+use Rattle.chain_meaning.specs.Steps.{Answerer, Acl, Any, File, Whoami, Step, Errors}
+use Rattle.chain_meaning.specs.Steps.{Log, Answers}
 
 -- an RCODE without records
 abbrev pub nothing : ℕ → AnswerData
@@ -83,6 +85,7 @@ any_answer q = if is_any q then Some (decision.Reply (any_of q)) else None
 unfoldable pub answer_of : Answerer → Query → List Mark → Meaning (Option Decision)
 answer_of (Acl plans) q marks = Done (acl_answer (acl_say plans q)) marks
 answer_of Any q marks = Done (any_answer q) marks
+answer_of (File plans) q marks = Done (option_map decision.Reply (file_say plans q)) marks
 answer_of Whoami q marks = Done (Some (decision.Reply (whoami_of q))) marks
 
 -- where a plugin goes on, the rest decides

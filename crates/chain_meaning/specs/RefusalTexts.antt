@@ -11,6 +11,8 @@ use Rattle.corefile_blocks.specs.declared.fault.CorefileFault.{CorefileFault}
 use Rattle.corefile_blocks.specs.declared.fault.CorefileFault.TheVariants as fault
 use Rattle.plugin_api.specs.declared.fault.DirectiveWhy.{DirectiveWhy}
 use Rattle.plugin_api.specs.declared.fault.DirectiveWhy.TheVariants as wrong
+use Rattle.zone_file.specs.declared.fault.ZoneWhy.{ZoneWhy}
+use Rattle.zone_file.specs.declared.fault.ZoneWhy.TheVariants as zone
 use Rattle.chain_meaning.specs.declared.refusal.Refusal.{Refusal}
 use Rattle.chain_meaning.specs.declared.refusal.Refusal.TheVariants as refusal
 
@@ -55,6 +57,14 @@ directive_text wrong.Twice = codes "twice"
 directive_text wrong.DoubleZone = codes "doublezone"
 directive_text wrong.Extra = codes "extra"
 
+-- what is wrong with a zone file
+abbrev pub zone_text : ZoneWhy → List ℕ
+zone_text zone.Control = codes "control"
+zone_text zone.Syntax = codes "syntax"
+zone_text zone.NoSoa = codes "nosoa"
+zone_text zone.TwoSoa = codes "twosoa"
+zone_text zone.CnameMix = codes "cnamemix"
+
 -- of what there are too many
 abbrev pub limit_text : Limit → List ℕ
 limit_text limit.Workers = codes "workers"
@@ -88,5 +98,6 @@ refusal_text (refusal.Corefile fault) = corefile_text fault
 refusal_text (refusal.Unknown line) = at_line line (codes ": unknown directive")
 refusal_text (refusal.Directive line why) =
     at_line line (codes ": directive: " ++ directive_text why)
+refusal_text (refusal.Zone line at why) =
+    at_line line (codes ": zone file line " ++ (decimal at ++ (codes ": " ++ zone_text why)))
 refusal_text (refusal.TooMany what number) = too_many_text what number
-refusal_text refusal.Unbuilt = codes "not built yet"

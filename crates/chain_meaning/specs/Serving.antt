@@ -14,6 +14,7 @@ use Rattle.dns_data.specs.declared.message.Transport.{Transport}
 use Rattle.dns_data.specs.declared.message.Transport.TheVariants.{Udp, Tcp}
 use Rattle.dns_data.specs.declared.query.Query.{Query}
 use Rattle.dns_data.specs.declared.block.Block.{Block}
+use Rattle.dns_data.specs.declared.file.FileText.{FileText}
 use Rattle.dns_wire.specs.declared.fault.Head.{Head}
 use Rattle.dns_wire.specs.Wire.{flag_at}
 use Rattle.dns_wire.specs.Spells.{HasOtherOpcode, IsMalformed}
@@ -64,18 +65,19 @@ chain_decides [] q marks = Done refused marks
 chain_decides (step ∷ steps) q marks = mean (step ∷ steps) q marks
 
 -- a name without a block is refused
-abbrev pub block_decides : Option Block → Query → List Mark → Meaning Decision
-block_decides None q marks = Done refused marks
-block_decides (Some block) q marks = chain_decides (steps_of block) q marks
+abbrev pub block_decides : List FileText → Option Block → Query → List Mark → Meaning Decision
+block_decides files None q marks = Done refused marks
+block_decides files (Some block) q marks = chain_decides (steps_of files block) q marks
 
 -- the block with the longest zone on the port at which the query came
 abbrev pub block_of : List Block → Query → Option Block
 block_of blocks q = option_and_then (slice_get blocks) (picked blocks q.local q.name)
 
 -- a class other than IN is refused (RFC 1035, section 3.2.4)
-abbrev pub class_decides : ℕ → List Block → Query → List Mark → Meaning Decision
-class_decides class blocks q marks =
-    if nat_eq class classes.IN then block_decides (block_of blocks q) q marks else Done refused marks
+abbrev pub class_decides : ℕ → List FileText → List Block → Query → List Mark → Meaning Decision
+class_decides class files blocks q marks =
+    if nat_eq class classes.IN then block_decides files (block_of blocks q) q marks
+    else Done refused marks
 
 -- the OPT record of a reply to a query with this one: the payload size is 1232, the version 0, and
 -- DO the client's (RFC 6891, sections 6.1.1 and 6.2.3)
@@ -120,15 +122,17 @@ abbrev pub upper_code : Option Opt → ℕ
 upper_code opt = if is_known_version opt then 0 else rcodes.BADVERS_UPPER
 
 -- a query of another version of EDNS gets no records and the lower bits of BADVERS, which are 0
-abbrev pub query_decides : Option Opt → ℕ → List Block → Query → List Mark → Meaning Decision
-query_decides opt class blocks q marks =
-    if is_known_version opt then class_decides class blocks q marks
+abbrev pub query_decides : Option Opt → ℕ → List FileText → List Block → Query → List Mark
+    → Meaning Decision
+query_decides opt class files blocks q marks =
+    if is_known_version opt then class_decides class files blocks q marks
     else Done (decision.Reply (nothing rcodes.NOERROR)) marks
 
--- what is decided for what a datagram asks
-abbrev pub asked_decides : List Block → Datagram → Asked → List Mark → Meaning Decision
-asked_decides blocks d asked marks =
-    query_decides asked.opt asked.question.class blocks (query_of d asked) marks
+-- what is decided for what a datagram asks of blocks, in a bundle with these files
+abbrev pub asked_decides : List FileText → List Block → Datagram → Asked → List Mark
+    → Meaning Decision
+asked_decides files blocks d asked marks =
+    query_decides asked.opt asked.question.class files blocks (query_of d asked) marks
 
 -- the answer of a decision, where it has a reply
 abbrev pub answer_in : Decision → Option AnswerData
@@ -162,7 +166,8 @@ pub record Decides (bundle : Bundle) (default_port : ℕ) (d : Datagram) (marks 
   pub asked : Asked
   pub queries : QueriesThis d.bytes asked
   pub decision : Decision
-  pub took : (left : List Mark) → asked_decides blocks d asked (marks ++ left) ≡ Done decision left
+  pub took : (left : List Mark)
+      → asked_decides bundle.files blocks d asked (marks ++ left) ≡ Done decision left
   pub is : P asked decision
 
 -- the reply's bytes are those of the decision's answer
@@ -178,7 +183,7 @@ pub record Starves (bundle : Bundle) (default_port : ℕ) (d : Datagram) (marks 
     pub accepted : IsAccepted default_port bundle blocks
     pub asked : Asked
     pub queries : QueriesThis d.bytes asked
-    pub starved : Starved (asked_decides blocks d asked marks)
+    pub starved : Starved (asked_decides bundle.files blocks d asked marks)
 
 -- a header alone: the id, QR, an opcode, RD and an RCODE
 unfoldable pub header_reply : ℕ → ℕ → Bool → ℕ → List ℕ

@@ -1,10 +1,15 @@
 -- The chain of a block: a list of steps, each with what its plugin reads, directives and the zones of
--- the block's keys. All `acl` directives are one step.
+-- the block's keys, and for `file` its file. All `acl` directives are one step, and so are all `file`
+-- directives.
 use Rattle.std.specs.Prelude.{ℕ, nat_eq, Bool, true, false, List, [], ◌∷◌, ◌++◌, map, Option, Some}
 use Rattle.std.specs.Prelude.{None, if◌then◌else◌}
 use Rattle.std.specs.List.{filter, list_any}
 use Rattle.dns_data.specs.declared.block.Block.{Block}
 use Rattle.dns_data.specs.declared.directive.Directive.{Directive}
+use Rattle.dns_data.specs.declared.file.FileText.{FileText}
+use Rattle.corefile_blocks.specs.Blocks.{file_of}
+use Rattle.file_plugin.specs.{FileData}
+use Rattle.file_plugin.specs.Reading.{data_of}
 use Rattle.plugin_api.specs.{PlanData, order_of, rank_of}
 use Rattle.plugin_api.specs.declared.ranks.Rank.{Rank}
 use Rattle.plugin_api.specs.declared.ranks.Rank.TheVariants as rank
@@ -13,6 +18,7 @@ use Rattle.plugin_api.specs.declared.ranks.Rank.TheVariants as rank
 pub data Answerer : Type 0 where
   Acl : List PlanData → Answerer
   Any : Answerer
+  File : List FileData → Answerer
   Whoami : Answerer
 
 pub data Step : Type 0 where
@@ -23,6 +29,14 @@ pub data Step : Type 0 where
 -- the zones for which a directive stands that names none: those of its block's keys
 abbrev pub key_zones : Block → List (List (List ℕ))
 key_zones block = map (λ key. key.zone) block.keys
+
+-- what the directives of a block are read in: the zones of its keys, and the files of its bundle
+pub record Context : Type 0 where
+  pub zones : List (List (List ℕ))
+  pub files : List FileText
+
+abbrev pub context_of : List FileText → Block → Context
+context_of files block = record { zones = key_zones block; files = files }
 
 -- whether a directive's rank is this one
 abbrev pub is_rank : Rank → Option Rank → Bool
@@ -44,6 +58,23 @@ plan_in zones d = record { directive = d; zones = zones }
 abbrev pub plans_of : Rank → List (List (List ℕ)) → List Directive → List PlanData
 plans_of rank zones directives = map (plan_in zones) (filter (has_rank rank) directives)
 
+-- the file that the words of a directive name
+abbrev pub file_word : List (List ℕ) → List ℕ
+file_word [] = []
+file_word (file ∷ words) = file
+
+-- what that file has, where it isn't missing
+abbrev pub file_in : List FileText → Directive → Option (List ℕ)
+file_in files d = file_of (file_word d.args) files
+
+-- what the plan of a `file` directive reads
+abbrev pub file_plan : Context → Directive → FileData
+file_plan context d = data_of d context.zones (file_in context.files d)
+
+-- the plans of the `file` directives, in the order of the text
+abbrev pub file_plans : Context → List Directive → List FileData
+file_plans context directives = map (file_plan context) (filter (has_rank rank.File) directives)
+
 -- the steps of the plans of a rank; without a plan there is none
 abbrev pub error_steps : Bool → List Step
 error_steps stands = if stands then Errors ∷ [] else []
@@ -58,6 +89,10 @@ acl_steps (plan ∷ plans) = Answers (Acl (plan ∷ plans)) ∷ []
 abbrev pub any_steps : Bool → List Step
 any_steps stands = if stands then Answers Any ∷ [] else []
 
+abbrev pub file_steps : List FileData → List Step
+file_steps [] = []
+file_steps (plan ∷ plans) = Answers (File (plan ∷ plans)) ∷ []
+
 abbrev pub whoami_steps : Bool → List Step
 whoami_steps stands = if stands then Answers Whoami ∷ [] else []
 
@@ -69,10 +104,12 @@ front_steps zones directives =
     ++ (acl_steps (plans_of rank.Acl zones directives)
     ++ any_steps (some_has rank.Any directives)))
 
-abbrev pub back_steps : List (List (List ℕ)) → List Directive → List Step
-back_steps zones directives = whoami_steps (some_has rank.Whoami directives)
+abbrev pub back_steps : Context → List Directive → List Step
+back_steps context directives =
+    file_steps (file_plans context directives) ++ whoami_steps (some_has rank.Whoami directives)
 
--- the chain of a block: rank by rank, whatever the order of the text
-unfoldable pub steps_of : Block → List Step
-steps_of block =
-    front_steps (key_zones block) block.directives ++ back_steps (key_zones block) block.directives
+-- the chain of a block in a bundle with these files: rank by rank, whatever the order of the text
+unfoldable pub steps_of : List FileText → Block → List Step
+steps_of files block =
+    front_steps (key_zones block) block.directives
+    ++ back_steps (context_of files block) block.directives

@@ -1,11 +1,13 @@
 ghost use Rattle.std.specs.Prelude.{◌≡◌};
 ghost use Rattle.chain_meaning.specs.RefusalTexts.{directive_text, limit_text, why_text};
+ghost use Rattle.chain_meaning.specs.RefusalTexts.{zone_text};
 
 use corefile_blocks::{BlockWhy, CorefileFault, WordsFault};
 use dns_data::Limit;
 use plugin_api::DirectiveWhy;
 use std::fmt;
 use std::fmt::{Display, Formatter, Write};
+use zone_file::ZoneWhy;
 
 /// Why a configuration is not served.
 #[derive(Clone, Copy, Debug, PartialEq, Eq)]
@@ -16,10 +18,10 @@ pub enum Refusal {
     Unknown { line: u32 },
     /// The line of a directive, or of its body, and what is wrong there.
     Directive { line: u32, why: DirectiveWhy },
+    /// The line of a directive, and of the file that it names, and what is wrong there.
+    Zone { line: u32, at: u32, why: ZoneWhy },
     /// The number is the first that is too large.
     TooMany { what: Limit, number: u64 },
-    /// More than one side, which isn't built yet.
-    Unbuilt,
 }
 
 impl Display for Refusal {
@@ -63,10 +65,16 @@ impl Display for Refusal {
                     directive_text(*why)
                 )
             }
+            Refusal::Zone { line, at, why } => {
+                write!(
+                    f,
+                    "corefile line {line}: zone file line {at}: {}",
+                    zone_text(*why)
+                )
+            }
             Refusal::TooMany { what, number } => {
                 write!(f, "too many {}: {number}", limit_text(*what))
             }
-            Refusal::Unbuilt => f.write_str("not built yet"),
         }
     }
 }
@@ -109,6 +117,19 @@ fn directive_text(why: DirectiveWhy) -> &'static str
         DirectiveWhy::Twice => "twice",
         DirectiveWhy::DoubleZone => "doublezone",
         DirectiveWhy::Extra => "extra",
+    }
+}
+
+// What is wrong with a zone file.
+fn zone_text(why: ZoneWhy) -> &'static str
+    ensures { result.now ≡ zone_text why }
+{
+    match why {
+        ZoneWhy::Control => "control",
+        ZoneWhy::Syntax => "syntax",
+        ZoneWhy::NoSoa => "nosoa",
+        ZoneWhy::TwoSoa => "twosoa",
+        ZoneWhy::CnameMix => "cnamemix",
     }
 }
 

@@ -10,11 +10,11 @@ returns g c = record {
   told = c.in-Ok.ensures.told;
   stays = c.in-Ok.ensures.stays;
   serves = inr (record {
-    blocks = c.args.chain.now.blocks;
-    accepted = c.requires.chain.accepted;
+    blocks = c.args.plans.now.blocks;
+    accepted = c.tell.ensures.accepted;
     asked = c.args.asked;
     queries = c.requires.asks;
-    starved = subst (λ q. Starved (query_decides c.args.asked.opt c.args.asked.question.class c.args.chain.now.blocks q c.in-Ok.ensures.marks)) c.query_of-query.ensures
-        (starved_after (query_decides c.args.asked.opt c.args.asked.question.class c.args.chain.now.blocks c.query_of-query.result) _ c.in-Ok.ensures.marks c.in-Ok.ensures.took);
+    starved = subst (λ q. Starved (query_decides c.args.asked.opt c.args.asked.question.class c.args.plans.now.bundle.files c.args.plans.now.blocks q c.in-Ok.ensures.marks)) c.query_of-query.ensures
+        (starved_after (query_decides c.args.asked.opt c.args.asked.question.class c.args.plans.now.bundle.files c.args.plans.now.blocks c.query_of-query.result) _ c.in-Ok.ensures.marks c.in-Ok.ensures.took);
   });
 }

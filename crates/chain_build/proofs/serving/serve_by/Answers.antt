@@ -1,7 +1,7 @@
 use Rattle.std.proofs.Common.{[], rules}
 use Rattle.outside.specs.Journals.{adds-nothing}
 use Rattle.outside.specs.TakingLaws.{stays-nothing}
-use Rattle.chain_build.proofs.serving.serve.Goals as goal
+use Rattle.chain_build.proofs.serving.serve_by.Goals as goal
 
 pub returns-in-Ok-header_reply : goal.returns-in-Ok-header_reply
 returns-in-Ok-header_reply g c = record { marks = []; told = adds-nothing _; stays = stays-nothing _; serves = search rules }

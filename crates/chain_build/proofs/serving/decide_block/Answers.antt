@@ -1,0 +1,11 @@
+use Rattle.std.proofs.Common.{sym, ap, ◌∙◌}
+use Rattle.outside.specs.Meanings.{Done}
+use Rattle.outside.specs.TakingLaws.{takes-nothing}
+use Rattle.chain_meaning.specs.declared.decision.Decision.TheVariants as decision
+use Rattle.chain_build.proofs.Served.{block_none}
+use Rattle.chain_build.proofs.serving.decide_block.Goals as goal
+
+pub returns : goal.returns
+returns g c =
+    takes-nothing _
+    (λ left. block_none _ _ c.args.query.now c.in_default.ensures left ∙ ap (λ a. Done (decision.Reply a) left) (sym c.set_code.ensures))

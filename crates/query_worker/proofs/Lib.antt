@@ -1,0 +1,4 @@
+pub mod Answering
+pub mod Counting
+pub mod Turns
+pub mod Whole

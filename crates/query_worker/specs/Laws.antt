@@ -1,0 +1,107 @@
+-- Laws of a worker's run, for those who know where its pins' chains came from.
+use Rattle.std.proofs.Common.{◌≡◌, ◌<◌, ℕ, List, [], ◌∷◌, Some, slice_get, sym, ap, subst, inl, inr}
+use Rattle.std.specs.List.{AllByRecursion}
+use Rattle.outside.specs.declared.datagram.Datagram.{Datagram}
+use Rattle.outside.specs.declared.mark.Mark.{Mark}
+use Rattle.corefile_blocks.specs.declared.bundle.Bundle.{Bundle}
+use Rattle.chain_meaning.specs.declared.served.Served.{Served}
+use Rattle.chain_meaning.specs.declared.served.Served.TheVariants.{Reply, Silent, NoMemory}
+use Rattle.chain_meaning.specs.Serving.{Serves}
+use Rattle.pin_table.specs.declared.table.PinTable.{PinTable}
+use Rattle.pin_table.specs.declared.views.PassView.{PassView}
+use Rattle.pin_table.specs.{IsPassOf, Keeps, pass_of}
+use Rattle.pin_table.specs.Opening.{new_pass}
+use Rattle.chain_build.specs.declared.chain.Chain.{Chain}
+use Rattle.chain_build.specs.{chain_identity, chain_log, plans_of}
+use Rattle.query_worker.specs.declared.worker.Worker.{Worker}
+use Rattle.query_worker.specs.Pins.{PastPin, OfPin, IsPinFor, IsOfPass, IsOf, AreOf, IsReady}
+use Rattle.query_worker.specs.States.{Worked}
+use Rattle.query_worker.specs.Tally.{IsIdle}
+use Rattle.query_worker.specs.Turn.{Turn, failed, replied, silenced, starved, IsLawful, IsPublished}
+use Rattle.query_worker.specs.Worker.{WorkerRun}
+
+-- what holds of each holds of each in the other way too
+pub all_as : (P Q : Turn → Type 0) → ((turn : Turn) → P turn → Q turn) → (turns : List Turn)
+    → AllByRecursion P turns
+    → AllByRecursion Q turns
+all_as P Q to [] are = tt
+all_as P Q to (turn ∷ turns) are = (to turn are.0, all_as P Q to turns are.1)
+
+-- turns that are lawful in one way, and so in another
+pub run_as : {most : ℕ} {worked : Worked} {journal : List Mark} (P Q : Turn → Type 0)
+    → ((turn : Turn) → P turn → Q turn)
+    → WorkerRun P most worked journal
+    → WorkerRun Q most worked journal
+run_as P Q to run = record {
+  turns = run.turns;
+  ending = run.ending;
+  told = run.told;
+  are = record {
+    lawful_are = all_as P Q to run.turns run.are.lawful_are;
+    in_order = run.are.in_order;
+    datagrams_are = run.are.datagrams_are;
+    starved_at_most = run.are.starved_at_most;
+  };
+  at_most = run.at_most;
+  seen_all = run.seen_all;
+  ends = run.ends;
+}
+
+-- by a pin whose chain is of a published bundle
+published_by : (bundles : List Bundle) (default_port : ℕ) (pin : PastPin) (serial : ℕ)
+    (d : Datagram)
+    (marks : List Mark) (served : Served)
+    → IsOf bundles default_port pin
+    → IsPinFor serial d marks served pin
+    → IsPublished bundles serial (λ bundle. Serves bundle default_port d marks served)
+published_by bundles default_port pin serial d marks served of is = record {
+  bundle = (plans_of pin.given).bundle;
+  at = subst (λ (n : ℕ). slice_get bundles n ≡ Some (plans_of pin.given).bundle) is.0 of.0;
+  is = subst (λ (port : ℕ). Serves (plans_of pin.given).bundle port d marks served) of.1 is.1;
+}
+
+-- by one of the pins whose chains are
+published_of : (bundles : List Bundle) (default_port : ℕ) (pins : List PastPin) (serial : ℕ)
+    (d : Datagram)
+    (marks : List Mark) (served : Served)
+    → AreOf bundles default_port pins
+    → OfPin pins (IsPinFor serial d marks served)
+    → IsPublished bundles serial (λ bundle. Serves bundle default_port d marks served)
+published_of bundles default_port [] serial d marks served are is = absurd is
+published_of bundles default_port (pin ∷ pins) serial d marks served are (inl here) =
+    published_by bundles default_port pin serial d marks served are.0 here
+published_of bundles default_port (pin ∷ pins) serial d marks served are (inr there) =
+    published_of bundles default_port pins serial d marks served are.1 there
+
+-- a turn under one of these pins is lawful where each pin's chain is of the published bundle of its
+-- serial
+pub lawful_of : (bundles : List Bundle) (default_port : ℕ) (pins : List PastPin)
+    → AreOf bundles default_port pins
+    → (turn : Turn)
+    → IsOfPass pins turn
+    → IsLawful bundles default_port turn
+lawful_of bundles default_port pins are failed is = tt
+lawful_of bundles default_port pins are (replied serial d marks reply out) is =
+    published_of bundles default_port pins serial d marks (Reply reply) are is
+lawful_of bundles default_port pins are (silenced serial d marks why) is =
+    published_of bundles default_port pins serial d marks (Silent why) are is
+lawful_of bundles default_port pins are (starved serial d marks) is =
+    published_of bundles default_port pins serial d marks NoMemory are is
+
+-- a worker that has done nothing yet is ready where its pass is a new one of the table
+pub ready_of : {S : Type 0} (table : PinTable Chain) (worker : Worker S) (number seen : ℕ)
+    → IsPassOf table worker.pass
+    → pass_of worker.pass ≡ new_pass number seen
+    → 0 < seen
+    → IsIdle worker.tally
+    → IsReady table worker
+ready_of table worker number seen own fresh some idle = record {
+  rests = record {
+    own = own;
+    idle = ap (λ (q : PassView Chain). q.held) fresh;
+    kept = subst (λ (q : PassView Chain). Keeps chain_identity chain_log q.turns) (sym fresh) tt;
+  };
+  unused = ap (λ (q : PassView Chain). q.turns) fresh;
+  published = subst (λ (q : PassView Chain). 0 < q.seen) (sym fresh) some;
+  idle = idle;
+}

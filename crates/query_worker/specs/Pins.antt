@@ -1,0 +1,101 @@
+-- The pins of a worker's pass, and the turns that stand for them. This server's own rule.
+use Rattle.std.specs.Prelude.{◌≡◌, ◌≤◌, ◌<◌, ◌⊎◌, ℕ, ◌+◌, List, [], ◌∷◌, ◌++◌, length, reverse, None, Some, slice_get}
+use Rattle.std.specs.List.{flat_map, AllByRecursion}
+use Rattle.outside.specs.declared.datagram.Datagram.{Datagram}
+use Rattle.outside.specs.declared.mark.Mark.{Mark}
+use Rattle.corefile_blocks.specs.declared.bundle.Bundle.{Bundle}
+use Rattle.pin_table.specs.declared.passes.Pass.{Pass}
+use Rattle.pin_table.specs.declared.table.PinTable.{PinTable}
+use Rattle.pin_table.specs.declared.views.PassView.{PassView}
+use Rattle.pin_table.specs.declared.views.Turn as views
+use Rattle.pin_table.specs.{IsPassOf, Keeps, pass_of}
+use Rattle.chain_meaning.specs.declared.served.Served.{Served}
+use Rattle.chain_meaning.specs.declared.served.Served.TheVariants.{Reply, Silent, NoMemory}
+use Rattle.chain_meaning.specs.Serving.{Serves}
+use Rattle.chain_build.specs.declared.chain.Chain.{Chain}
+use Rattle.chain_build.specs.{chain_identity, chain_log, plans_of}
+use Rattle.query_worker.specs.declared.worker.Tally.{Tally}
+use Rattle.query_worker.specs.declared.worker.Worker.{Worker}
+use Rattle.query_worker.specs.Tally.{IsIdle}
+use Rattle.query_worker.specs.Turn.{Turn, failed, replied, silenced, starved, marks_of}
+
+-- a pin that has ended: its serial, and its chain as it was given and as it came home
+abbrev pub PastPin : Type 0
+PastPin = views.Turn Chain
+
+-- one of these pins, and a fact of it
+abbrev pub OfPin : List PastPin → (PastPin → Type 0) → Type 0
+OfPin [] P = ⊥
+OfPin (pin ∷ pins) P = P pin ⊎ OfPin pins P
+
+-- the pin has this serial, and by its chain's bundle and port this is what a datagram means, with
+-- these marks
+abbrev pub IsPinFor : ℕ → Datagram → List Mark → Served → PastPin → Type 0
+IsPinFor serial d marks served pin =
+    (pin.serial ≡ serial)
+    × Serves (plans_of pin.given).bundle (plans_of pin.given).default_port d marks served
+
+-- the turn took a datagram under this pin, and did what the pin's chain means
+abbrev pub IsByPin : PastPin → Turn → Type 0
+IsByPin pin failed = ⊥
+IsByPin pin (replied serial d marks reply out) = IsPinFor serial d marks (Reply reply) pin
+IsByPin pin (silenced serial d marks why) = IsPinFor serial d marks (Silent why) pin
+IsByPin pin (starved serial d marks) = IsPinFor serial d marks NoMemory pin
+
+-- a turn that took a datagram did so under one of these pins, and did what that pin's chain means
+abbrev pub IsOfPass : List PastPin → Turn → Type 0
+IsOfPass pins failed = Unit {0}
+IsOfPass pins (replied serial d marks reply out) =
+    OfPin pins (IsPinFor serial d marks (Reply reply))
+IsOfPass pins (silenced serial d marks why) =
+    OfPin pins (IsPinFor serial d marks (Silent why))
+IsOfPass pins (starved serial d marks) =
+    OfPin pins (IsPinFor serial d marks NoMemory)
+
+-- under these pins, the first one first, each turn that took a datagram did so, one under each
+abbrev pub TakeUnder : List PastPin → List Turn → Type 0
+TakeUnder [] [] = Unit {0}
+TakeUnder (pin ∷ pins) [] = ⊥
+TakeUnder [] (failed ∷ turns) = TakeUnder [] turns
+TakeUnder (pin ∷ pins) (failed ∷ turns) = TakeUnder (pin ∷ pins) turns
+TakeUnder [] (turn ∷ turns) = ⊥
+TakeUnder (pin ∷ pins) (turn ∷ turns) = IsByPin pin turn × TakeUnder pins turns
+
+-- the journal is a list of turns and an ending, and the turns that took a datagram did so under
+-- just these pins, the last one first, in order
+pub record TellsPins (pins : List PastPin) (journal : List Mark) : Type 0 where
+  pub turns : List Turn
+  pub ending : List Mark
+  pub told : journal ≡ flat_map marks_of turns ++ ending
+  pub under : TakeUnder (reverse pins) turns
+
+-- what a worker counted is what its pass shows: each datagram has its pin, and the pass has seen
+-- just the last one's serial, or whatever it had where there is none
+pub record CountsPins (tally : Tally) (pass : PassView Chain) : Type 0 where
+  pub pins : length pass.turns ≡ tally.pins
+  pub last : 0 < tally.pins → pass.seen ≡ tally.seen + 1
+  pub none : tally.pins ≡ 0 → tally.seen ≡ 0
+  pub within : tally.seen + 1 ≤ pass.seen
+
+-- the chain of the pin is of the bundle that was published with its serial, for this port
+abbrev pub IsOf : List Bundle → ℕ → PastPin → Type 0
+IsOf bundles default_port pin =
+    (slice_get bundles pin.serial ≡ Some (plans_of pin.given).bundle)
+    × ((plans_of pin.given).default_port ≡ default_port)
+
+-- the chain of each pin is
+abbrev pub AreOf : List Bundle → ℕ → List PastPin → Type 0
+AreOf bundles default_port pins = AllByRecursion (IsOf bundles default_port) pins
+
+-- the pass is this table's, holds no pin, and gave each chain home as the one that it was
+pub record IsResting (table : PinTable Chain) (pass : Pass Chain) : Type 0 where
+  pub own : IsPassOf table pass
+  pub idle : (pass_of pass).held ≡ None
+  pub kept : Keeps chain_identity chain_log (pass_of pass).turns
+
+-- a worker that has done nothing yet, by a pass that has pinned nothing and has seen a generation
+pub record IsReady {S : Type 0} (table : PinTable Chain) (worker : Worker S) : Type 0 where
+  pub rests : IsResting table worker.pass
+  pub unused : (pass_of worker.pass).turns ≡ []
+  pub published : 0 < (pass_of worker.pass).seen
+  pub idle : IsIdle worker.tally

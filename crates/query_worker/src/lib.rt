@@ -1,0 +1,12 @@
+//! A worker: it takes datagrams from its side, serves each by the chain that its pin gives, and
+//! ends.
+#![tactic(auto)]
+
+mod turning;
+mod worker;
+mod working;
+
+pub use chain_build::{Chain, Room};
+pub use turning::{Turned, take_turn};
+pub use worker::{Tally, WorkEnd, Worker};
+pub use working::{work, work_once};

@@ -1,0 +1,118 @@
+ghost use Rattle.dns_data.specs.declared.limit.TheConstants as limits;
+ghost use Rattle.std.specs.Prelude.{◌≡◌, ◌<◌, ◌∷◌, None, length};
+ghost use Rattle.outside.specs.declared.mark.Mark.TheVariants.{Got};
+ghost use Rattle.outside.specs.Marks.{Grows};
+ghost use Rattle.outside.specs.Causes.{Rose};
+ghost use Rattle.outside.specs.States.{Stays};
+ghost use Rattle.pin_table.specs.{IsPassOf, IsPinnedOn, SamePass, pass_of};
+ghost use Rattle.query_worker.specs.Pins.{IsResting};
+ghost use Rattle.query_worker.specs.Worker.{AddsTurn, IsOfDatagram, SendsServed};
+
+use chain_build::{Chain, Room, serve};
+use chain_meaning::Served;
+use outside::{Datagram, Received, Seen, Side};
+use pin_table::{Pass, Pin, PinTable};
+use std::alloc::Global;
+
+/// What one turn of a worker came to, with the serial under which a datagram was taken.
+#[derive(Clone, Copy, Debug, PartialEq, Eq)]
+pub enum Turned {
+    /// A datagram got its reply, or silence with a cause.
+    Answered(u64),
+    /// A datagram met want of memory.
+    Starved(u64),
+    RecvFailed,
+    RecvStarved,
+    RecvEnd,
+}
+
+/// One turn: takes a datagram, pins the current generation, serves, sends, and unpins.
+pub fn take_turn<S: Side>(
+    alloc: Global,
+    side: &mut S,
+    pass: &mut Pass<Chain>,
+    table: &PinTable<Chain>,
+    room: &mut Room,
+) -> Turned
+    requires rests { IsResting table.now pass.old }
+    requires few { length (pass_of pass.old).turns < limits.TURNS }
+    ensures told { Grows (S.state side.old) (S.state side.new)
+        (AddsTurn (pass_of pass.old) (pass_of pass.new) result) }
+    ensures stays { Stays (S.state side.old) (S.state side.new) }
+    ensures failed { result ≡ Turned.RecvFailed
+        → Rose (S.state side.old).counts.recv (S.state side.new).counts.recv }
+    ensures same { SamePass pass.old pass.new }
+    ensures rests { IsResting table.now pass.new }
+{
+    match side.recv() {
+        Received::Got(datagram) => {
+            let turned = answer(alloc, side, pass, table, &datagram, room);
+            side.take_back(datagram.bytes);
+            turned
+        }
+        Received::End => Turned::RecvEnd,
+        Received::Failed => Turned::RecvFailed,
+        Received::NoMemory => Turned::RecvStarved,
+    }
+}
+
+// Serves a datagram that was taken, between pin and unpin.
+fn answer<S: Side>(
+    alloc: Global,
+    side: &mut S,
+    pass: &mut Pass<Chain>,
+    table: &PinTable<Chain>,
+    datagram: &Datagram,
+    room: &mut Room,
+) -> Turned
+    requires rests { IsResting table.now pass.old }
+    requires few { length (pass_of pass.old).turns < limits.TURNS }
+    ensures told { Grows (S.state side.old) (S.state side.new)
+        (λ marks. AddsTurn (pass_of pass.old) (pass_of pass.new) result
+        (Got datagram.now ∷ marks)) }
+    ensures stays { Stays (S.state side.old) (S.state side.new) }
+    ensures same { SamePass pass.old pass.new }
+    ensures rests { IsResting table.now pass.new }
+    ensures datagram { IsOfDatagram result }
+{
+    let chain = pin(table, pass);
+    let serial = pass.seen() - 1;
+    side.saw(Seen::Pinned(serial));
+    let served = serve(alloc, &chain, datagram, side, room);
+    let turned = send(side, serial, served, room);
+    side.saw(Seen::Unpinned(serial));
+    table.unpin(pass, chain);
+    turned
+}
+
+// Pins the current generation, and gives this worker's chain of it.
+#[inline]
+fn pin(table: &PinTable<Chain>, pass: &mut Pass<Chain>) -> Chain
+    requires own { IsPassOf table.now pass.old }
+    requires idle { (pass_of pass.old).held ≡ None }
+    requires few { length (pass_of pass.old).turns < limits.TURNS }
+    ensures same { SamePass pass.old pass.new }
+    ensures pinned { IsPinnedOn (pass_of pass.old) result (pass_of pass.new) }
+{
+    match table.pin(pass) {
+        Pin::Pinned(chain) => chain,
+        Pin::Spent => unreachable!(),
+    }
+}
+
+// Sends the reply, where there is one, and keeps its bytes for the next one. A reply that didn't go
+// out ends nothing: the client asks again.
+fn send<S: Side>(side: &mut S, serial: u64, served: Served, room: &mut Room) -> Turned
+    ensures sends { SendsServed (S.state side.old) (S.state side.new) serial served result }
+    ensures stays { Stays (S.state side.old) (S.state side.new) }
+{
+    match served {
+        Served::Reply(bytes) => {
+            let _ = side.send(bytes.as_slice());
+            room.reply = bytes;
+            Turned::Answered(serial)
+        }
+        Served::Silent(_) => Turned::Answered(serial),
+        Served::NoMemory => Turned::Starved(serial),
+    }
+}

@@ -1,0 +1,242 @@
+-- How the looks of a watcher go on.
+use Rattle.std.proofs.Common.{true, Result, Ok, Err, ◌≡◌, ◌≢◌, ℕ, ◌+◌, Bool, List, [], ◌∷◌, ◌++◌, length, Option, Some, None, append_assoc, refl, sym, ap, subst, ◌∙◌, arith}
+use Rattle.std.specs.Prelude.{OnSome}
+use Rattle.std.specs.List.{All, flat_map}
+use Rattle.std.proofs.lemmas.List.{append-nil}
+use Rattle.std.proofs.lemmas.List.Concat.{flat_map-append, flat_map-cons}
+use Rattle.std.proofs.lemmas.List.Elements.{All-weaker}
+use Rattle.outside.specs.declared.mark.WatchMark.{WatchMark}
+use Rattle.outside.specs.declared.mark.WatchMark.TheVariants.{Look}
+use Rattle.outside.specs.Causes.{RoseJust, raised}
+use Rattle.outside.specs.Journals.{watch-adds-then}
+use Rattle.outside.specs.States.{WatchState}
+use Rattle.outside.specs.WatchMarks.{AddsWatch, watch_added}
+use Rattle.corefile_blocks.specs.declared.bundle.Bundle.{Bundle}
+use Rattle.corefile_bundle.specs.declared.fault.GatherFault.{GatherFault}
+use Rattle.corefile_bundle.specs.Gathering.{GathersFrom, OneRead, Source}
+use Rattle.chain_meaning.specs.Accepting.{IsAccepted}
+use Rattle.chain_build.specs.declared.chain.Chain.{Chain}
+use Rattle.chain_build.specs.{ArePlans, PlansData, plans_of}
+use Rattle.reload_watch.specs.declared.looking.Looking.{Looking}
+use Rattle.reload_watch.specs.declared.looking.Looking.TheVariants as looking
+use Rattle.reload_watch.specs.Filled.{AreFilledBy, EndsWith, IsOf}
+use Rattle.reload_watch.specs.Look.{AnswersLook, standing_of, LooksOver, LooksOnce, Starves, ServesGathered, look_marks, starved_by}
+use Rattle.reload_watch.specs.Reloads.{reloads, times_of}
+use Rattle.reload_watch.specs.States.{Serving, WatcherState}
+use Rattle.reload_watch.specs.WatchTurn.{WatchTurn, looked, starved, watch_marks, published_by, bundles_of, look_starved, all_starved, IsLooked, IsLook, AreLooks}
+use Rattle.reload_watch.specs.Watcher.{TakesLook}
+
+pub bundles-push : (first : Bundle) (looks : List WatchTurn) (look : WatchTurn) → bundles_of first (looks ++ look ∷ []) ≡ bundles_of first looks ++ published_by look
+bundles-push first looks look =
+    ap (λ (l : List Bundle). first ∷ l) (flat_map-append published_by looks (look ∷ []) ∙ ap (λ (l : List Bundle). flat_map published_by looks ++ l) (flat_map-cons published_by look [] ∙ append-nil (published_by look)))
+
+watch_marks-push : (looks : List WatchTurn) (look : WatchTurn) → flat_map watch_marks (looks ++ look ∷ []) ≡ flat_map watch_marks looks ++ watch_marks look
+watch_marks-push looks look =
+    flat_map-append watch_marks looks (look ∷ []) ∙ ap (λ (l : List WatchMark). flat_map watch_marks looks ++ l) (flat_map-cons watch_marks look [] ∙ append-nil (watch_marks look))
+
+starved_in-push : (looks : List WatchTurn) (look : WatchTurn) → all_starved (looks ++ look ∷ []) ≡ all_starved looks + look_starved look
+starved_in-push [] look = omega arith
+starved_in-push (l ∷ looks) look = omega (arith, starved_in-push looks look)
+
+looks-push : (source : Source) (default_port : ℕ) (bundles : List Bundle) (looks : List WatchTurn) (look : WatchTurn) → AreLooks source default_port bundles looks
+    → IsLook source default_port (bundles ++ flat_map published_by looks) look → AreLooks source default_port bundles (looks ++ look ∷ [])
+looks-push source default_port bundles [] look are is = (subst (λ (b : List Bundle). IsLook source default_port b look) (append-nil bundles) is, tt)
+looks-push source default_port bundles (l ∷ looks) look are is =
+    let same : bundles ++ flat_map published_by (l ∷ looks) ≡ (bundles ++ published_by l) ++ flat_map published_by looks =
+    ap (λ (b : List Bundle). bundles ++ b) (flat_map-cons published_by l looks) ∙ sym (append_assoc bundles (published_by l) (flat_map published_by looks)) in
+    (are.0, looks-push source default_port (bundles ++ published_by l) looks look are.1 (subst (λ (b : List Bundle). IsLook source default_port b look) same is))
+
+length-more : {A : Type 0} (items : List A) (item : A) → length (items ++ item ∷ []) ≡ length items + 1
+length-more [] item = refl
+length-more (i ∷ items) item = omega (arith, length-more items item)
+
+-- one generation more
+filled-push : (bundles : List Bundle) (bundle : Bundle) (port : ℕ) (filled : List (List Chain)) (chains : List Chain) → AreFilledBy bundles port filled → All (IsOf bundle port) chains
+    → AreFilledBy (bundles ++ bundle ∷ []) port (filled ++ chains ∷ [])
+filled-push [] bundle port [] chains are all = (all, tt)
+filled-push [] bundle port (cs ∷ css) chains are all = absurd are
+filled-push (b ∷ bundles) bundle port [] chains are all = absurd are
+filled-push (b ∷ bundles) bundle port (cs ∷ css) chains are all = (are.0, filled-push bundles bundle port css chains are.1 all)
+
+-- chains that serve by these plans serve by their bundle
+of_plans : (plans : PlansData) (bundle : Bundle) (port : ℕ) (chains : List Chain) → plans.bundle ≡ bundle → plans.default_port ≡ port → All (λ chain. plans_of chain ≡ plans) chains → All (IsOf bundle port) chains
+of_plans plans bundle port chains b p all =
+    All-weaker (λ (chain : Chain). plans_of chain ≡ plans) (IsOf bundle port)
+    (λ chain e. record { bundle_is = ap (λ (x : PlansData). x.bundle) e ∙ b; port_is = ap (λ (x : PlansData). x.default_port) e ∙ p }) chains all
+
+first_filled : (plans : PlansData) (earlier : List (List Chain)) (chains : List Chain) → length (earlier ++ chains ∷ []) ≡ 1 → All (λ chain. plans_of chain ≡ plans) chains
+    → AreFilledBy (plans.bundle ∷ []) plans.default_port (earlier ++ chains ∷ [])
+first_filled plans [] chains one all = (of_plans plans plans.bundle plans.default_port chains refl refl all, tt)
+first_filled plans (cs ∷ earlier) chains one all = absurd (omega (arith, length-more earlier chains, one))
+
+-- what a watcher did since its watch stood at old: these looks, behind which this serves
+pub record HasWatched (source : Source) (default_port : ℕ) (first : Bundle) (looks : List WatchTurn) (old new : WatchState) (g : Serving) (was starving : ℕ) : Type 0 where
+  pub told : AddsWatch old new (flat_map watch_marks looks)
+  pub are : AreLooks source default_port (first ∷ []) looks
+  pub count : length (bundles_of first looks) ≡ g.published
+  pub earlier : List Bundle
+  pub last : bundles_of first looks ≡ earlier ++ g.plans.bundle ∷ []
+  pub port : g.plans.default_port ≡ default_port
+  pub is : ArePlans g.plans
+  pub filled : AreFilledBy (bundles_of first looks) default_port g.filled
+  pub starved : RoseJust (all_starved looks) was starving
+
+-- a further look
+extends : {source : Source} {p : ℕ} {first : Bundle} {looks : List WatchTurn} {a b c : WatchState} {g h : Serving} {was had has : ℕ} (look : WatchTurn) (earlier : List Bundle)
+    → HasWatched source p first looks a b g was had → AddsWatch b c (watch_marks look) → IsLook source p (bundles_of first looks) look
+    → length (bundles_of first looks ++ published_by look) ≡ h.published → bundles_of first looks ++ published_by look ≡ earlier ++ h.plans.bundle ∷ []
+    → h.plans.default_port ≡ p → ArePlans h.plans → AreFilledBy (bundles_of first looks ++ published_by look) p h.filled → RoseJust (look_starved look) had has
+    → HasWatched source p first (looks ++ look ∷ []) a c h was has
+extends {source} {p} {first} {looks} {a} {b} {c} {g} {h} {was} {had} {has} look earlier w adds is count last port plans filled starved_in = record {
+  told = subst (AddsWatch a c) (sym (watch_marks-push looks look)) (watch-adds-then w.told adds);
+  are = looks-push source p (first ∷ []) looks look w.are is;
+  count = ap length (bundles-push first looks look) ∙ count;
+  earlier = earlier;
+  last = bundles-push first looks look ∙ last;
+  port = port;
+  is = plans;
+  filled = subst (λ (l : List Bundle). AreFilledBy l p h.filled) (sym (bundles-push first looks look)) filled;
+  starved = record {
+    least = let a = w.starved.least in let b = starved_in.least in omega (arith, starved_in-push looks look, a, b);
+    most = let a = w.starved.most in let b = starved_in.most in omega (arith, starved_in-push looks look, a, b);
+  };
+}
+
+-- what is known of what serves, as a look needs it
+looked_of : {source : Source} {p : ℕ} {first : Bundle} {looks : List WatchTurn} {a b : WatchState} {g : Serving} {was had : ℕ} (gives : Result Bundle GatherFault) (answer : Looking)
+    → HasWatched source p first looks a b g was had → reloads g.plans.blocks ≡ true → AnswersLook (standing_of g.plans g.published) gives answer
+    → IsLooked p (bundles_of first looks) (times_of g.plans.blocks) (λ last blocks. AnswersLook (record { default_port = p; bundle = last; blocks = blocks; published = length (bundles_of first looks) }) gives answer)
+looked_of {source} {p} {first} {looks} {g = g} gives answer w again answers = record {
+  before = w.earlier;
+  last = g.plans.bundle;
+  last_is = w.last;
+  blocks = g.plans.blocks;
+  accepted = subst (λ (q : ℕ). IsAccepted q g.plans.bundle g.plans.blocks) w.port w.is.accepted;
+  again = again;
+  at = refl;
+  is = subst (λ (n : ℕ). AnswersLook (record { default_port = p; bundle = g.plans.bundle; blocks = g.plans.blocks; published = n }) gives answer) (sym w.count)
+      (subst (λ (q : ℕ). AnswersLook (record { default_port = q; bundle = g.plans.bundle; blocks = g.plans.blocks; published = g.published }) gives answer) w.port answers);
+}
+
+-- the wait for a look at what serves
+abbrev pub Waits : Serving → WatchState → WatchState → Type 0
+Waits g b mid = AddsWatch b mid (Look (times_of g.plans.blocks).interval (times_of g.plans.blocks).jitter ∷ [])
+
+-- the looks with one more
+pub record Again (source : Source) (p : ℕ) (first : Bundle) (looks : List WatchTurn) (a c : WatchState) (h : Serving) (was has : ℕ) : Type 0 where
+  pub look : WatchTurn
+  pub watched : HasWatched source p first (looks ++ look ∷ []) a c h was has
+
+-- a further look behind which nothing else serves
+same_serves : {source : Source} {p : ℕ} {first : Bundle} {looks : List WatchTurn} {a b c : WatchState} {g h : Serving} {was had has : ℕ} (look : WatchTurn)
+    → HasWatched source p first looks a b g was had → published_by look ≡ [] → h ≡ g → AddsWatch b c (watch_marks look) → IsLook source p (bundles_of first looks) look → RoseJust (look_starved look) had has
+    → Again source p first looks a c h was has
+same_serves {source} {p} {first} {looks} {a} {b} {c} {g} {h} {was} {had} {has} look w none same adds is rose =
+    let nothing : bundles_of first looks ++ published_by look ≡ bundles_of first looks =
+    ap (λ (l : List Bundle). bundles_of first looks ++ l) none ∙ append-nil (bundles_of first looks) in
+    record {
+      look = look;
+      watched = extends look w.earlier w adds is
+          (ap length nothing ∙ w.count ∙ ap (λ (x : Serving). x.published) (sym same))
+          (nothing ∙ w.last ∙ ap (λ (x : Serving). w.earlier ++ x.plans.bundle ∷ []) (sym same))
+          (ap (λ (x : Serving). x.plans.default_port) same ∙ w.port)
+          (subst (λ (x : Serving). ArePlans x.plans) (sym same) w.is)
+          (subst (λ (x : Serving). AreFilledBy (bundles_of first looks ++ published_by look) p x.filled) (sym same) (subst (λ (l : List Bundle). AreFilledBy l p g.filled) (sym nothing) w.filled))
+          rose;
+    }
+
+-- a look that published nothing
+kept : {source : Source} {p : ℕ} {first : Bundle} {looks : List WatchTurn} {a b : WatchState} {g : Serving} {was had : ℕ} (answer : Looking) (mid c : WatchState) (h : Serving) (has : ℕ)
+    → HasWatched source p first looks a b g was had → Waits g b mid → (over : LooksOver source g h mid c answer) → published_by (looked (times_of g.plans.blocks) over.reads over.gives answer over.flag) ≡ [] → h ≡ g → has ≡ had
+    → Again source p first looks a c h was has
+kept {g = g} answer mid c h has w waits over none same none_starved =
+    same_serves (looked (times_of g.plans.blocks) over.reads over.gives answer over.flag) w none same (watch-adds-then waits over.told)
+    (over.gathers, looked_of over.gives answer w over.again over.answers) (record { least = omega (arith, none_starved); most = omega (arith, none_starved) })
+
+-- a look that published
+published_look : {source : Source} {p : ℕ} {first : Bundle} {looks : List WatchTurn} {a b : WatchState} {g : Serving} {was had : ℕ} (serial : ℕ) (mid c : WatchState) (h : Serving) (has : ℕ) (reads : List OneRead) (gives : Result Bundle GatherFault) (flag : Bool)
+    → HasWatched source p first looks a b g was had → Waits g b mid → reloads g.plans.blocks ≡ true → GathersFrom source reads gives → AddsWatch mid c (look_marks reads (looking.Published serial) flag)
+    → AnswersLook (standing_of g.plans g.published) gives (looking.Published serial) → ServesGathered g h gives → has ≡ had
+    → Again source p first looks a c h was has
+published_look {source} {p} {first} {looks} {a} {b} {g} {was} {had} serial mid c h has reads (Ok bundle) flag w waits again gathers told answers replaces none_starved = record {
+  look = looked (times_of g.plans.blocks) reads (Ok bundle) (looking.Published serial) flag;
+  watched = extends (looked (times_of g.plans.blocks) reads (Ok bundle) (looking.Published serial) flag) (bundles_of first looks) w (watch-adds-then waits told)
+      (gathers, looked_of (Ok bundle) (looking.Published serial) w again answers)
+      (let r = replaces.published in let n = w.count in omega (arith, length-more (bundles_of first looks) bundle, r, n))
+      (ap (λ (b : Bundle). bundles_of first looks ++ b ∷ []) (sym replaces.bundle_is))
+      (replaces.port ∙ w.port) replaces.are
+      (subst (AreFilledBy (bundles_of first looks ++ bundle ∷ []) p) (sym replaces.filled)
+      (filled-push (bundles_of first looks) bundle p g.filled replaces.chains w.filled (of_plans h.plans bundle p replaces.chains replaces.bundle_is (replaces.port ∙ w.port) replaces.serve)))
+      (record { least = omega (arith, none_starved); most = omega (arith, none_starved) });
+}
+published_look serial mid c h has reads (Err fault) flag w waits again gathers told answers replaces none_starved = absurd replaces
+
+-- a look that met want of memory
+starved_look : {source : Source} {p : ℕ} {first : Bundle} {looks : List WatchTurn} {a b : WatchState} {g : Serving} {was had : ℕ} (mid c : WatchState) (h : Serving) (has : ℕ)
+    → HasWatched source p first looks a b g was had → Waits g b mid → Starves source g h mid c → has ≡ raised had
+    → Again source p first looks a c h was has
+starved_look {source} {p} {first} {looks} {a} {b} {g} {was} {had} mid c h has w waits starves want =
+    same_serves (starved (times_of g.plans.blocks) starves.gathered.tells.reads starves.gathered.gives) w refl starves.same (watch-adds-then waits starves.gathered.tells.told) (
+      starves.gathered.tells.gathers,
+      record {
+        before = w.earlier;
+        last = g.plans.bundle;
+        last_is = w.last;
+        blocks = g.plans.blocks;
+        accepted = subst (λ (q : ℕ). IsAccepted q g.plans.bundle g.plans.blocks) w.port w.is.accepted;
+        again = starves.again;
+        at = refl;
+        is = tt;
+      },
+    ) (record { least = omega (arith, want); most = omega (arith, want) })
+
+by_answer : {source : Source} {p : ℕ} {first : Bundle} {looks : List WatchTurn} {a b : WatchState} {g : Serving} {was had : ℕ} (answer : Looking) (mid c : WatchState) (h : Serving) (has : ℕ)
+    → HasWatched source p first looks a b g was had → Waits g b mid → LooksOnce source g h mid c answer → answer ≢ looking.NoReload
+    → has ≡ starved_by answer had → Again source p first looks a c h was has
+by_answer looking.NoReload mid c h has w waits looks made rose = absurd (made refl)
+by_answer (looking.ReadFailed name) mid c h has w waits looks made rose = kept (looking.ReadFailed name) mid c h has w waits looks refl looks.behind rose
+by_answer looking.Same mid c h has w waits looks made rose = kept looking.Same mid c h has w waits looks refl looks.behind rose
+by_answer (looking.Refused why) mid c h has w waits looks made rose = kept (looking.Refused why) mid c h has w waits looks refl looks.behind rose
+by_answer (looking.PortsDiffer ports others) mid c h has w waits looks made rose = kept (looking.PortsDiffer ports others) mid c h has w waits looks refl looks.behind rose
+by_answer looking.SerialsSpent mid c h has w waits looks made rose = kept looking.SerialsSpent mid c h has w waits looks refl looks.behind rose
+by_answer (looking.AllPinned one two three) mid c h has w waits looks made rose = kept (looking.AllPinned one two three) mid c h has w waits looks refl looks.behind rose
+by_answer (looking.Published serial) mid c h has w waits looks made rose =
+    published_look serial mid c h has looks.reads looks.gives looks.flag w waits looks.again looks.gathers looks.told looks.answers looks.behind rose
+by_answer looking.NoMemory mid c h has w waits looks made rose = starved_look mid c h has w waits looks rose
+
+-- what a watcher did since the start
+pub record Watched (source : Source) (start now : WatcherState) : Type 0 where
+  pub looks : List WatchTurn
+  pub so : HasWatched source start.serving.plans.default_port start.serving.plans.bundle looks start.watch now.watch now.serving start.starved now.starved
+
+-- a further look, by what the watcher's step came to
+pub looks_on : (source : Source) (start before after : WatcherState) → Watched source start before → TakesLook source before after None → Watched source start after
+looks_on source start before after w again =
+    let more = by_answer again.answer again.waited after.watch after.serving after.starved w.so again.looked again.looks again.made again.starved_is in
+    record { looks = w.looks ++ more.look ∷ []; so = more.watched }
+
+same_journal : (journal : Option (List WatchMark)) → OnSome journal (journal ≡ watch_added journal [])
+same_journal None = tt
+same_journal (Some marks) = ap Some (sym (append-nil marks))
+
+watch-adds-nothing : (state : WatchState) → AddsWatch state state []
+watch-adds-nothing state = record { told = same_journal state.journal }
+
+-- nothing was looked at yet
+pub starts : (source : Source) (start : WatcherState) → ArePlans start.serving.plans → start.serving.published ≡ 1 → length start.serving.filled ≡ 1 → EndsWith start.serving.filled start.serving.plans
+    → Watched source start start
+starts source start is one long ends = record {
+  looks = [];
+  so = record {
+    told = watch-adds-nothing start.watch;
+    are = tt;
+    count = sym one;
+    earlier = [];
+    last = refl;
+    port = refl;
+    is = is;
+    filled = subst (AreFilledBy (start.serving.plans.bundle ∷ []) start.serving.plans.default_port) (sym ends.last_is)
+        (first_filled start.serving.plans ends.earlier ends.chains (sym (ap length ends.last_is) ∙ long) ends.serve);
+    starved = record { least = omega arith; most = omega arith };
+  };
+}

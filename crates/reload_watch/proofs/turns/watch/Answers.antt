@@ -1,0 +1,27 @@
+use Rattle.std.proofs.Common.{rules, refl, ◌∙◌}
+use Rattle.reload_watch.specs.States.{source_data, watcher_state}
+use Rattle.reload_watch.proofs.Watching.{looks_on, starts}
+use Rattle.reload_watch.proofs.turns.watch.Goals as goal
+
+pub loop-init : goal.loop-init
+loop-init g c = record {
+  can_next = search rules;
+  finite = search rules;
+  keeping = search rules;
+  own = search rules;
+  workers = refl;
+  watched = let k = c.requires.keeping in starts (source_data c.args.source) (watcher_state g.W.PatternMaker.state c.args.watcher.now) k.are c.requires.first (k.count ∙ c.requires.first) k.current;
+  stays = search rules;
+}
+
+pub loop-preserved : goal.loop-preserved
+loop-preserved g c = record {
+  can_next = search rules;
+  finite = search rules;
+  keeping = search rules;
+  own = search rules;
+  workers = c.in_default.ensures.workers ∙ c.loop.invariant.workers;
+  watched = looks_on (source_data c.args.source) (watcher_state g.W.PatternMaker.state c.args.watcher.now) (watcher_state g.W.PatternMaker.state c.loop.watcher)
+      (watcher_state g.W.PatternMaker.state c.take_look.new.watcher) c.loop.invariant.watched c.in_default.ensures.takes;
+  stays = search rules;
+}

@@ -1,0 +1,264 @@
+-- One look for a changed configuration: what it answers, the marks that it leaves, and what serves
+-- behind it. This server's own rule. The answers are tried in the order in which they stand here.
+use Rattle.std.specs.Prelude.{◌≡◌, ◌≢◌, ◌<◌, ◌⊎◌, ℕ, ◌+◌, Bool, true, false}
+use Rattle.std.specs.Prelude.{List, [], ◌∷◌, ◌++◌, Result, Ok, Err}
+use Rattle.std.specs.List.{All}
+use Rattle.dns_data.specs.declared.block.Block.{Block}
+use Rattle.pin_core.specs.declared.slots.TheConstants as pins
+use Rattle.pin_table.specs.declared.free_slots.FreeSlot.TheVariants as found
+use Rattle.pin_table.specs.declared.free_slots.Left.{Left}
+use Rattle.pin_table.specs.declared.views.Plan.{Plan}
+use Rattle.pin_table.specs.{IsFreed, IsPinnedSlot}
+use Rattle.outside.specs.declared.mark.WatchMark.{WatchMark}
+use Rattle.outside.specs.declared.mark.WatchMark.TheVariants.{Noted, Published}
+use Rattle.outside.specs.Causes.{raised}
+use Rattle.outside.specs.States.{WatchState}
+use Rattle.outside.specs.WatchMarks.{AddsWatch}
+use Rattle.corefile_blocks.specs.declared.bundle.Bundle.{Bundle}
+use Rattle.corefile_blocks.specs.Ports.{ArePorts}
+use Rattle.corefile_bundle.specs.declared.fault.GatherFault.{GatherFault}
+use Rattle.corefile_bundle.specs.declared.fault.GatherFault.TheVariants as unread
+use Rattle.corefile_bundle.specs.Gathering.{GathersFrom, OneRead, Source, marks_of}
+use Rattle.chain_build.specs.declared.chain.Chain.{Chain}
+use Rattle.chain_build.specs.{ArePlans, PlansData, plans_of}
+use Rattle.reload_watch.specs.declared.found.Found.{Found}
+use Rattle.reload_watch.specs.declared.found.Found.TheVariants.{Kept, Next}
+use Rattle.reload_watch.specs.declared.looking.Looking.{Looking}
+use Rattle.reload_watch.specs.declared.looking.Looking.TheVariants as looking
+use Rattle.chain_meaning.specs.Accepting.{IsAccepted}
+use Rattle.reload_watch.specs.Messages.{look_text}
+use Rattle.reload_watch.specs.Opening.{GathersThat, Refuses}
+use Rattle.reload_watch.specs.Reloads.{reloads}
+use Rattle.reload_watch.specs.States.{Serving}
+
+-- two lists of blocks have the same ports
+pub record SamePorts (a b : List Block) : Type 0 where
+  pub ports : List ℕ
+  pub first : ArePorts a ports
+  pub second : ArePorts b ports
+
+-- what serves, as far as a look's answer depends on it: the bundle, its blocks with this default
+-- port, and how many generations were published
+pub record Standing : Type 0 where
+  pub default_port : ℕ
+  pub bundle : Bundle
+  pub blocks : List Block
+  pub published : ℕ
+
+abbrev pub standing_of : PlansData → ℕ → Standing
+standing_of plans published = record {
+  default_port = plans.default_port;
+  bundle = plans.bundle;
+  blocks = plans.blocks;
+  published = published;
+}
+
+-- the gathering gave a bundle that is accepted and isn't the one that serves
+pub record GaveOther (standing : Standing) (gives : Result Bundle GatherFault)
+    (P : List Block → Type 0) : Type 0 where
+  pub bundle : Bundle
+  pub got : gives ≡ Ok bundle
+  pub differs : bundle ≢ standing.bundle
+  pub blocks : List Block
+  pub accepted : IsAccepted standing.default_port bundle blocks
+  pub is : P blocks
+
+-- another bundle could be published, and each of these slots had open pins
+pub record FoundPinned (standing : Standing) (other : List Block) (first second third : Left)
+    : Type 0 where
+  pub ports : SamePorts other standing.blocks
+  pub few : standing.published < pins.MOST_SERIALS
+  pub one : IsPinnedSlot first
+  pub two : IsPinnedSlot second
+  pub three : IsPinnedSlot third
+
+-- what a look answers where the gathering came to this
+abbrev pub AnswersLook : Standing → Result Bundle GatherFault → Looking → Type 0
+AnswersLook standing gives looking.NoReload = ⊥
+AnswersLook standing gives (looking.ReadFailed name) = gives ≡ Err (unread.ReadFailed name)
+AnswersLook standing gives looking.Same = gives ≡ Ok standing.bundle
+AnswersLook standing gives (looking.Refused why) =
+    Refuses standing.default_port gives why × (gives ≢ Ok standing.bundle)
+AnswersLook standing gives (looking.PortsDiffer kept read) =
+    GaveOther standing gives
+    (λ other. ArePorts standing.blocks kept × ArePorts other read × (kept ≢ read))
+AnswersLook standing gives looking.SerialsSpent =
+    GaveOther standing gives
+    (λ other. SamePorts other standing.blocks × (standing.published ≡ pins.MOST_SERIALS))
+AnswersLook standing gives (looking.AllPinned first second third) =
+    GaveOther standing gives (λ other. FoundPinned standing other first second third)
+AnswersLook standing gives (looking.Published serial) =
+    GaveOther standing gives
+    (λ other. SamePorts other standing.blocks
+    × (standing.published < pins.MOST_SERIALS) × (serial ≡ standing.published))
+AnswersLook standing gives looking.NoMemory = ⊥
+
+-- an empty line is not noted
+abbrev pub note_marks : List ℕ → Bool → List WatchMark
+note_marks [] flag = []
+note_marks (byte ∷ bytes) flag = Noted (byte ∷ bytes) flag ∷ []
+
+abbrev pub publication : Looking → List WatchMark
+publication (looking.Published serial) = Published serial ∷ []
+publication other = []
+
+-- the marks of a look: its reads, its publication, and the line that notes it, with whether that
+-- went out
+abbrev pub look_marks : List OneRead → Looking → Bool → List WatchMark
+look_marks reads answer flag =
+    marks_of reads ++ (publication answer ++ note_marks (look_text answer) flag)
+
+-- a further generation serves: the bundle that was read, by a chain for each worker
+pub record Replaces (old new : Serving) (bundle : Bundle) : Type 0 where
+  pub published : new.published ≡ old.published + 1
+  pub chains : List Chain
+  pub filled : new.filled ≡ old.filled ++ chains ∷ []
+  pub serve : All (λ chain. plans_of chain ≡ new.plans) chains
+  pub bundle_is : new.plans.bundle ≡ bundle
+  pub port : new.plans.default_port ≡ old.plans.default_port
+  pub are : ArePlans new.plans
+
+-- what serves behind a gathering that is published
+abbrev pub ServesGathered : Serving → Serving → Result Bundle GatherFault → Type 0
+ServesGathered old new (Ok bundle) = Replaces old new bundle
+ServesGathered old new (Err fault) = ⊥
+
+-- what serves behind a look
+abbrev pub ServesBehind : Serving → Serving → Result Bundle GatherFault → Looking
+    → Type 0
+ServesBehind old new gives (looking.Published serial) = ServesGathered old new gives
+ServesBehind old new gives other = new ≡ old
+
+-- a look by its answer, over what serves
+pub record LooksOver (source : Source) (old new : Serving) (before after : WatchState)
+    (answer : Looking) : Type 0 where
+  pub reads : List OneRead
+  pub gives : Result Bundle GatherFault
+  pub gathers : GathersFrom source reads gives
+  pub flag : Bool
+  pub told : AddsWatch before after (look_marks reads answer flag)
+  pub answers : AnswersLook (standing_of old.plans old.published) gives answer
+  pub behind : ServesBehind old new gives answer
+  pub again : reloads old.plans.blocks ≡ true
+
+-- a look that met want of memory
+pub record Starves (source : Source) (old new : Serving) (before after : WatchState)
+    : Type 0 where
+  pub gathered : GathersThat source before after (λ gives. Unit {0})
+  pub same : new ≡ old
+  pub again : reloads old.plans.blocks ≡ true
+
+-- what a gathering comes to before anything is published: an answer, or what is to serve next. No
+-- answer here depends on how many generations were published, which is 0 for all of them.
+abbrev pub AnswersKept : PlansData → Result Bundle GatherFault → Looking → Type 0
+AnswersKept plans gives looking.NoReload = ⊥
+AnswersKept plans gives (looking.ReadFailed name) =
+    AnswersLook (standing_of plans 0) gives (looking.ReadFailed name)
+AnswersKept plans gives looking.Same = AnswersLook (standing_of plans 0) gives looking.Same
+AnswersKept plans gives (looking.Refused why) =
+    AnswersLook (standing_of plans 0) gives (looking.Refused why)
+AnswersKept plans gives (looking.PortsDiffer kept read) =
+    AnswersLook (standing_of plans 0) gives (looking.PortsDiffer kept read)
+AnswersKept plans gives looking.SerialsSpent = ⊥
+AnswersKept plans gives (looking.AllPinned first second third) = ⊥
+AnswersKept plans gives (looking.Published serial) = ⊥
+AnswersKept plans gives looking.NoMemory = Unit {0}
+
+-- the plans were made of the bundle that was read, which isn't what serves, and have the same ports
+pub record IsNext (current : PlansData) (gives : Result Bundle GatherFault) (plans : PlansData)
+    : Type 0 where
+  pub got : gives ≡ Ok plans.bundle
+  pub differs : plans.bundle ≢ current.bundle
+  pub port : plans.default_port ≡ current.default_port
+  pub are : ArePlans plans
+  pub ports : SamePorts plans.blocks current.blocks
+
+abbrev pub Finds : PlansData → Result Bundle GatherFault → Found → Type 0
+Finds current gives (Kept answer) = AnswersKept current gives answer
+Finds current gives (Next plans) = IsNext current gives plans
+
+-- the line of an answer was noted
+pub record IsNoted (before after : WatchState) (answer : Looking) : Type 0 where
+  pub flag : Bool
+  pub told : AddsWatch before after (note_marks (look_text answer) flag)
+
+-- a line was noted, unless it is empty
+pub record NotesLine (before after : WatchState) (line : List ℕ) : Type 0 where
+  pub flag : Bool
+  pub told : AddsWatch before after (note_marks line flag)
+
+-- the line of an answer is noted; without memory for it the answer is want of memory
+pub record NotesLook (before after : WatchState) (answer result : Looking) : Type 0 where
+  pub either : ((result ≡ answer) × IsNoted before after answer)
+      ⊎ ((result ≡ looking.NoMemory) × AddsWatch before after [])
+
+-- the plans serve from now on under this serial, and that was noted
+pub record IsPublishedNext (old new : Serving) (before after : WatchState) (plans : PlansData)
+    (serial : ℕ) : Type 0 where
+  pub few : old.published < pins.MOST_SERIALS
+  pub serial_is : serial ≡ old.published
+  pub replaces : Replaces old new plans.bundle
+  pub flag : Bool
+  pub told : AddsWatch before after (Published serial
+      ∷ note_marks (look_text (looking.Published serial)) flag)
+
+-- no slot was free, and that was noted
+pub record IsPinnedNext (old : Serving) (before after : WatchState) (first second third : Left)
+    : Type 0 where
+  pub few : old.published < pins.MOST_SERIALS
+  pub one : IsPinnedSlot first
+  pub two : IsPinnedSlot second
+  pub three : IsPinnedSlot third
+  pub noted : IsNoted before after (looking.AllPinned first second third)
+
+abbrev pub PublishesNext : Serving → Serving → WatchState → WatchState → PlansData → Looking
+    → Type 0
+PublishesNext old new before after plans looking.NoReload = ⊥
+PublishesNext old new before after plans (looking.ReadFailed name) = ⊥
+PublishesNext old new before after plans looking.Same = ⊥
+PublishesNext old new before after plans (looking.Refused why) = ⊥
+PublishesNext old new before after plans (looking.PortsDiffer kept read) = ⊥
+PublishesNext old new before after plans looking.SerialsSpent =
+    (old.published ≡ pins.MOST_SERIALS) × (new ≡ old) × IsNoted before after looking.SerialsSpent
+PublishesNext old new before after plans (looking.AllPinned first second third) =
+    (new ≡ old) × IsPinnedNext old before after first second third
+PublishesNext old new before after plans (looking.Published serial) =
+    IsPublishedNext old new before after plans serial
+PublishesNext old new before after plans looking.NoMemory = (new ≡ old) × AddsWatch before after []
+
+-- no look is made
+pub record LooksNoMore (old new : Serving) (before after : WatchState) : Type 0 where
+  pub told : AddsWatch before after []
+  pub same : new ≡ old
+  pub no_reload : reloads old.plans.blocks ≡ false
+
+-- what a look answers and leaves
+abbrev pub LooksOnce : Source → Serving → Serving → WatchState → WatchState
+    → Looking → Type 0
+LooksOnce source old new before after looking.NoReload = LooksNoMore old new before after
+LooksOnce source old new before after (looking.ReadFailed name) =
+    LooksOver source old new before after (looking.ReadFailed name)
+LooksOnce source old new before after looking.Same =
+    LooksOver source old new before after looking.Same
+LooksOnce source old new before after (looking.Refused why) =
+    LooksOver source old new before after (looking.Refused why)
+LooksOnce source old new before after (looking.PortsDiffer kept read) =
+    LooksOver source old new before after (looking.PortsDiffer kept read)
+LooksOnce source old new before after looking.SerialsSpent =
+    LooksOver source old new before after looking.SerialsSpent
+LooksOnce source old new before after (looking.AllPinned first second third) =
+    LooksOver source old new before after (looking.AllPinned first second third)
+LooksOnce source old new before after (looking.Published serial) =
+    LooksOver source old new before after (looking.Published serial)
+LooksOnce source old new before after looking.NoMemory = Starves source old new before after
+
+-- where no slot was free, that is what a search for one came to in this call
+abbrev pub SearchesFirst : Plan Chain → Plan Chain → Looking → Type 0
+SearchesFirst before after (looking.AllPinned first second third) =
+    (home : List Chain) × IsFreed before [] (found.AllPinned first second third) home after
+SearchesFirst before after answer = Unit {0}
+
+-- how the count of looks that met want of memory goes on
+abbrev pub starved_by : Looking → ℕ → ℕ
+starved_by looking.NoMemory starved = raised starved
+starved_by answer starved = starved

@@ -1,0 +1,55 @@
+-- The reads that give the first bundle. This server's own rule.
+use Rattle.std.specs.Prelude.{◌≡◌, ℕ, List, Result, Ok, Err}
+use Rattle.outside.specs.declared.mark.WatchMark.{WatchMark}
+use Rattle.outside.specs.Causes.{Rose}
+use Rattle.outside.specs.States.{WatchState}
+use Rattle.corefile_blocks.specs.declared.bundle.Bundle.{Bundle}
+use Rattle.corefile_bundle.specs.declared.fault.GatherFault.{GatherFault}
+use Rattle.corefile_bundle.specs.declared.fault.GatherFault.TheVariants as unread
+use Rattle.corefile_bundle.specs.Gathering.{GathersFrom, OneRead, Source, TellsGathering, marks_of}
+use Rattle.chain_build.specs.{ArePlans, PlansData}
+use Rattle.reload_watch.specs.declared.first.FirstFault.{FirstFault}
+use Rattle.reload_watch.specs.declared.first.FirstFault.TheVariants as fault
+use Rattle.chain_meaning.specs.declared.refusal.Refusal.{Refusal}
+use Rattle.chain_meaning.specs.declared.refusal.Refusal.TheVariants as refusal
+use Rattle.chain_meaning.specs.Accepting.{bundle_says}
+
+-- the reads of a gathering, whatever it came to
+pub record IsReading (source : Source) (journal : List WatchMark) : Type 0 where
+  pub reads : List OneRead
+  pub gives : Result Bundle GatherFault
+  pub gathers : GathersFrom source reads gives
+  pub is : journal ≡ marks_of reads
+
+-- a gathering that was told, and a fact of what it came to
+pub record GathersThat (source : Source) (before after : WatchState)
+    (P : Result Bundle GatherFault → Type 0) : Type 0 where
+  pub gives : Result Bundle GatherFault
+  pub tells : TellsGathering source before after gives
+  pub is : P gives
+
+-- what a gathering gave is refused for this
+abbrev pub Refuses : ℕ → Result Bundle GatherFault → Refusal → Type 0
+Refuses default_port (Ok bundle) why = bundle_says default_port bundle ≡ Err why
+Refuses default_port (Err unread.NoCorefile) why = why ≡ refusal.NoCorefile
+Refuses default_port (Err (unread.ReadFailed name)) why = ⊥
+Refuses default_port (Err (unread.TooMany what number)) why = why ≡ refusal.TooMany what number
+Refuses default_port (Err unread.NoMemory) why = ⊥
+
+-- what the first bundle serves by, and the marks that its reading adds to the watch's journal
+pub record ReadsPlans (source : Source) (default_port : ℕ) (old new : WatchState)
+    (plans : PlansData) : Type 0 where
+  pub tells : TellsGathering source old new (Ok plans.bundle)
+  pub port : plans.default_port ≡ default_port
+  pub are : ArePlans plans
+
+-- what reading the first bundle answers
+abbrev pub ReadsFirst : Source → ℕ → WatchState → WatchState → Result PlansData FirstFault → Type 0
+ReadsFirst source default_port old new (Ok plans) = ReadsPlans source default_port old new plans
+ReadsFirst source default_port old new (Err (fault.Refused why)) =
+    GathersThat source old new (λ gives. Refuses default_port gives why)
+ReadsFirst source default_port old new (Err (fault.ReadFailed name)) =
+    TellsGathering source old new (Err (unread.ReadFailed name))
+    × Rose old.counts.reads new.counts.reads
+ReadsFirst source default_port old new (Err fault.NoMemory) =
+    GathersThat source old new (λ gives. Unit {0})

@@ -1,0 +1,46 @@
+-- One step of the watcher: it waits for a look and makes it, or says why there is none. This
+-- server's own rule.
+use Rattle.std.specs.Prelude.{◌≡◌, ◌≢◌, true, false, [], ◌∷◌, Option, Some, None}
+use Rattle.outside.specs.declared.mark.WatchMark.TheVariants.{Look, End}
+use Rattle.outside.specs.States.{WatchState}
+use Rattle.outside.specs.WatchMarks.{AddsWatch}
+use Rattle.corefile_bundle.specs.Gathering.{Source}
+use Rattle.reload_watch.specs.declared.looking.Looking.{Looking}
+use Rattle.reload_watch.specs.declared.looking.Looking.TheVariants as looking
+use Rattle.reload_watch.specs.declared.turns.WatchEnd.{WatchEnd}
+use Rattle.reload_watch.specs.declared.turns.WatchEnd.TheVariants as ends
+use Rattle.reload_watch.specs.Look.{LooksOnce, starved_by}
+use Rattle.reload_watch.specs.Reloads.{reloads, times_of}
+use Rattle.reload_watch.specs.States.{WatcherState}
+
+-- a look was made, and counted where it met want of memory
+pub record LooksAgain (source : Source) (before after : WatcherState) : Type 0 where
+  pub waited : WatchState
+  pub looked : AddsWatch before.watch waited (Look (times_of before.serving.plans.blocks).interval
+      (times_of before.serving.plans.blocks).jitter ∷ [])
+  pub answer : Looking
+  pub looks : LooksOnce source before.serving after.serving waited after.watch answer
+  pub made : answer ≢ looking.NoReload
+  pub starved_is : after.starved ≡ starved_by answer before.starved
+
+-- no look was made: what serves and what was counted stay
+pub record MakesNoLook (before after : WatcherState) : Type 0 where
+  pub serving : after.serving ≡ before.serving
+  pub starved : after.starved ≡ before.starved
+
+-- the watch has ended
+pub record WatchEnds (before after : WatcherState) : Type 0 where
+  pub told : AddsWatch before.watch after.watch (End ∷ [])
+  pub again : reloads before.serving.plans.blocks ≡ true
+  pub stays : MakesNoLook before after
+
+-- what serves is not to be looked at again
+pub record ReloadsNoMore (before after : WatcherState) : Type 0 where
+  pub told : AddsWatch before.watch after.watch []
+  pub no_reload : reloads before.serving.plans.blocks ≡ false
+  pub stays : MakesNoLook before after
+
+abbrev pub TakesLook : Source → WatcherState → WatcherState → Option WatchEnd → Type 0
+TakesLook source before after None = LooksAgain source before after
+TakesLook source before after (Some ends.End) = WatchEnds before after
+TakesLook source before after (Some ends.NoReload) = ReloadsNoMore before after

@@ -1,0 +1,46 @@
+ghost use Rattle.outside.specs.States.{WatchStays};
+ghost use Rattle.reload_watch.specs.Opening.{ReadsFirst};
+ghost use Rattle.reload_watch.specs.States.{source_data};
+
+use crate::source::Source;
+use chain_build::{CheckFault, Plans, check};
+use chain_meaning::Refusal;
+use corefile_bundle::{GatherFault, gather};
+use dns_data::Text;
+use outside::Watch;
+use std::alloc::Global;
+
+/// Why there is no first configuration.
+#[derive(Debug, Drop)]
+pub enum FirstFault {
+    Refused(Refusal),
+    /// The file of this name could not be read.
+    ReadFailed(Text),
+    NoMemory,
+}
+
+/// Reads the first bundle over a watch, and what it serves by.
+pub fn read_first<W: Watch>(
+    alloc: Global,
+    watch: &mut W,
+    source: Source<'_>,
+    default_port: u16,
+) -> Result<Plans, FirstFault>
+    ensures reads { ReadsFirst (source_data source.entry) default_port
+        (W.state watch.old) (W.state watch.new) result }
+    ensures stays { WatchStays (W.state watch.old) (W.state watch.new) }
+{
+    match gather(alloc, watch, source.conf, source.env) {
+        Ok(bundle) => match check(alloc, bundle, default_port) {
+            Ok(plans) => Ok(plans),
+            Err(CheckFault::Refused(why)) => Err(FirstFault::Refused(why)),
+            Err(CheckFault::NoMemory) => Err(FirstFault::NoMemory),
+        },
+        Err(GatherFault::NoCorefile) => Err(FirstFault::Refused(Refusal::NoCorefile)),
+        Err(GatherFault::ReadFailed { name }) => Err(FirstFault::ReadFailed(name)),
+        Err(GatherFault::TooMany { what, number }) => {
+            Err(FirstFault::Refused(Refusal::TooMany { what, number }))
+        }
+        Err(GatherFault::NoMemory) => Err(FirstFault::NoMemory),
+    }
+}

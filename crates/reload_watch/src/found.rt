@@ -1,0 +1,85 @@
+//! What a gathering comes to, beside what serves.
+ghost use Rattle.std.specs.Prelude.{◌≡◌, ◌≢◌, IfOk, IsTrue, ◌↔◌, Ok};
+ghost use Rattle.corefile_blocks.specs.{IsReadable};
+ghost use Rattle.chain_build.specs.{ArePlans};
+ghost use Rattle.reload_watch.specs.Look.{Finds};
+
+use crate::looking::{Looking, Ports};
+use chain_build::{CheckFault, Plans, check};
+use chain_meaning::Refusal;
+use corefile_blocks::Bundle;
+use corefile_bundle::GatherFault;
+use dns_data::{NoMemory, Seq};
+use std::alloc::Global;
+
+/// What a gathering comes to: the answer of the look, or what is to serve next.
+pub(crate) enum Found {
+    Kept(Looking),
+    Next(Plans),
+}
+
+pub(crate) fn find(alloc: Global, gathered: Result<Bundle, GatherFault>, current: &Plans) -> Found
+    requires current { ArePlans current.now }
+    requires readable { IfOk gathered (λ bundle. IsReadable bundle) }
+    ensures { Finds current.now gathered result }
+{
+    match gathered {
+        Ok(bundle) => compare(alloc, bundle, current),
+        Err(GatherFault::NoCorefile) => Found::Kept(Looking::Refused(Refusal::NoCorefile)),
+        Err(GatherFault::ReadFailed { name }) => Found::Kept(Looking::ReadFailed(name)),
+        Err(GatherFault::TooMany { what, number }) => {
+            Found::Kept(Looking::Refused(Refusal::TooMany { what, number }))
+        }
+        Err(GatherFault::NoMemory) => Found::Kept(Looking::NoMemory),
+    }
+}
+
+// What a bundle comes to.
+fn compare(alloc: Global, bundle: Bundle, current: &Plans) -> Found
+    requires current { ArePlans current.now }
+    requires readable { IsReadable bundle }
+    ensures { Finds current.now (Ok bundle) result }
+{
+    if bundle.equals(&current.bundle) {
+        return Found::Kept(Looking::Same);
+    }
+    match check(alloc, bundle, current.default_port) {
+        Ok(plans) => compare_ports(alloc, plans, current),
+        Err(CheckFault::Refused(refusal)) => Found::Kept(Looking::Refused(refusal)),
+        Err(CheckFault::NoMemory) => Found::Kept(Looking::NoMemory),
+    }
+}
+
+// What the plans of another bundle come to: a reload keeps the ports.
+fn compare_ports(alloc: Global, plans: Plans, current: &Plans) -> Found
+    requires current { ArePlans current.now }
+    requires are { ArePlans plans }
+    requires port { plans.default_port ≡ current.now.default_port }
+    requires differs { plans.bundle ≢ current.now.bundle }
+    ensures { Finds current.now (Ok plans.bundle) result }
+{
+    if is_same_ports(plans.ports.as_slice(), current.ports.as_slice()) {
+        return Found::Next(plans);
+    }
+    let Ok(kept) = copy_ports(alloc, current.ports.as_slice()) else {
+        return Found::Kept(Looking::NoMemory);
+    };
+    Found::Kept(Looking::PortsDiffer {
+        kept,
+        read: plans.ports,
+    })
+}
+
+fn is_same_ports(a: &[u16], b: &[u16]) -> bool
+    ensures { IsTrue result ↔ (a.now ≡ b.now) }
+{
+    a == b
+}
+
+fn copy_ports(alloc: Global, ports: &[u16]) -> Result<Ports, NoMemory>
+    ensures { IfOk result (λ copy. copy ≡ ports.now) }
+{
+    let mut copy = Vec::new(alloc);
+    copy.extend_from_slice(ports)?;
+    Ok(Seq::of(copy))
+}

@@ -1,0 +1,135 @@
+//! The publication of what was read, and the notes of looks.
+ghost use Rattle.std.specs.Prelude.{◌≡◌, ◌≤◌, ◌<◌, ◌*◌, List, [], length};
+ghost use Rattle.std.specs.Vec.{vec_len, vec_capacity};
+ghost use Rattle.outside.specs.States.{WatchStays};
+ghost use Rattle.chain_build.specs.{ArePlans, chain_identity, chain_log};
+ghost use Rattle.pin_table.specs.{AreFilled, AreNew, IsFound, IsFreed, IsFreeSlot};
+ghost use Rattle.pin_table.specs.{IsPublisherOf, SamePublisher, count_of, plan_of};
+ghost use Rattle.std.specs.Arc.{arc_value};
+ghost use Rattle.reload_watch.specs.Keeping.{IsKeeping};
+ghost use Rattle.reload_watch.specs.Look.{NotesLine, NotesLook, PublishesNext, SearchesFirst};
+ghost use Rattle.reload_watch.specs.Publishing.{AddsGeneration, KeepsPast};
+ghost use Rattle.reload_watch.specs.States.{serving_of};
+
+use crate::looking::Looking;
+use crate::watcher::Watcher;
+use chain_build::{Chain, Plans, build};
+use outside::Watch;
+use pin_core::MOST_SERIALS;
+use pin_table::{FreeSlot, PinTable, Published, Publisher};
+use std::alloc::Global;
+use std::sync::Arc;
+
+// Notes the line of an answer, where it has one.
+pub(crate) fn note_look<W: Watch>(alloc: Global, watch: &mut W, looking: Looking) -> Looking
+    ensures notes { NotesLook (W.state watch.old) (W.state watch.new) looking result }
+    ensures stays { WatchStays (W.state watch.old) (W.state watch.new) }
+{
+    let Ok(line) = format!(in alloc; "{looking}") else {
+        return Looking::NoMemory;
+    };
+    note_line(watch, line.as_bytes());
+    looking
+}
+
+// Notes a line that isn't empty. One that doesn't go out changes nothing.
+fn note_line<W: Watch>(watch: &mut W, line: &[u8])
+    ensures notes { NotesLine (W.state watch.old) (W.state watch.new) line.now }
+    ensures stays { WatchStays (W.state watch.old) (W.state watch.new) }
+{
+    if 0 < line.len() {
+        let _ = watch.note(line);
+    }
+}
+
+// Publishes plans, unless serials are spent or all slots pinned. The chains and the line are made
+// first, so that want of memory publishes nothing.
+pub(crate) fn publish_next<W: Watch>(
+    alloc: Global,
+    watcher: &mut Watcher<W>,
+    table: &PinTable<Chain>,
+    plans: Plans,
+) -> Looking
+    requires keeping { IsKeeping table.now watcher.old }
+    requires are { ArePlans plans }
+    requires port { plans.default_port ≡ (arc_value watcher.old.current).default_port }
+    ensures keeping { IsKeeping table.now watcher.new }
+    ensures own { SamePublisher watcher.old.publisher watcher.new.publisher }
+    ensures workers { watcher.new.workers ≡ watcher.old.workers }
+    ensures publishes { PublishesNext (serving_of watcher.old) (serving_of watcher.new)
+        (W.state watcher.old.watch) (W.state watcher.new.watch) plans result }
+    ensures searches { SearchesFirst (plan_of watcher.old.publisher)
+        (plan_of watcher.new.publisher) result }
+    ensures starved { watcher.new.starved ≡ watcher.old.starved }
+    ensures stays { WatchStays (W.state watcher.old.watch) (W.state watcher.new.watch) }
+{
+    let serial = table.published(&watcher.publisher);
+    if serial >= MOST_SERIALS {
+        return note_look(alloc, &mut watcher.watch, Looking::SerialsSpent);
+    }
+    let Ok(next) = Arc::new(alloc, plans) else {
+        return Looking::NoMemory;
+    };
+    let Ok(chains) = build(alloc, &next, serial, watcher.workers) else {
+        return Looking::NoMemory;
+    };
+    let looking = Looking::Published(serial);
+    let Ok(line) = format!(in alloc; "{looking}") else {
+        return Looking::NoMemory;
+    };
+    match free_slot(table, &mut watcher.publisher, &mut watcher.home) {
+        FreeSlot::Free(slot) => {
+            publish(table, &mut watcher.publisher, slot, chains);
+            watcher.current = next;
+            watcher.watch.saw_published(serial);
+            note_line(&mut watcher.watch, line.as_bytes());
+            looking
+        }
+        FreeSlot::AllPinned(first, second, third) => {
+            let pinned = Looking::AllPinned(first, second, third);
+            note_look(alloc, &mut watcher.watch, pinned)
+        }
+    }
+}
+
+// Sweeps the slots of replaced generations, lets go what came home, and gives a free slot.
+fn free_slot(
+    table: &PinTable<Chain>,
+    publisher: &mut Publisher<Chain>,
+    home: &mut Vec<Chain>,
+) -> FreeSlot
+    requires own { IsPublisherOf table.now publisher.old }
+    requires none { (home.old.items ≡ []) × (vec_len home.old ≡ 0) }
+    requires room { 3 * (plan_of publisher.old).workers ≤ vec_capacity home.old }
+    ensures own { SamePublisher publisher.old publisher.new }
+    ensures keeps { KeepsPast (plan_of publisher.old) (plan_of publisher.new) }
+    ensures freed { (came : List Chain)
+        × IsFreed (plan_of publisher.old) [] result came (plan_of publisher.new) }
+    ensures found { IsFound result (plan_of publisher.new) }
+    ensures none { (home.new.items ≡ []) × (vec_len home.new ≡ 0) }
+    ensures room { vec_capacity home.new ≡ vec_capacity home.old }
+{
+    let found = table.free_slot(publisher, home);
+    home.clear();
+    found
+}
+
+// Publishes chains in a free slot, where serials are left.
+fn publish(table: &PinTable<Chain>, publisher: &mut Publisher<Chain>, slot: u32, chains: Vec<Chain>)
+    requires own { IsPublisherOf table.now publisher.old }
+    requires few { count_of (plan_of publisher.old) < MOST_SERIALS }
+    requires free { IsFreeSlot (plan_of publisher.old) slot }
+    requires chains { length chains.items ≡ (plan_of publisher.old).workers }
+    requires tagged { let serial = count_of (plan_of publisher.old) in
+        AreNew chain_identity chain_log serial 0 chains.items }
+    requires filled { AreFilled chain_identity chain_log 0 (plan_of publisher.old).past.filled }
+    ensures own { SamePublisher publisher.old publisher.new }
+    ensures filled { AreFilled chain_identity chain_log 0 (plan_of publisher.new).past.filled }
+    ensures published { AddsGeneration (plan_of publisher.old) chains.items
+        (plan_of publisher.new) }
+{
+    match table.publish(publisher, slot, chains) {
+        Published::Ok(_) => {}
+        Published::SerialsSpent(_) => unreachable!(),
+    }
+}

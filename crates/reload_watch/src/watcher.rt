@@ -1,0 +1,19 @@
+use chain_build::{Chain, Plans};
+use pin_table::Publisher;
+use std::sync::Arc;
+
+/// A watcher: its watch, the publisher of the table from which the workers pin their chains, and
+/// what it has counted so far.
+#[derive(Drop)]
+pub struct Watcher<W> {
+    pub watch: W,
+    pub publisher: Publisher<Chain>,
+    /// How many workers pin, each a chain of its own.
+    pub workers: u64,
+    /// What serves: that of the last publication.
+    pub current: Arc<Plans>,
+    /// Where the chains of replaced generations come home; with room for those of four.
+    pub home: Vec<Chain>,
+    /// How many looks met want of memory.
+    pub starved: u64,
+}

@@ -1,6 +1,6 @@
 -- What a connection gives over its whole life, however its bytes were cut: the frames of the bytes
 -- that came, in order, and of the rest it has all (RFC 1035, section 4.2.2).
-use Rattle.std.proofs.Common.{◌≡◌, ℕ, List, [], ◌∷◌, ◌++◌, append_assoc, sym, ap, ◌∙◌, refl}
+use Rattle.std.proofs.Common.{◌≡◌, ℕ, List, [], ◌∷◌, ◌++◌, append_assoc, sym, ap, ◌∙◌}
 use Rattle.std.proofs.lemmas.List.{append-nil}
 use Rattle.stream_wire.specs.{framed}
 use Rattle.edge_net.specs.Connections.{ConnectionData, with_more, GivesMessage}

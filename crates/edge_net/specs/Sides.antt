@@ -1,5 +1,5 @@
 -- What a real side is at a moment: its counts, and nothing told. This server's own rule.
-use Rattle.std.specs.Prelude.{ℕ, None}
+use Rattle.std.specs.Prelude.{None}
 use Rattle.outside.specs.{SideState}
 use Rattle.edge_net.specs.declared.tally.Tally.{Tally}
 

@@ -2,7 +2,6 @@
 -- This server's own rule.
 use Rattle.std.specs.Prelude.{ℕ, List, ◌++◌, codes}
 use Rattle.std.specs.Fmt.{decimal}
-use Rattle.dns_data.specs.declared.message.Transport.{Transport}
 use Rattle.dns_data.specs.declared.message.Transport.TheVariants.{Udp, Tcp}
 use Rattle.edge_net.specs.declared.why.Why.{Why}
 use Rattle.edge_net.specs.declared.why.Why.TheVariants as why

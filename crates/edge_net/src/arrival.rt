@@ -4,6 +4,8 @@ use crate::sender::Client;
 #[derive(Clone, Copy, Debug, PartialEq, Eq)]
 pub enum Arrival {
     Got(Client),
+    /// No message came, as far as it waits: a second.
+    Nothing,
     Failed,
     NoMemory,
 }

@@ -3,6 +3,7 @@ ghost use Rattle.edge_net.specs.Sides.{no_tally, side_state};
 
 use crate::arrival::Arrival;
 use crate::clock::moment;
+use crate::crew::Crew;
 use crate::lines::{count, note_line};
 use crate::pause::longer;
 use crate::tally::Tally;
@@ -14,8 +15,7 @@ use outside::{Datagram, Outcome, Received, Seen, Side, Upstream, Wrote};
 use std::alloc::Global;
 use std::random::RandomSource;
 use std::rt::Files;
-use std::sync::Arc;
-use std::sync::atomic::{AtomicU64, Ordering};
+use std::sync::{Arc, Wait};
 use std::time::{Clock, Duration};
 use std::{mem, thread};
 
@@ -37,7 +37,7 @@ impl End {
 
 /// A worker's side over sockets. It tells no journal and no script, and counts its failing calls.
 #[derive(Drop)]
-pub struct NetSide<R: Clock + RandomSource + Eprint + Files + Drop> {
+pub struct NetSide<R: Wait + Clock + RandomSource + Eprint + Files + Drop> {
     rt: R,
     alloc: Global,
     end: End,
@@ -47,23 +47,17 @@ pub struct NetSide<R: Clock + RandomSource + Eprint + Files + Drop> {
     spare: Bytes,
     // How long it waited behind the last receive, where that failed, in milliseconds.
     pause: u64,
-    // How many sides have not left yet.
-    live: Arc<AtomicU64, Global>,
+    // The sides of the run.
+    crew: Arc<Crew, Global>,
     tally: Tally,
 }
 
-impl<R: Clock + RandomSource + Eprint + Files + Drop> NetSide<R> {
-    /// A side at a port. `live` counts the sides that have not left.
-    pub fn new(
-        rt: R,
-        alloc: Global,
-        end: End,
-        local: u16,
-        live: Arc<AtomicU64, Global>,
-    ) -> NetSide<R>
+impl<R: Wait + Clock + RandomSource + Eprint + Files + Drop> NetSide<R> {
+    /// A side at a port, one of a crew.
+    pub fn new(rt: R, alloc: Global, end: End, local: u16, crew: Arc<Crew, Global>) -> NetSide<R>
         ensures { result.tally ≡ no_tally }
     {
-        live.fetch_add(1, Ordering::SeqCst);
+        crew.join();
         NetSide {
             rt,
             alloc,
@@ -71,28 +65,28 @@ impl<R: Clock + RandomSource + Eprint + Files + Drop> NetSide<R> {
             local,
             spare: Bytes::new(alloc),
             pause: 0,
-            live,
+            crew,
             tally: Tally::new(),
         }
     }
 }
 
-impl<R: Clock + RandomSource + Eprint + Files + Drop> Side for NetSide<R> {
+impl<R: Wait + Clock + RandomSource + Eprint + Files + Drop> Side for NetSide<R> {
     ghost state = { λ s. side_state s.tally };
 
     ghost quiet = { λ _. tt };
 
     ghost answered = { λ _. tt };
 
-    /// Behind a failure it waits, up to 100 milliseconds behind many in a row.
+    /// Behind a failure it waits, up to 100 milliseconds behind many in a row. It ends once another
+    /// side has left and no message is there.
     fn recv(&mut self) -> Received {
         let mut bytes = mem::replace(&mut self.spare, Bytes::new(self.alloc));
-        let arrival = match &mut self.end {
-            End::Udp(end) => end.recv(&self.rt, &mut bytes),
-            End::Tcp(end) => end.recv(&self.rt, &mut bytes),
-        };
-        match arrival {
+        match await_message(&self.rt, &mut self.end, &self.crew, &mut bytes) {
             Arrival::Got(client) => {
+                if bytes.as_slice().is_empty() && self.crew.is_ending() {
+                    return Received::End;
+                }
                 self.pause = 0;
                 Received::Got(Datagram {
                     bytes,
@@ -102,6 +96,7 @@ impl<R: Clock + RandomSource + Eprint + Files + Drop> Side for NetSide<R> {
                     local: self.local,
                 })
             }
+            Arrival::Nothing => Received::End,
             Arrival::Failed => {
                 self.spare = bytes;
                 count(&mut self.tally.recv);
@@ -165,9 +160,36 @@ impl<R: Clock + RandomSource + Eprint + Files + Drop> Side for NetSide<R> {
         self.spare = bytes;
     }
 
-    /// The watch answers End once the last side has left.
+    /// The other sides end soon, and the watch answers End once the last side has left.
     fn leave(&mut self) {
         count(&mut self.tally.left);
-        self.live.fetch_sub(1, Ordering::SeqCst);
+        let working = self.crew.leave(&self.rt);
+        if let End::Udp(end) = &self.end {
+            end.poke(working);
+        }
     }
+}
+
+// Waits for the next message. Nothing: another side has left.
+fn await_message<R: Clock + Files>(
+    rt: &R,
+    end: &mut End,
+    crew: &Crew,
+    bytes: &mut Bytes,
+) -> Arrival {
+    for _ in 0..u64::MAX {
+        let arrival = match end {
+            End::Udp(end) => end.recv(rt, bytes),
+            End::Tcp(end) => end.recv(rt, bytes),
+        };
+        match arrival {
+            Arrival::Nothing => {
+                if crew.is_ending() {
+                    return Arrival::Nothing;
+                }
+            }
+            arrival => return arrival,
+        }
+    }
+    Arrival::Failed
 }

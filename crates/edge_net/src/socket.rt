@@ -26,11 +26,12 @@ enum Family {
 }
 
 /// A socket for datagrams at a port, with a receive buffer of 1 MiB where the system grants it. A
-/// receive waits for ten seconds, so that the addresses of the host are looked at now and then.
+/// receive waits for a second, so that the end of a run is seen and the addresses of the host are
+/// looked at now and then.
 pub fn open_udp(_net: &impl Net, port: u16) -> Result<UdpSocket, Why> {
     let socket = UdpSocket::from(open_any(Transport::Udp, port)?);
     widen(&socket);
-    match socket.set_read_timeout(Some(Duration::from_secs(10))) {
+    match socket.set_read_timeout(Some(Duration::from_secs(1))) {
         Ok(()) => Ok(socket),
         Err(fault) => Err(Why::of_error(&fault)),
     }

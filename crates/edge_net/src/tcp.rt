@@ -23,6 +23,9 @@ const PIECE: usize = 16_384;
 // How many events the system tells at once, and how many connections are taken in behind one wait.
 const EVENTS: usize = 256;
 
+// For how long a receive waits, in milliseconds.
+const PATIENCE: u64 = 1_000;
+
 // How many turns there may be before the system is asked again.
 const TURNS: usize = 64;
 
@@ -75,8 +78,10 @@ impl TcpEnd {
         self.crowd.requeue();
         for _ in 0..u64::MAX {
             if self.turns == 0 || self.crowd.ready() == 0 {
-                if self.wait(clock).is_err() {
-                    return Arrival::Failed;
+                match self.wait(clock) {
+                    Ok(true) => {}
+                    Ok(false) => return Arrival::Nothing,
+                    Err(_) => return Arrival::Failed,
                 }
             }
             self.turns = self.turns.saturating_sub(1);
@@ -97,11 +102,14 @@ impl TcpEnd {
         self.crowd.reply(bytes)
     }
 
-    // Asks the system what came, and waits for it where no connection may have a message.
-    fn wait(&mut self, clock: &impl Clock) -> io::Result<()> {
+    // Asks the system what came, and waits for it where no connection may have a message. False
+    // where it waited as long as it may and nothing came.
+    fn wait(&mut self, clock: &impl Clock) -> io::Result<bool> {
         let time = self.patience();
-        self.poll.poll(&mut self.events, time)?;
+        self.poll.poll(&mut self.events, Some(time))?;
+        let mut came = time < Duration::from_millis(PATIENCE);
         for event in &self.events {
+            came = true;
             if event.token() == LISTENER {
                 self.more = true;
             } else {
@@ -114,22 +122,18 @@ impl TcpEnd {
             self.accept(now);
         }
         self.turns = self.crowd.ready().max(TURNS);
-        Ok(())
+        Ok(came)
     }
 
-    // For how long to wait: no time where a connection may have a message, and without limit where
-    // there is nothing to look after.
-    fn patience(&self) -> Option<Duration> {
+    // For how long to wait: no time where a connection may have a message, and a second at most.
+    fn patience(&self) -> Duration {
         if self.more || self.crowd.ready() != 0 {
-            return Some(Duration::from_millis(0));
+            return Duration::from_millis(0);
         }
         if self.failed {
-            return Some(Duration::from_millis(100));
+            return Duration::from_millis(100);
         }
-        if self.crowd.is_empty() {
-            return None;
-        }
-        Some(Duration::from_millis(1_000))
+        Duration::from_millis(PATIENCE)
     }
 
     // Takes the connections in that wait. Where that fails it is tried again a little later.

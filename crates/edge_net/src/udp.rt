@@ -11,7 +11,7 @@ use dns_data::{Addr, Bytes, NoMemory};
 use libc::net as c;
 use libc::types::pollfd;
 use std::alloc::Global;
-use std::net::UdpSocket;
+use std::net::{Ipv4Addr, Ipv6Addr, SocketAddr, UdpSocket};
 use std::os::fd::AsRawFd;
 use std::rt::Files;
 use std::time::Clock;
@@ -22,6 +22,9 @@ const LARGEST: usize = 65_535;
 // The time after which the host's addresses are looked at again, in milliseconds, and how many
 // datagrams may come before the clock is.
 const BETWEEN: u64 = 10_000;
+
+// For how long a receive waits, in milliseconds.
+const PATIENCE: i32 = 1_000;
 
 const ROW: u32 = 64;
 
@@ -67,29 +70,42 @@ impl UdpEnd {
     }
 
     /// Waits for the next datagram, whose bytes come in place of what the message held.
+    #[inline]
     pub fn recv(&mut self, rt: &(impl Clock + Files), message: &mut Bytes) -> Arrival
         ensures { (client : Client) → result ≡ Arrival.Got client
             → client_of self.new.from.bytes self.new.from.len ≡ Some client }
     {
-        for _ in 0..u64::MAX {
-            if self.row == 0 {
-                self.row = ROW;
-                self.look(rt);
-            }
-            self.row = self.row.saturating_sub(1);
-            match self.receive() {
-                Ok((count, client)) => {
-                    message.clear();
-                    return match message.append(&self.packet[..count]) {
-                        Ok(()) => Arrival::Got(client),
-                        Err(_) => Arrival::NoMemory,
-                    };
+        if self.row == 0 {
+            self.row = ROW;
+            self.look(rt);
+        }
+        self.row = self.row.saturating_sub(1);
+        match self.receive() {
+            Ok((count, client)) => {
+                message.clear();
+                match message.append(&self.packet[..count]) {
+                    Ok(()) => Arrival::Got(client),
+                    Err(_) => Arrival::NoMemory,
                 }
-                Err(Unreceived::Nothing) => self.row = 0,
-                Err(Unreceived::Failed) => return Arrival::Failed,
+            }
+            Err(Unreceived::Nothing) => {
+                self.row = 0;
+                Arrival::Nothing
+            }
+            Err(Unreceived::Failed) => Arrival::Failed,
+        }
+    }
+
+    /// Sends empty datagrams to the port from within, so that so many blocked receives go on. Where
+    /// that fails they go on within a second.
+    pub fn poke(&self, count: u64) {
+        let loopback = SocketAddr::from((Ipv6Addr::LOCALHOST, self.port));
+        let fallback = SocketAddr::from((Ipv4Addr::LOCALHOST, self.port));
+        for _ in 0..count.min(64) {
+            if self.socket.send_to(&[], loopback).is_err() {
+                let _ = self.socket.send_to(&[], fallback);
             }
         }
-        Arrival::Failed
     }
 
     /// Replies to the sender of the last datagram, and says whether the system took it.
@@ -190,9 +206,9 @@ fn socket_at<'a>(first: &'a UdpSocket, others: &'a [UdpSocket], at: usize) -> &'
     }
 }
 
-// The next socket behind this one that has a datagram, once one has. Nothing behind ten seconds.
+// The next socket behind this one that has a datagram, once one has. Nothing behind a second.
 fn next_ready(asked: &mut [pollfd], at: usize) -> Result<usize, Unreceived> {
-    let polled = c::poll(asked, BETWEEN as i32);
+    let polled = c::poll(asked, PATIENCE);
     if polled < 0 {
         return Err(Unreceived::Failed);
     }

@@ -1,7 +1,7 @@
-pub mod Answering
-pub mod Generating
+pub mod Each
+pub mod Ended
 pub mod Joining
-pub mod Looks
+pub mod Leaving
+pub mod Opened
 pub mod Openings
-pub mod Working
-pub mod Watching
+pub mod Starting

@@ -1,15 +1,14 @@
 -- How a run opens and ends.
-use Rattle.std.proofs.Common.{◌≡◌, ◌≢◌, ◌≤◌, ℕ, zero, suc, ◌*◌, List, [], ◌∷◌, ◌++◌, length, get_or, Option, Some, None, Result, Ok, Err, refl, sym, ap, subst, ◌∙◌, inl, inr, arith}
+use Rattle.std.proofs.Common.{◌≡◌, ◌≢◌, ℕ, suc, List, [], ◌∷◌, ◌++◌, length, get_or, Option, Some, None, Result, Ok, Err, append-nil, refl, sym, ap, subst, ◌∙◌, inl, inr, arith, ◌⊎◌}
 use Rattle.std.specs.Prelude.{IfSome, codes}
 use Rattle.std.specs.List.{flat_map, AllByRecursion}
 use Rattle.std.proofs.lemmas.List.Concat.{flat_map-cons}
 use Rattle.dns_data.specs.declared.block.Block.{Block}
-use Rattle.dns_data.specs.declared.message.Transport.TheVariants.{Udp}
 use Rattle.outside.specs.declared.mark.WatchMark.{WatchMark}
 use Rattle.outside.specs.declared.mark.WatchMark.TheVariants.{Published}
-use Rattle.outside.specs.Causes.{Rose, RoseJust, HostCounts, WatchCounts}
-use Rattle.outside.specs.Hosts.{HostState, OpenedSide, SupplyData, AddsHost, IsFreshWatch, OpensOneSide, OpensTheWatch, TakesSide, TakesWatch, all_told, no_telling, told_watch}
-use Rattle.outside.specs.Journals.{host-adds-nothing, host-adds-then, watch-adds-then, watch_tells_since}
+use Rattle.outside.specs.Causes.{Rose, HostCounts, WatchCounts}
+use Rattle.outside.specs.Hosts.{HostState, OpenedSide, SupplyData, AddsHost, FailsToOpen, IsFreshWatch, OpensNothing, OpensTheWatch, TakesWatch, all_told, no_telling, told_watch}
+use Rattle.outside.specs.Journals.{host-adds-nothing, host-adds-then, rose_failed, watch-adds-then, watch_tells_since}
 use Rattle.outside.specs.Script.{SideScriptData}
 use Rattle.outside.specs.States.{SideState, WatchState}
 use Rattle.outside.specs.WatchMarks.{AddsWatch}
@@ -18,23 +17,23 @@ use Rattle.corefile_blocks.specs.declared.bundle.Bundle.{Bundle}
 use Rattle.corefile_bundle.specs.declared.fault.GatherFault.{GatherFault}
 use Rattle.corefile_bundle.specs.declared.fault.GatherFault.TheVariants as unread
 use Rattle.corefile_bundle.specs.Gathering.{GathersFrom, OneRead, Source, TellsGathering, marks_of}
-use Rattle.chain_build.specs.declared.chain.Chain.{Chain}
-use Rattle.dns_server.specs.declared.first.FirstFault.{FirstFault}
-use Rattle.dns_server.specs.declared.first.FirstFault.TheVariants as fault
-use Rattle.dns_server.specs.declared.looking.Looking.{Looking}
-use Rattle.dns_server.specs.declared.looking.Looking.TheVariants as looking
+use Rattle.chain_build.specs.{ArePlans, PlansData}
+use Rattle.chain_meaning.specs.Accepting.{IsAccepted}
+use Rattle.chain_meaning.specs.declared.refusal.Refusal.{Refusal}
+use Rattle.reload_watch.specs.declared.first.FirstFault.{FirstFault}
+use Rattle.reload_watch.specs.declared.first.FirstFault.TheVariants as fault
+use Rattle.reload_watch.specs.declared.looking.Looking.{Looking}
+use Rattle.reload_watch.specs.declared.looking.Looking.TheVariants as looking
+use Rattle.reload_watch.specs.Look.{AnswersLook, Standing}
+use Rattle.reload_watch.specs.{AreLooks, EndsWatch, IsReading, ReadsFirst, ReadsPlans, TellsLooks, bundles_of, published_by, watch_marks}
+use Rattle.reload_watch.specs.WatchTurn.{WatchTurn, IsLook, gathered, looked, published_as, starved}
 use Rattle.dns_server.specs.declared.status.Status.{Status}
 use Rattle.dns_server.specs.declared.status.Status.TheVariants as status
-use Rattle.chain_meaning.specs.Accepting.{IsAccepted}
-use Rattle.dns_server.specs.Look.{AnswersLook, Standing}
-use Rattle.chain_meaning.specs.declared.refusal.Refusal.{Refusal}
-use Rattle.dns_server.specs.Opening.{IsReading, ReadsFirst, ReadsChain, RefusesSides, endpoints_of}
-use Rattle.dns_server.specs.Report.{RunData, CauseOf, Finishes, IsEndStatus, IsFirstStatus, IsServed, ReadGave, RunsBehind, RunsCommand, Supplies, SuppliesOnlySides, SuppliesSides, TellsRun, WasAccepted, opened_by, stopped_run}
-use Rattle.dns_server.specs.States.{LookState, RunSetup, SideRun}
-use Rattle.dns_server.specs.Rounds.{EndsWatch}
-use Rattle.chain_build.specs.Chains.{IsChain}
-use Rattle.dns_server.specs.WatchRun.{Tells, TellsLooks}
-use Rattle.dns_server.specs.WatchTurn.{WatchTurn, looked, starved, watch_marks, gathered, published_as, published_by, bundles_of, all_starved, AreLooks, IsLook}
+use Rattle.dns_server.specs.Opening.{BeginsSides, OpensAll, OpensSome, RefusesSides, TakesSides, scripts_of, sides_of, told_sides}
+use Rattle.dns_server.specs.Report.{RunData, CauseOf, Finishes, IsEndStatus, IsFirstStatus, IsServed, Left, ReadGave, RunsBehind, RunsCommand, Supplies, WasAccepted, opened_by, stopped_run}
+use Rattle.dns_server.specs.States.{RunSetup, SideRun}
+use Rattle.dns_server.specs.WatchRun.{Tells}
+use Rattle.dns_server.proofs.Opened.{none_taken}
 
 first_byte : List (List ℕ) → ℕ
 first_byte [] = 0
@@ -63,50 +62,53 @@ gave : (setup : RunSetup) (old new : WatchState) (how : Status) (gives : Result 
 gave setup old new how gives P fresh tells is =
     record { reads = tells.reads; read = watch_tells_since fresh tells.told; gives = gives; gathers = tells.gathers; is = is }
 
--- nothing was taken from the supply
-nothing_taken : (before after : Option SupplyData) → after ≡ before → SuppliesOnlySides before after []
-nothing_taken None after same = same
-nothing_taken (Some before) None same = absurd cc
-nothing_taken (Some before) (Some after) same =
-    let is : after ≡ before = cc in
-    (ap (λ (x : SupplyData). x.watch) is, record { taken = []; before_is = sym (ap (λ (x : SupplyData). x.sides) is); scripts = refl })
-
 -- a run that stopped before it served, behind the opening of its watch
-pub stops : {setup : RunSetup} {before after : HostState} (how : Status) (watch back : WatchState) → back.script ≡ watch.script → Tells (Some back) (IsReading setup.source)
-    → AddsHost before after no_telling → after.supply ≡ before.supply → CauseOf how setup (stopped_run how (Some back)) before.counts after.counts
+pub stops_open : {setup : RunSetup} {before after : HostState} (how : Status) (watch back : WatchState) (places : List OpenedSide) (scripts : List (Option SideScriptData))
+    → back.script ≡ watch.script → Tells (Some back) (IsReading setup.source)
+    → (places ≡ []) ⊎ BeginsSides setup.default_port setup.workers places → length scripts ≡ length places
+    → AddsHost before after (told_sides places) → TakesSides before.supply after.supply scripts → CauseOf how setup (stopped_run how (Some back)) before.counts after.counts
     → RunsBehind setup (stopped_run how (Some back)) watch before after
-stops {setup} {before} {after} how watch back script opening told supply cause = record {
+stops_open {setup} {before} {after} how watch back places scripts script opening wanted each told supply cause = record {
   served = record {
     bundles = [];
     count = refl;
     accepted = tt;
-    back = back;
+    handed = back;
     watch_is = refl;
     script = script;
     looks = [];
     watched = (refl, refl, opening);
-    endpoints = [];
-    opened = refl;
+    places = places;
+    opened = wanted;
     told = told;
-    supplied = nothing_taken before.supply after.supply supply;
-    one_each = refl;
+    scripts = scripts;
+    supplied = supply;
+    one_each = each;
+    back = inl (refl, refl);
     sides = tt;
   };
   cause = cause;
 }
 
-end_cause : (setup : RunSetup) (before after : HostCounts) (watch : Option WatchState) (side : SideRun) (published starving : ℕ) (how : Status) → published ≢ 0 → IsEndStatus side.worked.end side.worked.starved starving how
-    → CauseOf how setup (record { status = how; sides = side ∷ []; watch = watch; published = published; starved = starving }) before after
-end_cause setup before after watch side published starving status.Usage some is = absurd is
-end_cause setup before after watch side published starving (status.ReadFailed name) some is = absurd is
-end_cause setup before after watch side published starving status.OpenFailed some is = absurd is
-end_cause setup before after watch side published starving status.TellFailed some is = absurd is
-end_cause setup before after watch side published starving (status.Refused refusal) some is = absurd is
-end_cause setup before after watch side published starving status.NoMemory some is = tt
-end_cause setup before after watch side published starving status.WorkerFailed some is =
-    record { sides = (record { end = inr is.0; none_starved = is.1 }, tt); none_starved = is.2; some = inl is.0 }
-end_cause setup before after watch side published starving status.Ended some is =
-    record { sides = (record { end = is.0; none_starved = is.1 }, tt); none_starved = is.2; nothing = λ e. absurd (some e) }
+-- a run that stopped before it opened a side
+pub stops : {setup : RunSetup} {before after : HostState} (how : Status) (watch back : WatchState) → back.script ≡ watch.script → Tells (Some back) (IsReading setup.source)
+    → AddsHost before after no_telling → after.supply ≡ before.supply → CauseOf how setup (stopped_run how (Some back)) before.counts after.counts
+    → RunsBehind setup (stopped_run how (Some back)) watch before after
+stops {setup} {before} {after} how watch back script opening told supply cause =
+    stops_open how watch back [] [] script opening (inl refl) refl told (none_taken before.supply after.supply supply) cause
+
+end_cause : (setup : RunSetup) (before after : HostCounts) (watch : Option WatchState) (sides : List SideRun) (published starving : ℕ) (how : Status) → published ≢ 0 → IsEndStatus sides starving how
+    → CauseOf how setup (record { status = how; sides = sides; watch = watch; published = published; starved = starving }) before after
+end_cause setup before after watch sides published starving status.Usage some is = absurd is
+end_cause setup before after watch sides published starving (status.ReadFailed name) some is = absurd is
+end_cause setup before after watch sides published starving status.OpenFailed some is = absurd is
+end_cause setup before after watch sides published starving status.TellFailed some is = absurd is
+end_cause setup before after watch sides published starving (status.Refused refusal) some is = absurd is
+end_cause setup before after watch sides published starving status.NoMemory some is = tt
+end_cause setup before after watch sides published starving status.WorkerFailed some is =
+    record { sides = is.0; none_starved = is.2; some = is.1 }
+end_cause setup before after watch sides published starving status.Ended some is =
+    record { sides = is.0; none_starved = is.1; nothing = λ e. absurd (some e) }
 
 -- what a look publishes is accepted
 gathered_accepted : (default_port : ℕ) (gives : Result Bundle GatherFault) (bundle : Bundle) (blocks : List Block) → gives ≡ Ok bundle → IsAccepted default_port bundle blocks → AllByRecursion (IsServed default_port) (gathered gives)
@@ -123,13 +125,14 @@ answer_accepted standing gives looking.Same is = tt
 answer_accepted standing gives (looking.Refused why) is = tt
 answer_accepted standing gives (looking.PortsDiffer ports others) is = tt
 answer_accepted standing gives looking.SerialsSpent is = tt
+answer_accepted standing gives (looking.AllPinned one two three) is = tt
 answer_accepted standing gives (looking.Published serial) is = gathered_accepted standing.default_port gives is.bundle is.blocks is.got is.accepted
 answer_accepted standing gives looking.NoMemory is = tt
 
 look_accepted : (source : Source) (default_port : ℕ) (bundles : List Bundle) (look : WatchTurn) → IsLook source default_port bundles look → AllByRecursion (IsServed default_port) (published_by look)
-look_accepted source default_port bundles (looked reads gives answer flag) is =
+look_accepted source default_port bundles (looked times reads gives answer flag) is =
     answer_accepted (record { default_port = default_port; bundle = is.1.last; blocks = is.1.blocks; published = length bundles }) gives answer is.1.is
-look_accepted source default_port bundles (starved reads gives) is = tt
+look_accepted source default_port bundles (starved times reads gives) is = tt
 
 both_accepted : (default_port : ℕ) (xs ys : List Bundle) → AllByRecursion (IsServed default_port) xs → AllByRecursion (IsServed default_port) ys → AllByRecursion (IsServed default_port) (xs ++ ys)
 both_accepted default_port [] ys first then = then
@@ -147,77 +150,48 @@ tells_looks : (source : Source) (default_port : ℕ) (first : Bundle) (looks : L
 tells_looks source default_port first looks ending None reads gathers told ends = tt
 tells_looks source default_port first looks ending (Some journal) reads gathers told ends = record { reads = reads; gathers = gathers; ending = ending; told = told; ends = ends }
 
--- one side was taken from the supply
-one_taken : (before after : Option SupplyData) (script : Option SideScriptData) (side : SideRun) → TakesSide before after script → side.state.script ≡ script → SuppliesOnlySides before after (side ∷ [])
-one_taken None after script side takes same = takes
-one_taken (Some before) None script side takes same = absurd (let is = takes.3 in cc)
-one_taken (Some before) (Some after) script side takes same =
-    let is : after ≡ record before { sides = takes.1 } = let e = takes.3 in cc in (
-      ap (λ (x : SupplyData). x.watch) is,
-      record {
-        taken = takes.0 ∷ [];
-        before_is = takes.2 ∙ ap (λ (l : List SideScriptData). takes.0 ∷ l) (sym (ap (λ (x : SupplyData). x.sides) is));
-        scripts = ap (λ (s : Option SideScriptData). s ∷ []) (same ∙ takes.4);
-      },
-    )
-
--- at least one worker a port makes no fewer sides than ports
-fewer : (ports workers : ℕ) → 1 ≤ workers → ports * workers ≤ 1 → ports ≤ 1
-fewer zero workers some few = omega arith
-fewer (suc zero) workers some few = omega arith
-fewer (suc (suc ports)) workers some few = absurd (omega (arith, some, few))
-
-pub one_worker : (ports others : List ℕ) (port workers : ℕ) → ports ≡ port ∷ others → 1 ≤ workers → length ports * workers ≤ 1 → 1 ≡ workers
-one_worker [] others port workers are some few = absurd cc
-one_worker (p ∷ ports) others port workers are some few = omega (arith, some, few)
-
-pub empty_ports : (ports : List ℕ) → length ports ≡ 0 → ports ≡ []
-empty_ports [] none = refl
-empty_ports (port ∷ ports) none = absurd (omega (arith, none))
-
--- one port
-pub one_port : (ports others : List ℕ) (port workers : ℕ) → ports ≡ port ∷ others → 1 ≤ workers → length ports * workers ≤ 1 → ports ≡ port ∷ []
-one_port ports [] port workers are some few = are
-one_port ports (other ∷ others) port workers are some few =
-    absurd (let size = ap length are in let one = fewer (length ports) workers some few in omega (arith, size, one))
+scripts_count : (l : List SideState) → length (scripts_of l) ≡ length l
+scripts_count [] = refl
+scripts_count (x ∷ l) = ap suc (scripts_count l)
 
 -- a run that served
-pub serves : (setup : RunSetup) (before after : HostState) (how : Status) (fresh_watch read_watch : WatchState) (start end : LookState) (port : ℕ) (opened : SideState) (side : SideRun)
-    → IsChain start.serving.chain → start.serving.chain.default_port ≡ setup.default_port → start.serving.chain.ports ≡ port ∷ [] → IsFreshWatch fresh_watch → start.watcher.starved ≡ 0
-    → TellsGathering setup.source fresh_watch read_watch (Ok start.serving.chain.bundle) → AddsWatch read_watch start.watcher.watch (Published 0 ∷ []) → end.watcher.watch.script ≡ fresh_watch.script
-    → OpensOneSide before after (record { port = port; by = Udp; number = 0 }) opened → side.state.script ≡ opened.script
-    → Finishes setup start end side → IsEndStatus side.worked.end side.worked.starved end.watcher.starved how
-    → RunsBehind setup (record { status = how; sides = side ∷ []; watch = Some end.watcher.watch; published = end.serving.published; starved = end.watcher.starved }) fresh_watch before after
-serves setup before after how fresh_watch read_watch start end port opened side is same ports_are fresh none tells published script opens side_script by stands =
-    let chain = start.serving.chain in
-    let accepted : IsAccepted setup.default_port chain.bundle chain.blocks = subst (λ (p : ℕ). IsAccepted p chain.bundle chain.blocks) same is.accepted in
-    let count : length (bundles_of chain.bundle by.looks) ≡ end.serving.published = ap length (sym by.bundles_are) ∙ by.count in
-    let some : end.serving.published ≢ 0 = λ e. omega (arith, e, count) in
-    let told = watch-adds-then tells.told (watch-adds-then published by.told) in
+pub serves : (setup : RunSetup) (before after : HostState) (how : Status) (fresh read published : WatchState) (plans : PlansData) (places : List OpenedSide) (sides : List SideState) (left : Left)
+    → IsFreshWatch fresh → read.script ≡ fresh.script → ReadsPlans setup.source setup.default_port fresh read plans → plans.ports ≢ []
+    → AddsWatch read published (Published 0 ∷ []) → published.script ≡ read.script
+    → places ≡ sides_of setup.workers plans.ports → OpensAll before after places sides
+    → Finishes setup plans.bundle sides published left → IsEndStatus left.sides left.starved how
+    → RunsBehind setup (record { status = how; sides = left.sides; watch = Some left.watch; published = left.published; starved = left.starved }) fresh before after
+serves setup before after how fresh read published plans places sides left is_fresh script reads some_ports publishes kept places_are opens by stands =
+    let accepted : IsAccepted setup.default_port plans.bundle plans.blocks = subst (λ (p : ℕ). IsAccepted p plans.bundle plans.blocks) reads.port reads.are.accepted in
+    let count : length (bundles_of plans.bundle by.looks) ≡ left.published = by.count in
+    let some : left.published ≢ 0 = λ e. omega (arith, e, count) in
+    let told = watch-adds-then reads.tells.told (watch-adds-then publishes by.told) in
+    let one_each : length (scripts_of sides) ≡ length places = scripts_count sides ∙ opens.each in
     record {
       served = record {
-        bundles = bundles_of chain.bundle by.looks;
+        bundles = bundles_of plans.bundle by.looks;
         count = count;
-        accepted = (record { blocks = chain.blocks; accepted = accepted }, looks_accepted setup.source setup.default_port (chain.bundle ∷ []) by.looks by.are);
-        back = end.watcher.watch;
+        accepted = (record { blocks = plans.blocks; accepted = accepted }, looks_accepted setup.source setup.default_port (plans.bundle ∷ []) by.looks by.are);
+        handed = left.watch;
         watch_is = refl;
-        script = script;
+        script = by.stays.script ∙ kept ∙ script;
         looks = by.looks;
         watched = record {
           published = refl;
           are = by.are;
-          starved_is = subst (λ (n : ℕ). RoseJust (all_starved by.looks) n end.watcher.starved) none by.starved;
-          told = tells_looks setup.source setup.default_port chain.bundle by.looks by.ending end.watcher.watch.journal tells.reads tells.gathers (watch_tells_since fresh told)
-              (subst (λ (l : List Bundle). EndsWatch setup.default_port l by.ending) by.bundles_are by.ends);
+          starved_is = by.starved;
+          told = tells_looks setup.source setup.default_port plans.bundle by.looks by.ending left.watch.journal reads.tells.reads reads.tells.gathers (watch_tells_since is_fresh told) by.ends;
         };
-        endpoints = record { port = port; by = Udp; number = 0 } ∷ [];
-        opened = record { blocks = chain.blocks; accepted = accepted; ports = chain.ports; ports_are = is.ports; some = λ empty. absurd (let e = sym ports_are ∙ empty in cc); are = sym (ap endpoints_of ports_are) };
+        places = places;
+        opened = record { blocks = plans.blocks; accepted = accepted; ports = plans.ports; ports_are = reads.are.ports; some = some_ports; are = places_are };
         told = opens.told;
-        supplied = one_taken before.supply after.supply opened.script side opens.supply side_script;
-        one_each = refl;
-        sides = (subst (λ (l : List Bundle). TellsRun setup l by.looks side) by.bundles_are by.tells, tt);
+        scripts = scripts_of sides;
+        supplied = opens.supply;
+        one_each = one_each;
+        back = inr by.scripts;
+        sides = by.tell;
       };
-      cause = end_cause setup before.counts after.counts (Some end.watcher.watch) side end.serving.published end.watcher.starved how some stands;
+      cause = end_cause setup before.counts after.counts (Some left.watch) left.sides left.published left.starved how some stands;
     }
 
 -- the first reads gave no chain
@@ -235,55 +209,97 @@ first_stops setup old new fault.NoMemory how host fresh script reads is =
     rw is (stops status.NoMemory old new script (opens_nothing setup.source old new reads.gives fresh reads.tells) (host-adds-nothing host) refl tt)
 
 -- the first bundle is accepted, with these ports
-accepted_ports : (setup : RunSetup) (chain : Chain) (P : List ℕ → Type 0) → chain.default_port ≡ setup.default_port → IsChain chain → P chain.ports → WasAccepted setup (Ok chain.bundle) P
-accepted_ports setup chain P same is holds =
-    record { bundle = chain.bundle; got = refl; blocks = chain.blocks; accepted = subst (λ (p : ℕ). IsAccepted p chain.bundle chain.blocks) same is.accepted; ports = chain.ports; ports_are = is.ports; is = holds }
+accepted_ports : (setup : RunSetup) (plans : PlansData) (P : List ℕ → Type 0) → plans.default_port ≡ setup.default_port → ArePlans plans → P plans.ports → WasAccepted setup (Ok plans.bundle) P
+accepted_ports setup plans P same is holds =
+    record { bundle = plans.bundle; got = refl; blocks = plans.blocks; accepted = subst (λ (p : ℕ). IsAccepted p plans.bundle plans.blocks) same is.accepted; ports = plans.ports; ports_are = is.ports; is = holds }
 
 -- the first chain has no port, so that nothing is to be served
-pub no_port_stops : (setup : RunSetup) (old new : WatchState) (chain : Chain) (host : HostState)
-    → IsFreshWatch old → new.script ≡ old.script → ReadsChain setup.source setup.default_port old new chain → chain.ports ≡ []
+pub no_port_stops : (setup : RunSetup) (old new : WatchState) (plans : PlansData) (host : HostState)
+    → IsFreshWatch old → new.script ≡ old.script → ReadsPlans setup.source setup.default_port old new plans → plans.ports ≡ []
     → RunsBehind setup (stopped_run status.Ended (Some new)) old host host
-no_port_stops setup old new chain host fresh script reads none =
-    stops status.Ended old new script (opens_nothing setup.source old new (Ok chain.bundle) fresh reads.tells) (host-adds-nothing host) refl
+no_port_stops setup old new plans host fresh script reads none =
+    stops status.Ended old new script (opens_nothing setup.source old new (Ok plans.bundle) fresh reads.tells) (host-adds-nothing host) refl
     (record {
       sides = tt;
       none_starved = refl;
       nothing = λ e. record {
         watch = λ f. absurd cc;
-        gave = gave setup old new status.Ended (Ok chain.bundle) _ fresh reads.tells (accepted_ports setup chain (λ ports. ports ≡ []) reads.port reads.is none);
+        gave = gave setup old new status.Ended (Ok plans.bundle) _ fresh reads.tells (accepted_ports setup plans (λ ports. ports ≡ []) reads.port reads.are none);
       };
     })
 
 -- the sides of the first chain are refused
-pub sides_stop : (setup : RunSetup) (old new : WatchState) (chain : Chain) (why : Refusal) (host : HostState)
-    → IsFreshWatch old → new.script ≡ old.script → ReadsChain setup.source setup.default_port old new chain → RefusesSides chain.ports setup.workers why
+pub sides_stop : (setup : RunSetup) (old new : WatchState) (plans : PlansData) (why : Refusal) (host : HostState)
+    → IsFreshWatch old → new.script ≡ old.script → ReadsPlans setup.source setup.default_port old new plans → RefusesSides plans.ports setup.workers why
     → RunsBehind setup (stopped_run (status.Refused why) (Some new)) old host host
-sides_stop setup old new chain why host fresh script reads refused =
-    stops (status.Refused why) old new script (opens_nothing setup.source old new (Ok chain.bundle) fresh reads.tells) (host-adds-nothing host) refl
+sides_stop setup old new plans why host fresh script reads refused =
+    stops (status.Refused why) old new script (opens_nothing setup.source old new (Ok plans.bundle) fresh reads.tells) (host-adds-nothing host) refl
     (record {
       published = refl;
       watch = λ e. absurd cc;
-      why = gave setup old new (status.Refused why) (Ok chain.bundle) _ fresh reads.tells (inr (accepted_ports setup chain (λ ports. RefusesSides ports setup.workers why) reads.port reads.is refused));
+      why = gave setup old new (status.Refused why) (Ok plans.bundle) _ fresh reads.tells (inr (accepted_ports setup plans (λ ports. RefusesSides ports setup.workers why) reads.port reads.are refused));
     })
 
 -- nothing could be opened, or memory ran out, behind the first reads
-pub read_stops : {setup : RunSetup} {old new : WatchState} {chain : Chain} {before after : HostState} (how : Status)
-    → IsFreshWatch old → new.script ≡ old.script → ReadsChain setup.source setup.default_port old new chain → AddsHost before after no_telling → after.supply ≡ before.supply
+pub read_stops : {setup : RunSetup} {old new : WatchState} {plans : PlansData} {before after : HostState} (how : Status)
+    → IsFreshWatch old → new.script ≡ old.script → ReadsPlans setup.source setup.default_port old new plans → AddsHost before after no_telling → after.supply ≡ before.supply
     → CauseOf how setup (stopped_run how (Some new)) before.counts after.counts
     → RunsBehind setup (stopped_run how (Some new)) old before after
-read_stops {setup} {old} {new} {chain} how fresh script reads told supply cause =
-    stops how old new script (opens_nothing setup.source old new (Ok chain.bundle) fresh reads.tells) told supply cause
+read_stops {setup} {old} {new} {plans} how fresh script reads told supply cause =
+    stops how old new script (opens_nothing setup.source old new (Ok plans.bundle) fresh reads.tells) told supply cause
+
+-- the first sides of the first bundle are those of its ports
+begins : (setup : RunSetup) (plans : PlansData) (places others : List OpenedSide) → plans.default_port ≡ setup.default_port → ArePlans plans → plans.ports ≢ [] → sides_of setup.workers plans.ports ≡ places ++ others
+    → BeginsSides setup.default_port setup.workers places
+begins setup plans places others same is some are = record {
+  bundle = plans.bundle;
+  others = others;
+  wants = record { blocks = plans.blocks; accepted = subst (λ (p : ℕ). IsAccepted p plans.bundle plans.blocks) same is.accepted; ports = plans.ports; ports_are = is.ports; some = some; are = sym are };
+}
+
+-- memory ran out behind the opening of the sides
+pub opened_stops : {setup : RunSetup} {old new : WatchState} {plans : PlansData} {before after : HostState} (places others : List OpenedSide) (sides : List SideState) (how : Status)
+    → IsFreshWatch old → new.script ≡ old.script → ReadsPlans setup.source setup.default_port old new plans → plans.ports ≢ []
+    → sides_of setup.workers plans.ports ≡ places ++ others → OpensAll before after places sides
+    → CauseOf how setup (stopped_run how (Some new)) before.counts after.counts
+    → RunsBehind setup (stopped_run how (Some new)) old before after
+opened_stops {setup} {old} {new} {plans} places others sides how fresh script reads some are opens cause =
+    stops_open how old new places (scripts_of sides) script (opens_nothing setup.source old new (Ok plans.bundle) fresh reads.tells)
+    (inr (begins setup plans places others reads.port reads.are some are)) (scripts_count sides ∙ opens.each) opens.told opens.supply cause
+
+told_same : {a b c : HostState} (places : List OpenedSide) → AddsHost a b (told_sides places) → AddsHost b c no_telling → AddsHost a c (told_sides places)
+told_same {a} {c = c} places first none = subst (AddsHost a c) (λ i. record { lines = []; opens = append-nil places i; watches = 0 }) (host-adds-then first none)
+
+-- behind some sides, one failed to open
+pub fails_stops : {setup : RunSetup} {old new : WatchState} {plans : PlansData} {before after : HostState}
+    → IsFreshWatch old → new.script ≡ old.script → ReadsPlans setup.source setup.default_port old new plans → plans.ports ≢ []
+    → (some : OpensSome before after (sides_of setup.workers plans.ports) (λ mid. FailsToOpen mid after))
+    → RunsBehind setup (stopped_run status.OpenFailed (Some new)) old before after
+fails_stops {setup} {old} {new} {plans} {before} {after} fresh script reads ports some =
+    let f = some.fails in
+    let rose : Rose before.counts.opens after.counts.opens = subst (λ (c : HostCounts). Rose c.opens after.counts.opens) some.opens.counts (rose_failed f) in
+    stops_open status.OpenFailed old new some.places (scripts_of some.sides) script (opens_nothing setup.source old new (Ok plans.bundle) fresh reads.tells)
+    (inr (begins setup plans some.places some.others reads.port reads.are ports some.all_are)) (scripts_count some.sides ∙ some.opens.each)
+    (told_same some.places some.opens.told f.told) (subst (λ (s : Option SupplyData). TakesSides before.supply s (scripts_of some.sides)) (sym f.supply) some.opens.supply) (refl, rose)
+
+-- behind some sides, memory ran out
+pub starves_stops : {setup : RunSetup} {old new : WatchState} {plans : PlansData} {before after : HostState}
+    → IsFreshWatch old → new.script ≡ old.script → ReadsPlans setup.source setup.default_port old new plans → plans.ports ≢ []
+    → (some : OpensSome before after (sides_of setup.workers plans.ports) (λ mid. OpensNothing mid after))
+    → RunsBehind setup (stopped_run status.NoMemory (Some new)) old before after
+starves_stops {setup} {old} {new} {plans} {before} {after} fresh script reads ports some =
+    let f = some.fails in
+    stops_open status.NoMemory old new some.places (scripts_of some.sides) script (opens_nothing setup.source old new (Ok plans.bundle) fresh reads.tells)
+    (inr (begins setup plans some.places some.others reads.port reads.are ports some.all_are)) (scripts_count some.sides ∙ some.opens.each)
+    (told_same some.places some.opens.told f.told) (subst (λ (s : Option SupplyData). TakesSides before.supply s (scripts_of some.sides)) (sym f.supply) some.opens.supply) tt
 
 -- the watch could not be opened
-supply_kept : (before after : Option SupplyData) → after ≡ before → (run : RunData) → run.watch ≡ None → run.sides ≡ [] → Supplies before after run
-supply_kept None after same run unopened no_side = same
-supply_kept (Some before) None same run unopened no_side = absurd cc
-supply_kept (Some before) (Some after) same run unopened no_side =
+supply_kept : (before after : Option SupplyData) → after ≡ before → Supplies before after None []
+supply_kept None after same = same
+supply_kept (Some before) None same = absurd cc
+supply_kept (Some before) (Some after) same =
     let is : after ≡ before = cc in
-    record {
-      watch = rw unopened (ap (λ (x : SupplyData). x.watch) is);
-      sides = rw no_side (record { taken = []; before_is = sym (ap (λ (x : SupplyData). x.sides) is); scripts = refl });
-    }
+    record { watch_is = ap (λ (x : SupplyData). x.watch) is; taken = []; before_is = sym (ap (λ (x : SupplyData). x.sides) is); are = refl }
 
 pub not_opened : {setup : RunSetup} {before after : HostState} (how : Status) → AddsHost before after no_telling → after.supply ≡ before.supply
     → CauseOf how setup (stopped_run how None) before.counts after.counts → RunsCommand setup (stopped_run how None) before after
@@ -295,31 +311,35 @@ not_opened {setup} {before} {after} how told supply cause = record {
     watch = λ some. absurd (some refl);
     looks = [];
     watched = (refl, refl, tt);
-    endpoints = [];
-    opened = refl;
+    places = [];
+    opened = inl refl;
     told = told;
-    supplied = supply_kept before.supply after.supply supply (stopped_run how None) refl refl;
+    scripts = [];
+    supplied = supply_kept before.supply after.supply supply;
     one_each = refl;
+    back = inl (refl, refl);
     sides = tt;
   };
   cause = cause;
 }
 
 -- the watch was opened before
-watch_taken : (first before after : Option SupplyData) (watch : WatchState) (run : RunData) (back : WatchState) → run.watch ≡ Some back → back.script ≡ watch.script → TakesWatch first before watch.script
-    → SuppliesOnlySides before after run.sides → Supplies first after run
-watch_taken None before after watch run back is script takes supplied =
+watch_taken : (first before after : Option SupplyData) (watch : WatchState) (handed : Option WatchState) (scripts : List (Option SideScriptData)) (back : WatchState) → handed ≡ Some back → back.script ≡ watch.script
+    → TakesWatch first before watch.script → TakesSides before after scripts → Supplies first after handed scripts
+watch_taken None before after watch handed scripts back is script takes supplied =
     let none : before ≡ None = takes in
-    subst (λ (b : Option SupplyData). SuppliesOnlySides b after run.sides) none supplied
-watch_taken (Some first) None after watch run back is script takes supplied = absurd (let e = takes.2 in cc)
-watch_taken (Some first) (Some before) None watch run back is script takes supplied = absurd supplied
-watch_taken (Some first) (Some before) (Some after) watch run back is script takes supplied =
+    subst (λ (b : Option SupplyData). TakesSides b after scripts) none supplied
+watch_taken (Some first) None after watch handed scripts back is script takes supplied = absurd (let e = takes.2 in cc)
+watch_taken (Some first) (Some before) None watch handed scripts back is script takes supplied = absurd supplied
+watch_taken (Some first) (Some before) (Some after) watch handed scripts back is script takes supplied =
     let mid : before ≡ record first { watch = None } = let e = takes.2 in cc in
     let gone : before.watch ≡ None = ap (λ (x : SupplyData). x.watch) mid in
     let sides : before.sides ≡ first.sides = ap (λ (x : SupplyData). x.sides) mid in
     record {
-      watch = rw is (supplied.0 ∙ gone, script ∙ takes.3 ∙ sym takes.1);
-      sides = subst (λ (l : List SideScriptData). SuppliesSides l after.sides run.sides) sides supplied.1;
+      watch_is = rw is (supplied.watch ∙ gone, script ∙ takes.3 ∙ sym takes.1);
+      taken = supplied.taken;
+      before_is = sym sides ∙ supplied.before_is;
+      are = supplied.are;
     }
 
 opened_told : (watch : Option WatchState) (back : WatchState) (endpoints : List OpenedSide) → watch ≡ Some back → all_told told_watch (opened_by None endpoints) ≡ opened_by watch endpoints
@@ -337,11 +357,13 @@ opened_before {setup} {run} {first} {before} {after} watch opens runs =
         watch = λ some none. let e = behind.watch_is in absurd cc;
         looks = behind.looks;
         watched = behind.watched;
-        endpoints = behind.endpoints;
+        places = behind.places;
         opened = behind.opened;
-        told = subst (AddsHost first after) (opened_told run.watch behind.back behind.endpoints behind.watch_is) (host-adds-then opens.told behind.told);
-        supplied = watch_taken first.supply before.supply after.supply watch run behind.back behind.watch_is behind.script opens.supply behind.supplied;
+        told = subst (AddsHost first after) (opened_told run.watch behind.handed behind.places behind.watch_is) (host-adds-then opens.told behind.told);
+        scripts = behind.scripts;
+        supplied = watch_taken first.supply before.supply after.supply watch run.watch behind.scripts behind.handed behind.watch_is behind.script opens.supply behind.supplied;
         one_each = behind.one_each;
+        back = behind.back;
         sides = behind.sides;
       };
       cause = subst (λ (c : HostCounts). CauseOf run.status setup run c after.counts) opens.counts runs.cause;

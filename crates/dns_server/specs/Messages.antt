@@ -1,9 +1,6 @@
--- The lines that an operator sees: that of each status and of each look. This server's own rule.
+-- The line of each status, as an operator sees it. This server's own rule.
 use Rattle.std.specs.Prelude.{ℕ, List, [], ◌++◌, codes}
-use Rattle.std.specs.Fmt.{decimal}
 use Rattle.chain_meaning.specs.{refusal_text}
-use Rattle.dns_server.specs.declared.looking.Looking.{Looking}
-use Rattle.dns_server.specs.declared.looking.Looking.TheVariants as looking
 use Rattle.dns_server.specs.declared.status.Status.{Status}
 use Rattle.dns_server.specs.declared.status.Status.TheVariants as status
 
@@ -19,15 +16,3 @@ status_text (status.Refused why) = refusal_text why
 status_text status.NoMemory = codes "out of memory"
 status_text status.WorkerFailed = codes "a worker could not receive"
 status_text status.Ended = []
-
--- the line that notes a look, without a line end. A look that changed nothing, or met want of
--- memory, has none.
-abbrev pub look_text : Looking → List ℕ
-look_text looking.NoReload = []
-look_text (looking.ReadFailed name) = codes "reload cannot read " ++ name
-look_text looking.Same = []
-look_text (looking.Refused why) = codes "reload refused: " ++ refusal_text why
-look_text (looking.PortsDiffer kept read) = codes "reload ports differ"
-look_text looking.SerialsSpent = codes "reload serials spent"
-look_text (looking.Published serial) = codes "reload published " ++ decimal serial
-look_text looking.NoMemory = []

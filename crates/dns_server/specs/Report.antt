@@ -1,14 +1,15 @@
 -- What a run reports: how each side worked, what was published, and the cause of its status. This
 -- server's own rule.
-use Rattle.std.specs.Prelude.{◌≡◌, ◌<◌, ◌≢◌, ◌⊎◌, ℕ, List, [], ◌∷◌, ◌++◌, length, map}
+use Rattle.std.specs.Prelude.{◌≡◌, ◌<◌, ◌≢◌, ◌⊎◌, ℕ, nat_lt, Bool, true, false, List, [], ◌∷◌, ◌++◌}
+use Rattle.std.specs.Prelude.{length, map}
 use Rattle.std.specs.Prelude.{Option, None, Some, IfSome, option_map, Result, Ok, Err}
 use Rattle.std.specs.List.{flat_map, AllByRecursion}
 use Rattle.dns_data.specs.declared.limit.TheConstants as limits
 use Rattle.outside.specs.declared.mark.WatchMark.{WatchMark}
 use Rattle.outside.specs.Causes.{Rose, RoseBy, RoseJust, HostCounts}
-use Rattle.outside.specs.Hosts.{HostState, HostTold, OpenedSide, SupplyData, AddsHost}
+use Rattle.outside.specs.Hosts.{HostState, HostTold, IsFreshWatch, OpenedSide, SupplyData, AddsHost}
 use Rattle.outside.specs.Script.{SideScriptData, WatchScriptData}
-use Rattle.outside.specs.States.{SideState, WatchState}
+use Rattle.outside.specs.States.{SideState, WatchState, WatchStays}
 use Rattle.outside.specs.WatchMarks.{AddsWatch}
 use Rattle.corefile_blocks.specs.declared.bundle.Bundle.{Bundle}
 use Rattle.dns_data.specs.declared.block.Block.{Block}
@@ -17,22 +18,25 @@ use Rattle.corefile_blocks.specs.Ports.{ArePorts}
 use Rattle.corefile_bundle.specs.declared.fault.GatherFault.{GatherFault}
 use Rattle.corefile_bundle.specs.declared.fault.GatherFault.TheVariants as unread
 use Rattle.corefile_bundle.specs.Gathering.{GathersFrom, OneRead, marks_of}
-use Rattle.dns_server.specs.declared.first.FirstFault.{FirstFault}
-use Rattle.dns_server.specs.declared.first.FirstFault.TheVariants as fault
+use Rattle.query_worker.specs.declared.worker.WorkEnd.{WorkEnd}
+use Rattle.query_worker.specs.declared.worker.WorkEnd.TheVariants as ends
+use Rattle.query_worker.specs.{IsLawful, WorkerRun}
+use Rattle.reload_watch.specs.declared.first.FirstFault.{FirstFault}
+use Rattle.reload_watch.specs.declared.first.FirstFault.TheVariants as fault
+use Rattle.chain_build.specs.{PlansData}
+use Rattle.reload_watch.specs.WatchTurn.{WatchTurn}
+use Rattle.reload_watch.specs.{AreLooks, EndsWatch, ReadsPlans, Refuses, all_starved}
+use Rattle.reload_watch.specs.{bundles_of}
+use Rattle.reload_watch.specs.{watch_marks}
 use Rattle.dns_server.specs.declared.report.Ran.{Ran}
 use Rattle.chain_meaning.specs.declared.refusal.Refusal.{Refusal}
 use Rattle.dns_server.specs.declared.status.Status.{Status}
 use Rattle.dns_server.specs.declared.status.Status.TheVariants as status
-use Rattle.dns_server.specs.declared.worker.WorkEnd.{WorkEnd}
-use Rattle.dns_server.specs.declared.worker.WorkEnd.TheVariants as ends
 use Rattle.command_line.specs.Command.{ServeData, IsCommand, serve}
 use Rattle.chain_meaning.specs.Accepting.{IsAccepted}
-use Rattle.dns_server.specs.Opening.{OpensSides, Refuses, RefusesSides}
-use Rattle.dns_server.specs.Rounds.{EndsWatch}
-use Rattle.dns_server.specs.States.{RunSetup, LookState, SideRun, setup_of, side_runs}
+use Rattle.dns_server.specs.Opening.{OpensSides, RefusesSides, TakesSides, scripts_of}
+use Rattle.dns_server.specs.States.{RunSetup, SideRun, setup_of, side_runs}
 use Rattle.dns_server.specs.WatchRun.{WatchRun}
-use Rattle.dns_server.specs.WatchTurn.{WatchTurn, watch_marks, bundles_of, all_starved, AreLooks}
-use Rattle.dns_server.specs.Worker.{WorkerRun}
 
 -- what a report has
 pub record RunData : Type 0 where
@@ -54,27 +58,36 @@ run_data side watch ran = record {
 
 -- a side that tells its journal tells a worker's run by the published bundles; a worker that could
 -- not receive met 64 failing calls; and the side was told once that its worker has ended
-pub record TellsRun (setup : RunSetup) (bundles : List Bundle) (looks : List WatchTurn)
-    (side : SideRun) : Type 0 where
-  pub run : IfSome side.state.journal (WorkerRun setup bundles looks side.worked)
+pub record TellsRun (setup : RunSetup) (bundles : List Bundle) (side : SideRun) : Type 0 where
+  pub run : IfSome side.state.journal
+      (WorkerRun (IsLawful bundles setup.default_port) setup.most side.worked)
   pub seen : side.worked.seen < length bundles
   pub failed : side.worked.end ≡ ends.RecvFailed → RoseBy limits.FAILURES 0 side.state.counts.recv
+  pub starved : side.worked.end ≡ ends.NoMemory → 0 < side.worked.starved
   pub left : side.state.left ≡ 1
 
--- a side and a watch that have ended behind the first publication: these looks, and the side's run
--- by them
-pub record Finishes (setup : RunSetup) (before after : LookState) (side : SideRun) : Type 0 where
+-- what the workers and the watcher leave: the sides, the watch, how many generations were
+-- published, and how many looks met want of memory
+pub record Left : Type 0 where
+  pub sides : List SideRun
+  pub watch : WatchState
+  pub published : ℕ
+  pub starved : ℕ
+
+-- workers and a watcher that have ended behind the publication of the first bundle: these looks, and
+-- each side's run by what they published
+pub record Finishes (setup : RunSetup) (first : Bundle) (sides : List SideState)
+    (watch : WatchState) (left : Left) : Type 0 where
   pub looks : List WatchTurn
-  pub bundles : List Bundle
-  pub bundles_are : bundles ≡ bundles_of before.serving.chain.bundle looks
   pub ending : List WatchMark
-  pub told : AddsWatch before.watcher.watch after.watcher.watch
-      (flat_map watch_marks looks ++ ending)
-  pub are : AreLooks setup.source setup.default_port (before.serving.chain.bundle ∷ []) looks
-  pub ends : EndsWatch setup.default_port bundles ending
-  pub count : length bundles ≡ after.serving.published
-  pub starved : RoseJust (all_starved looks) before.watcher.starved after.watcher.starved
-  pub tells : TellsRun setup bundles looks side
+  pub told : AddsWatch watch left.watch (flat_map watch_marks looks ++ ending)
+  pub are : AreLooks setup.source setup.default_port (first ∷ []) looks
+  pub ends : EndsWatch setup.default_port (bundles_of first looks) ending
+  pub count : length (bundles_of first looks) ≡ left.published
+  pub starved : RoseJust (all_starved looks) 0 left.starved
+  pub stays : WatchStays watch left.watch
+  pub scripts : map (λ side. side.state.script) left.sides ≡ scripts_of sides
+  pub tell : AllByRecursion (TellsRun setup (bundles_of first looks)) left.sides
 
 -- each published bundle is accepted
 pub record IsServed (default_port : ℕ) (bundle : Bundle) : Type 0 where
@@ -92,28 +105,25 @@ abbrev pub SuppliesWatch : Option WatchScriptData → Option WatchScriptData →
 SuppliesWatch before after None = after ≡ before
 SuppliesWatch before after (Some watch) = (after ≡ None) × (watch.script ≡ before)
 
--- the sides' scripts are the first that were supplied, in order, and the others are left
-pub record SuppliesSides (before after : List SideScriptData) (sides : List SideRun) : Type 0 where
-  pub taken : List SideScriptData
-  pub before_is : before ≡ taken ++ after
-  pub scripts : map (λ side. side.state.script) sides ≡ map Some taken
-
-pub record SuppliesRun (before after : SupplyData) (run : RunData) : Type 0 where
-  pub watch : SuppliesWatch before.watch after.watch run.watch
-  pub sides : SuppliesSides before.sides after.sides run.sides
-
--- where the host's supply is told, only sides were taken from it
-abbrev pub SuppliesOnlySides : Option SupplyData → Option SupplyData → List SideRun → Type 0
-SuppliesOnlySides None after sides = after ≡ None
-SuppliesOnlySides (Some before) None sides = ⊥
-SuppliesOnlySides (Some before) (Some after) sides =
-    (after.watch ≡ before.watch) × SuppliesSides before.sides after.sides sides
-
 -- where the host's supply is told, what was handed out and what is left of it
-abbrev pub Supplies : Option SupplyData → Option SupplyData → RunData → Type 0
-Supplies None after run = after ≡ None
-Supplies (Some before) None run = ⊥
-Supplies (Some before) (Some after) run = SuppliesRun before after run
+pub record SuppliesRun (before after : SupplyData) (watch : Option WatchState)
+    (scripts : List (Option SideScriptData)) : Type 0 where
+  pub watch_is : SuppliesWatch before.watch after.watch watch
+  pub taken : List SideScriptData
+  pub before_is : before.sides ≡ taken ++ after.sides
+  pub are : scripts ≡ map Some taken
+
+abbrev pub Supplies : Option SupplyData → Option SupplyData → Option WatchState
+    → List (Option SideScriptData) → Type 0
+Supplies None after watch scripts = after ≡ None
+Supplies (Some before) None watch scripts = ⊥
+Supplies (Some before) (Some after) watch scripts = SuppliesRun before after watch scripts
+
+-- a run that published hands back the sides that it opened, whose scripts are these; any other hands
+-- back none
+abbrev pub HandsBack : ℕ → List SideRun → List (Option SideScriptData) → Type 0
+HandsBack published sides scripts =
+    ((published ≡ 0) × (sides ≡ [])) ⊎ (map (λ side. side.state.script) sides ≡ scripts)
 
 -- a run by a command: one list of published bundles stands behind the watch's looks, the sides that
 -- were opened, and each side's journal. A watch that was opened is handed back.
@@ -124,12 +134,14 @@ pub record ServesBy (setup : RunSetup) (run : RunData) (before after : HostState
   pub watch : run.published ≢ 0 → run.watch ≢ None
   pub looks : List WatchTurn
   pub watched : WatchRun setup bundles looks run.watch run.starved
-  pub endpoints : List OpenedSide
-  pub opened : OpensSides setup.default_port bundles endpoints
-  pub told : AddsHost before after (opened_by run.watch endpoints)
-  pub supplied : Supplies before.supply after.supply run
-  pub one_each : length run.sides ≡ length endpoints
-  pub sides : AllByRecursion (TellsRun setup bundles looks) run.sides
+  pub places : List OpenedSide
+  pub opened : OpensSides setup.default_port setup.workers bundles places
+  pub told : AddsHost before after (opened_by run.watch places)
+  pub scripts : List (Option SideScriptData)
+  pub supplied : Supplies before.supply after.supply run.watch scripts
+  pub one_each : length scripts ≡ length places
+  pub back : HandsBack run.published run.sides scripts
+  pub sides : AllByRecursion (TellsRun setup bundles) run.sides
 
 -- the words ask for no serving: they are no command, or `load`, which isn't built
 abbrev pub IsUsage : List (List ℕ) → Type 0
@@ -186,6 +198,16 @@ pub record NeverStarved (side : SideRun) : Type 0 where
   pub end : (side.worked.end ≡ ends.End) ⊎ (side.worked.end ≡ ends.RecvFailed)
   pub none_starved : side.worked.starved ≡ 0
 
+-- whether a worker that counted so much want of memory, and ended so, met any
+abbrev pub is_starved : ℕ → WorkEnd → Bool
+is_starved starved ends.NoMemory = true
+is_starved starved other = nat_lt 0 starved
+
+-- whether a worker could not receive any more
+abbrev pub is_failed : WorkEnd → Bool
+is_failed ends.RecvFailed = true
+is_failed other = false
+
 abbrev pub SomeFailed : List SideRun → Type 0
 SomeFailed [] = ⊥
 SomeFailed (side ∷ sides) = (side.worked.end ≡ ends.RecvFailed) ⊎ SomeFailed sides
@@ -225,22 +247,31 @@ pub record ServesBehind (setup : RunSetup) (run : RunData) (watch : WatchState)
   pub bundles : List Bundle
   pub count : length bundles ≡ run.published
   pub accepted : AllByRecursion (IsServed setup.default_port) bundles
-  pub back : WatchState
-  pub watch_is : run.watch ≡ Some back
-  pub script : back.script ≡ watch.script
+  pub handed : WatchState
+  pub watch_is : run.watch ≡ Some handed
+  pub script : handed.script ≡ watch.script
   pub looks : List WatchTurn
   pub watched : WatchRun setup bundles looks run.watch run.starved
-  pub endpoints : List OpenedSide
-  pub opened : OpensSides setup.default_port bundles endpoints
-  pub told : AddsHost before after (opened_by None endpoints)
-  pub supplied : SuppliesOnlySides before.supply after.supply run.sides
-  pub one_each : length run.sides ≡ length endpoints
-  pub sides : AllByRecursion (TellsRun setup bundles looks) run.sides
+  pub places : List OpenedSide
+  pub opened : OpensSides setup.default_port setup.workers bundles places
+  pub told : AddsHost before after (opened_by None places)
+  pub scripts : List (Option SideScriptData)
+  pub supplied : TakesSides before.supply after.supply scripts
+  pub one_each : length scripts ≡ length places
+  pub back : HandsBack run.published run.sides scripts
+  pub sides : AllByRecursion (TellsRun setup bundles) run.sides
 
 pub record RunsBehind (setup : RunSetup) (run : RunData) (watch : WatchState)
     (before after : HostState) : Type 0 where
   pub served : ServesBehind setup run watch before after
   pub cause : CauseOf run.status setup run before.counts after.counts
+
+-- a run by what a first bundle serves by, wherever its watch was opened and the bundle read
+abbrev pub RunsPlans : RunSetup → PlansData → RunData → WatchState → HostState → HostState → Type 0
+RunsPlans setup plans run watch before after =
+    (fresh : WatchState) → IsFreshWatch fresh → watch.script ≡ fresh.script
+    → ReadsPlans setup.source setup.default_port fresh watch plans
+    → RunsBehind setup run fresh before after
 
 -- a run by a command
 pub record RunsCommand (setup : RunSetup) (run : RunData) (before after : HostState) : Type 0 where
@@ -264,18 +295,17 @@ pub record IsByCommand (words : List (List ℕ)) (env : List Pair) (run : RunDat
   pub words_are : IsCommand words (serve how)
   pub runs : RunsCommand (setup_of env how) run before after
 
--- the status of a run with one side, by how its worker ended and how often the worker and the looks
--- met want of memory
-abbrev pub IsEndStatus : WorkEnd → ℕ → ℕ → Status → Type 0
-IsEndStatus end starved looking status.Usage = ⊥
-IsEndStatus end starved looking (status.ReadFailed name) = ⊥
-IsEndStatus end starved looking status.OpenFailed = ⊥
-IsEndStatus end starved looking status.TellFailed = ⊥
-IsEndStatus end starved looking (status.Refused refusal) = ⊥
-IsEndStatus end starved looking status.NoMemory = Unit {0}
-IsEndStatus end starved looking status.WorkerFailed =
-    (end ≡ ends.RecvFailed) × (starved ≡ 0) × (looking ≡ 0)
-IsEndStatus end starved looking status.Ended = (end ≡ ends.End) × (starved ≡ 0) × (looking ≡ 0)
+-- the status of a run by how its workers ended and how often they and the looks met want of memory
+abbrev pub IsEndStatus : List SideRun → ℕ → Status → Type 0
+IsEndStatus sides looking status.Usage = ⊥
+IsEndStatus sides looking (status.ReadFailed name) = ⊥
+IsEndStatus sides looking status.OpenFailed = ⊥
+IsEndStatus sides looking status.TellFailed = ⊥
+IsEndStatus sides looking (status.Refused refusal) = ⊥
+IsEndStatus sides looking status.NoMemory = Unit {0}
+IsEndStatus sides looking status.WorkerFailed =
+    AllByRecursion NeverStarved sides × SomeFailed sides × (looking ≡ 0)
+IsEndStatus sides looking status.Ended = AllByRecursion TookAll sides × (looking ≡ 0)
 
 -- the status of a run without a first configuration
 abbrev pub IsFirstStatus : FirstFault → Status → Type 0

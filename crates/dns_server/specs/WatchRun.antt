@@ -1,32 +1,18 @@
 -- The watch's run: the read and the publication of the first bundle, and then looks. This server's
 -- own rule.
-use Rattle.std.specs.Prelude.{◌≡◌, ℕ, List, [], ◌∷◌, ◌++◌, Option, IfSome, Ok}
+use Rattle.std.specs.Prelude.{◌≡◌, ℕ, List, [], ◌∷◌, Option, IfSome}
 use Rattle.std.specs.List.{flat_map}
 use Rattle.outside.specs.declared.mark.WatchMark.{WatchMark}
-use Rattle.outside.specs.declared.mark.WatchMark.TheVariants.{Published}
 use Rattle.outside.specs.Causes.{RoseJust}
 use Rattle.outside.specs.States.{WatchState}
 use Rattle.corefile_blocks.specs.declared.bundle.Bundle.{Bundle}
-use Rattle.corefile_bundle.specs.Gathering.{GathersFrom, OneRead, Source, marks_of}
-use Rattle.dns_server.specs.Opening.{IsReading}
-use Rattle.dns_server.specs.Rounds.{EndsWatch}
+use Rattle.reload_watch.specs.WatchTurn.{WatchTurn}
+use Rattle.reload_watch.specs.{AreLooks, IsReading, TellsLooks, all_starved, published_by}
 use Rattle.dns_server.specs.States.{RunSetup}
-use Rattle.dns_server.specs.WatchTurn.{WatchTurn, watch_marks, published_by, bundles_of}
-use Rattle.dns_server.specs.WatchTurn.{all_starved, AreLooks}
 
 -- where the watch tells its journal, that is so
 abbrev pub Tells : Option WatchState → (List WatchMark → Type 0) → Type 0
 Tells watch P = IfSome watch (λ w. IfSome w.journal P)
-
--- the journal is the reads that gave the first bundle, its publication, these looks, and their end
-pub record TellsLooks (source : Source) (default_port : ℕ) (first : Bundle)
-    (looks : List WatchTurn) (journal : List WatchMark) : Type 0 where
-  pub reads : List OneRead
-  pub gathers : GathersFrom source reads (Ok first)
-  pub ending : List WatchMark
-  pub told : journal
-      ≡ marks_of reads ++ Published 0 ∷ (flat_map watch_marks looks ++ ending)
-  pub ends : EndsWatch default_port (bundles_of first looks) ending
 
 -- the looks behind a first bundle, each by what was last published, with the bundles that they
 -- published, and how often they met want of memory

@@ -1,33 +1,23 @@
 //! The server: words of the command line in, a report out. It reads a Corefile and the files that it
-//! names, opens a side for its port, and answers each datagram by the meaning of what it read.
+//! names, opens the sides of its ports, and answers each datagram by the meaning of what it read, a
+//! worker for each side in a thread of its own, while a watcher takes up what changed.
 #![tactic(auto)]
 
-mod first;
-mod generation;
-mod look;
-mod looking;
+mod ending;
+mod finishing;
 mod report;
-mod rounds;
+mod roles;
+mod rooms;
 mod running;
-mod source;
+mod sides;
 mod status;
 mod telling;
 #[cfg(test)]
 mod tests;
-mod watcher;
-mod worker;
 
-pub use chain_build::{Chain, CheckFault, Room, check, serve};
-pub use chain_meaning::{Refusal, Served, Silence};
-pub use first::{FirstFault, read_first};
-pub use generation::Generations;
-pub use look::look_once;
-pub use looking::{Looking, Ports};
+pub use chain_meaning::Refusal;
+pub use query_worker::WorkEnd;
 pub use report::{Done, Report};
-pub use rounds::serve_rounds;
 pub use running::run;
-pub use source::Source;
 pub use status::Status;
 pub use telling::tell_status;
-pub use watcher::{INTERVAL, JITTER, WatchEnd, Watcher, take_look};
-pub use worker::{Tally, Turned, WorkEnd, Worker, take_turn, work_once};

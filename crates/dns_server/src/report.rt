@@ -1,6 +1,6 @@
 use crate::status::Status;
-use crate::worker::WorkEnd;
 use outside::Host;
+use query_worker::WorkEnd;
 
 /// A side whose worker has ended.
 #[derive(Drop)]

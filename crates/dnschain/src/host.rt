@@ -3,36 +3,39 @@ ghost use Rattle.std.specs.Prelude.{None};
 use crate::endpoint::{Endpoint, Unopened};
 use crate::watch::FileWatch;
 use dns_data::Transport;
-use edge_net::{EdgeLine, End, NetSide, Why, count, line_text, note_line, tell_line};
+use edge_net::{Crew, EdgeLine, End, NetSide, Why, count, line_text, note_line, tell_line};
 use outside::{Host, OpenFault, Wrote};
 use std::alloc::{AllocError, Global};
 use std::net::Net;
 use std::random::RandomSource;
 use std::rt::Files;
-use std::sync::Arc;
-use std::sync::atomic::AtomicU64;
+use std::sync::{Arc, Wait};
 use std::time::Clock;
 
 /// The host over the system: sockets at every address, files, standard output and standard error.
 /// It tells no lines, no opened sides and no supply, and counts its failing calls.
 #[derive(Drop)]
-pub struct SystemHost<R: Net + Files + Clock + RandomSource + Print + Eprint + Copy + Send + Drop> {
+pub struct SystemHost<
+    R: Wait + Net + Files + Clock + RandomSource + Print + Eprint + Copy + Send + Drop,
+> {
     rt: R,
     alloc: Global,
-    // How many sides have not left yet, which the watch asks. It is made with the watch.
-    live: Option<Arc<AtomicU64, Global>>,
+    // The sides that have not left yet, which the watch asks. It is made with the watch.
+    crew: Option<Arc<Crew, Global>>,
     // The port that was opened last, for the sides of its further workers.
     last: Option<Endpoint>,
     open_faults: u64,
     tell_faults: u64,
 }
 
-impl<R: Net + Files + Clock + RandomSource + Print + Eprint + Copy + Send + Drop> SystemHost<R> {
+impl<R: Wait + Net + Files + Clock + RandomSource + Print + Eprint + Copy + Send + Drop> SystemHost<
+    R,
+> {
     pub fn new(rt: R, alloc: Global) -> SystemHost<R> {
         SystemHost {
             rt,
             alloc,
-            live: None,
+            crew: None,
             last: None,
             open_faults: 0,
             tell_faults: 0,
@@ -40,7 +43,7 @@ impl<R: Net + Files + Clock + RandomSource + Print + Eprint + Copy + Send + Drop
     }
 }
 
-impl<R: Net + Files + Clock + RandomSource + Print + Eprint + Copy + Send + Drop> Host
+impl<R: Wait + Net + Files + Clock + RandomSource + Print + Eprint + Copy + Send + Drop> Host
     for SystemHost<R> {
     type Side = NetSide<R>;
 
@@ -53,13 +56,13 @@ impl<R: Net + Files + Clock + RandomSource + Print + Eprint + Copy + Send + Drop
     } };
 
     fn open_watch(&mut self) -> Result<FileWatch<R>, OpenFault> {
-        let Ok(live) = Arc::new(self.alloc, AtomicU64::new(0)) else {
+        let Ok(crew) = Arc::new(self.alloc, Crew::new()) else {
             return Err(OpenFault::NoMemory);
         };
-        let Ok(asked) = Arc::try_clone(&live) else {
+        let Ok(asked) = Arc::try_clone(&crew) else {
             return Err(OpenFault::NoMemory);
         };
-        self.live = Some(live);
+        self.crew = Some(crew);
         Ok(FileWatch::new(self.rt, self.alloc, asked))
     }
 
@@ -69,11 +72,11 @@ impl<R: Net + Files + Clock + RandomSource + Print + Eprint + Copy + Send + Drop
         by: Transport,
         number: u32,
     ) -> Result<NetSide<R>, OpenFault> {
-        let Ok(live) = counter(&self.live, self.alloc) else {
+        let Ok(crew) = crew_of(&self.crew, self.alloc) else {
             return Err(OpenFault::NoMemory);
         };
         match open_end(&self.rt, self.alloc, &mut self.last, (port, by, number)) {
-            Ok(end) => Ok(NetSide::new(self.rt, self.alloc, end, port, live)),
+            Ok(end) => Ok(NetSide::new(self.rt, self.alloc, end, port, crew)),
             Err(Unopened::NoMemory) => Err(OpenFault::NoMemory),
             Err(Unopened::System(why)) => {
                 say_why(&self.rt, self.alloc, port, by, why);
@@ -92,14 +95,14 @@ impl<R: Net + Files + Clock + RandomSource + Print + Eprint + Copy + Send + Drop
     }
 }
 
-// The counter that a side shares with the watch, or one of its own where no watch was opened.
-fn counter(
-    live: &Option<Arc<AtomicU64, Global>>,
+// The crew that a side joins, or one of its own where no watch was opened.
+fn crew_of(
+    crew: &Option<Arc<Crew, Global>>,
     alloc: Global,
-) -> Result<Arc<AtomicU64, Global>, AllocError> {
-    match live {
-        Some(live) => Arc::try_clone(live),
-        None => Ok(Arc::new(alloc, AtomicU64::new(0))?),
+) -> Result<Arc<Crew, Global>, AllocError> {
+    match crew {
+        Some(crew) => Arc::try_clone(crew),
+        None => Ok(Arc::new(alloc, Crew::new())?),
     }
 }
 

@@ -4,7 +4,6 @@
 
 mod endpoint;
 mod host;
-mod kept;
 mod reading;
 mod watch;
 

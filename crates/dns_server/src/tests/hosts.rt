@@ -1,13 +1,14 @@
 ghost use Rattle.std.specs.Prelude.{◌≡◌, ◌+◌, None};
 
 use crate::{Report, Status, run};
-use dns_data::{Addr, Bytes, FileText, NoMemory, Text, Transport};
+use dns_data::{Addr, Bytes, NoMemory, Text, Transport};
 use outside::{
     Datagram, FileSet, Host, Mark, OpenFault, SideScript, WatchMark, WatchScript, Wrote,
 };
 use outside_mem::{MemHost, MemSide, MemWatch};
 use std::alloc::Global;
 use std::sync::Wait;
+use std::thread::Threads;
 
 /// Words that serve by the Corefile of every host here.
 pub const SERVE: &str = "serve --conf /Corefile";
@@ -41,26 +42,13 @@ pub fn finds(alloc: Global, corefiles: &[&[u8]]) -> Result<WatchScript, NoMemory
     Ok(WatchScript::of_looks(alloc, looks))
 }
 
-/// A script that finds a Corefile and a file besides.
-pub fn finds_two(
-    alloc: Global,
-    corefile: &[u8],
-    name: &str,
-    bytes: &[u8],
-) -> Result<WatchScript, NoMemory> {
-    let mut set = FileSet::of_file(alloc, "/Corefile", corefile)?;
-    set.files.push(FileText {
-        name: Text::from_str(alloc, name)?,
-        bytes: Some(Bytes::from_slice(alloc, bytes)?),
-    })?;
-    Ok(WatchScript::of_looks(alloc, vec![in alloc; set]?))
-}
-
-/// A host of one side and a watch that follow these scripts.
+/// A host of a side over UDP and a watch that follow these scripts, and of a side over TCP that
+/// gives nothing.
 pub fn host_of(alloc: Global, watch: WatchScript, side: SideScript) -> Result<MemHost, NoMemory> {
     let watch = MemWatch::new(alloc, watch)?;
     let side = MemSide::new(alloc, side)?;
-    Ok(MemHost::new(alloc, vec![in alloc; side]?, watch))
+    let silent = MemSide::new(alloc, gets(alloc, &[])?)?;
+    Ok(MemHost::new(alloc, vec![in alloc; side, silent]?, watch))
 }
 
 /// A run over a host in memory, and that host.
@@ -72,7 +60,7 @@ pub struct Observed {
 
 /// A run by words that stand behind one another with a space between, over a host of these scripts.
 pub fn ran(
-    rt: &impl Wait,
+    rt: &(impl Threads + Wait + Sync),
     alloc: Global,
     words: &str,
     watch: WatchScript,
@@ -85,7 +73,7 @@ pub fn ran(
 
 /// A run by one Corefile, with one datagram.
 pub fn ran_once(
-    rt: &impl Wait,
+    rt: &(impl Threads + Wait + Sync),
     alloc: Global,
     corefile: &[u8],
     query: &[u8],
@@ -97,7 +85,7 @@ pub fn ran_once(
 
 /// A run by words that stand behind one another with a space between.
 pub fn run_by<H: Host>(
-    rt: &impl Wait,
+    rt: &(impl Threads + Wait + Sync),
     alloc: Global,
     words: &str,
     host: &mut H,
@@ -114,7 +102,7 @@ pub fn run_by<H: Host>(
 impl Observed {
     fn marks(&self) -> &[Mark] {
         match self.report.sides.as_slice() {
-            [done] => done.side.journal().unwrap_or(&[]),
+            [done, _] => done.side.journal().unwrap_or(&[]),
             _ => &[],
         }
     }
@@ -126,7 +114,7 @@ impl Observed {
         }
     }
 
-    /// Whether the one side told marks of these letters, one each.
+    /// Whether the side over UDP told marks of these letters, one each.
     pub fn tells(&self, letters: &str) -> bool {
         let mut left = letters.as_bytes().iter();
         for mark in self.marks() {
@@ -150,27 +138,13 @@ impl Observed {
         left.next().is_none()
     }
 
-    /// Whether the one side sent just these replies.
+    /// Whether the side over UDP sent just these replies.
     pub fn has_sent(&self, replies: &[&[u8]]) -> bool {
         let mut left = replies.iter();
         for mark in self.marks() {
             if let Mark::Sent(reply, _) = mark {
                 match left.next() {
                     Some(wanted) if reply.is(wanted) => {}
-                    _ => return false,
-                }
-            }
-        }
-        left.next().is_none()
-    }
-
-    /// Whether the watch noted just these lines.
-    pub fn has_noted(&self, lines: &[&str]) -> bool {
-        let mut left = lines.iter();
-        for mark in self.watched() {
-            if let WatchMark::Noted(line, _) = mark {
-                match left.next() {
-                    Some(wanted) if line.is(wanted.as_bytes()) => {}
                     _ => return false,
                 }
             }
@@ -191,11 +165,11 @@ impl Observed {
         matches!(self.host.lines(), Some([]))
     }
 
-    /// The pins of the one side, the last serial that it saw, and how many generations were
+    /// The pins of the side over UDP, the last serial that it saw, and how many generations were
     /// published.
     pub fn counts(&self) -> (u64, u64, u64) {
         match self.report.sides.as_slice() {
-            [done] => (done.pins, done.seen, self.report.published),
+            [done, _] => (done.pins, done.seen, self.report.published),
             _ => (0, 0, self.report.published),
         }
     }

@@ -7,6 +7,7 @@ use outside_mem::MemHost;
 use std::alloc::Global;
 use std::sync::Wait;
 use std::test::Fail;
+use std::thread::Threads;
 
 #[test]
 fn a_worker_takes_as_many_datagrams_as_it_is_told(rt: HostRuntime) -> Result<(), Fail> {
@@ -23,12 +24,17 @@ fn a_worker_takes_as_many_datagrams_as_it_is_told(rt: HostRuntime) -> Result<(),
 }
 
 #[test]
-fn more_sides_than_are_built_are_refused(rt: HostRuntime) -> Result<(), Fail> {
-    let rows = [("serve --conf=/Corefile --workers=2", "not built yet")];
-    for (words, line) in rows {
-        let ran = ran_twice(&rt, rt.alloc(), words)?;
-        assert!(rt; ran.is_told(line), "{words}");
-    }
+fn more_sides_than_a_run_may_have_are_refused(rt: HostRuntime) -> Result<(), Fail> {
+    let watch = finds(rt.alloc(), &[b".:53 .:54 {\nwhoami\n}\n"])?;
+    let side = gets(rt.alloc(), &[])?;
+    let ran = ran(
+        &rt,
+        rt.alloc(),
+        "serve --conf=/Corefile --workers=9",
+        watch,
+        side,
+    )?;
+    assert!(rt; ran.is_told("too many workers: 33"));
     Ok(())
 }
 
@@ -82,14 +88,22 @@ fn host_of_one(alloc: Global) -> Result<MemHost, NoMemory> {
 }
 
 // A run with two queries.
-fn ran_twice(rt: &impl Wait, alloc: Global, words: &str) -> Result<Observed, NoMemory> {
+fn ran_twice(
+    rt: &(impl Threads + Wait + Sync),
+    alloc: Global,
+    words: &str,
+) -> Result<Observed, NoMemory> {
     let watch = finds(alloc, &[COREFILE])?;
     let side = gets(alloc, &[&QUERY, &QUERY])?;
     ran(rt, alloc, words, watch, side)
 }
 
 // A run with one query, before which so many receives fail.
-fn ran_failing(rt: &impl Wait, alloc: Global, calls: u64) -> Result<Observed, NoMemory> {
+fn ran_failing(
+    rt: &(impl Threads + Wait + Sync),
+    alloc: Global,
+    calls: u64,
+) -> Result<Observed, NoMemory> {
     let watch = finds(alloc, &[COREFILE])?;
     let mut side = gets(alloc, &[&QUERY])?;
     for call in 0..calls {

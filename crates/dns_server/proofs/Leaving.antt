@@ -1,0 +1,133 @@
+-- What a run leaves behind the end of its roles.
+use Rattle.std.proofs.Common.{◌≡◌, ◌≤◌, ◌<◌, ◌*◌, ◌+◌, ℕ, suc, List, [], ◌∷◌, ◌++◌, map, length, take, Some, slice_get, refl, sym, ap, subst, ◌∙◌, arith}
+use Rattle.std.specs.Arc.{arc_value}
+use Rattle.std.specs.Vec.{vec_capacity, vec_len}
+use Rattle.std.specs.List.{All, AllZip}
+use Rattle.std.proofs.lemmas.List.{take_all}
+use Rattle.outside.specs.Causes.{RoseJust}
+use Rattle.outside.specs.States.{SideState, WatchState}
+use Rattle.corefile_blocks.specs.declared.bundle.Bundle.{Bundle}
+use Rattle.chain_build.specs.declared.chain.Chain.{Chain}
+use Rattle.chain_build.specs.{ArePlans, chain_identity, chain_log, plans_of}
+use Rattle.pin_core.specs.declared.slots.TheConstants.{WORKERS}
+use Rattle.pin_table.specs.declared.passes.Pass.{Pass}
+use Rattle.pin_table.specs.declared.table.PinTable.{PinTable}
+use Rattle.pin_table.specs.declared.views.PassView.{PassView}
+use Rattle.pin_table.specs.declared.views.Plan.{Plan}
+use Rattle.pin_table.specs.{AreFilled, AreGiven, AreIdle, IsPublisherOf, count_of, id_of, plan_of, views_of}
+use Rattle.pin_table.specs.Closing.{IsClosed, IsTraced, joined_plan}
+use Rattle.pin_table.specs.Opening.{IsOpened}
+use Rattle.reload_watch.specs.{AreFilledBy, AreLooks, EndsWatch, all_starved}
+use Rattle.reload_watch.specs.declared.watcher.Watcher.{Watcher}
+use Rattle.dns_server.specs.declared.finishing.Opened.{Opened}
+use Rattle.dns_server.specs.declared.report.Done.{Done}
+use Rattle.dns_server.specs.declared.roles.Role.{Role}
+use Rattle.dns_server.specs.Each.{Each3}
+use Rattle.dns_server.specs.Report.{Finishes}
+use Rattle.dns_server.specs.Roles.{Becomes, HasWatched, IsPart, IsWatching, Task, as_role}
+use Rattle.dns_server.specs.Roles as roles
+use Rattle.dns_server.specs.States.{RunSetup, side_runs}
+use Rattle.dns_server.proofs.Each.{zip_last}
+use Rattle.dns_server.proofs.Joining.{IdleFrom, Leave, all_tell, scripts_are}
+
+-- the last of the roles, and the others
+pub parted : {R : Type 0} (B : R → R → Type 0) (starts others befores afters : List R) (first last : R) → befores ≡ starts ++ first ∷ [] → afters ≡ others ++ last ∷ [] → AllZip B befores afters
+    → AllZip B starts others × B first last
+parted B starts others befores afters first last before after zip =
+    zip_last B starts first others last (subst (λ (x : List _ × List _). AllZip B x.0 x.1) (λ i. (before i, after i)) zip)
+
+-- as many roles have ended as acted
+pub zip_none : {R : Type 0} (B : R → R → Type 0) (starts : List R) (first : R) → AllZip B (starts ++ first ∷ []) [] → ⊥
+zip_none B [] first zip = zip
+zip_none B (s ∷ starts) first zip = zip
+
+pub zip_count : {R : Type 0} (B : R → R → Type 0) (xs ys : List R) → AllZip B xs ys → length ys ≡ length xs
+zip_count B [] [] zip = refl
+zip_count B [] (y ∷ ys) zip = absurd zip
+zip_count B (x ∷ xs) [] zip = absurd zip
+zip_count B (x ∷ xs) (y ∷ ys) zip = ap suc (zip_count B xs ys zip.1)
+
+pub part_count : {A B C : Type 0} (R : A → B → C → Type 0) (xs : List A) (ys : List B) (zs : List C) → Each3 R xs ys zs → length zs ≡ length xs
+part_count R [] [] [] each = refl
+part_count R [] [] (z ∷ zs) each = absurd each
+part_count R [] (y ∷ ys) zs each = absurd each
+part_count R (x ∷ xs) [] zs each = absurd each
+part_count R (x ∷ xs) (y ∷ ys) [] each = absurd each
+part_count R (x ∷ xs) (y ∷ ys) (z ∷ zs) each = ap suc (part_count R xs ys zs each.1)
+
+-- the passes of all workers, none of which holds a pin
+pub idle_all : (table : PinTable Chain) (passes : List (Pass Chain)) → IdleFrom (id_of table) 0 passes → AreIdle (id_of table) passes
+idle_all table passes idle = λ w pass at. let is = idle w pass at in (is.0, is.1 ∙ omega arith, is.2)
+
+module _ {S W : Type 0} (side : S → SideState) (watch : W → WatchState) (setup : RunSetup) (opened : Opened S W) (last : Watcher W) (dones : List (Done S)) (passes : List (Pass Chain)) where
+  abbrev task : Task
+  task = record { table = opened.table; source = setup.source; most = setup.most }
+
+  abbrev first : Bundle
+  first = (arc_value opened.watcher.current).bundle
+
+  -- what each pass was given, by the table's last state
+  given : (bundles : List Bundle) → length bundles ≡ count_of (plan_of last.publisher) → IsClosed (joined_plan (plan_of last.publisher) passes)
+      → IsTraced chain_identity chain_log (joined_plan (plan_of last.publisher) passes)
+      → (w : ℕ) (q : PassView Chain) → slice_get (views_of passes) w ≡ Some q
+      → AreGiven chain_identity chain_log (plan_of last.publisher).past.filled (0 + w) q.turns × (q.seen ≤ length bundles)
+  given bundles count closed traced w q at =
+      let turns = traced.turns w q at in
+      let rising = closed.rising w q at in
+      (subst (λ (n : ℕ). AreGiven chain_identity chain_log (plan_of last.publisher).past.filled n q.turns) (omega arith) turns, let r = rising.1 in omega (arith, r, count))
+
+  pub finishes : (others : List (Role S W)) (published : ℕ) → roles.IsOpened side setup.default_port opened → HasWatched watch task opened.watcher last
+      → Leave side watch task 0 opened.sides.items others dones passes → published ≡ count_of (plan_of last.publisher)
+      → IsClosed (joined_plan (plan_of last.publisher) passes) → IsTraced chain_identity chain_log (joined_plan (plan_of last.publisher) passes)
+      → Finishes setup first (map side opened.sides.items) (watch opened.watcher.watch) (record { sides = side_runs side dones; watch = watch last.watch; published = published; starved = last.starved })
+  finishes others published is has leave count closed traced =
+      let by = has.watches in
+      let port = is.port_is in
+      let bundles = by.bundles in
+      let filled = (plan_of last.publisher).past.filled in
+      let tell = all_tell setup bundles filled 0 (map side opened.sides.items) (side_runs side dones) (views_of passes) is.fresh leave.done
+      (subst (λ (p : ℕ). AreFilledBy bundles p filled) port by.filled) (given bundles by.count closed traced) in
+      record {
+        looks = by.looks;
+        ending = by.ending;
+        told = by.told;
+        are = subst (λ (p : ℕ). AreLooks setup.source p (first ∷ []) by.looks) port by.are;
+        ends = subst (λ (x : ℕ × List Bundle). EndsWatch x.0 x.1 by.ending) (λ i. (port i, by.bundles_are i)) by.ends;
+        count = ap (λ (l : List Bundle). length l) (sym by.bundles_are) ∙ by.count ∙ sym count;
+        starved = subst (λ (n : ℕ). RoseJust (all_starved by.looks) n last.starved) is.watcher.starved by.starved;
+        stays = has.stays;
+        scripts = scripts_are setup.most (map side opened.sides.items) (side_runs side dones) (views_of passes) leave.done;
+        tell = rw (sym by.bundles_are) tell;
+      }
+
+-- a watcher that has published the first chains
+pub watching : {W : Type 0} (table : PinTable Chain) (w : Watcher W) (chains : List Chain) → IsPublisherOf table w.publisher → IsOpened chains (plan_of w.publisher)
+    → AreFilled chain_identity chain_log 0 (plan_of w.publisher).past.filled → w.workers ≡ length chains → (0 < length chains) × (length chains ≤ WORKERS)
+    → All (λ chain. plans_of chain ≡ arc_value w.current) chains → ArePlans (arc_value w.current)
+    → (w.home.items ≡ []) × (vec_len w.home ≡ 0) × (4 * length chains ≤ vec_capacity w.home) → w.starved ≡ 0 → IsWatching table w
+watching table w chains own opened filled workers few serve are home starved =
+    let plan = opened.1 in
+    let count : count_of (plan_of w.publisher) ≡ 1 = ap (λ (p : Plan Chain). count_of p) plan in
+    let all : take (length chains) chains ≡ chains = take_all (length chains) chains (omega arith) in
+    record {
+      keeps = record {
+        own = own;
+        filled = filled;
+        workers = ap (λ (p : Plan Chain). p.workers) plan ∙ sym workers;
+        some = let f = few.0 in omega (arith, workers, f);
+        few = let f = few.1 in omega (arith, workers, f);
+        joined = ap (λ (p : Plan Chain). p.joined) plan;
+        count = ap (λ (p : Plan Chain). length p.past.filled) plan ∙ sym count;
+        within = omega (arith, count);
+        current = record {
+          earlier = [];
+          chains = chains;
+          last_is = ap (λ (p : Plan Chain). p.past.filled) plan ∙ ap (λ (l : List Chain). l ∷ []) all;
+          serve = serve;
+        };
+        are = are;
+        home = record { none = home.0; empty = home.1; room = let h = home.2 in omega (arith, workers, h) };
+      };
+      first = count;
+      starved = starved;
+    }

@@ -1,0 +1,164 @@
+use Rattle.std.proofs.Common.{◌∙◌, List, ◌++◌, length, Some, sym, ap, subst, arith}
+use Rattle.std.specs.Option.{option_to_list}
+use Rattle.std.specs.List.{All}
+use Rattle.std.proofs.lemmas.List.{length_push}
+use Rattle.std.proofs.lemmas.List.Elements.{All-push}
+use Rattle.reload_watch.specs.{source_data}
+use Rattle.dns_server.specs.declared.roles.Role.TheVariants.{Watch}
+use Rattle.dns_server.specs.Roles.{Becomes, IsPart, IsReady, Task}
+use Rattle.dns_server.specs.States.{run_setup}
+use Rattle.dns_server.proofs.Leaving.{finishes, idle_all, part_count, parted, zip_count}
+use Rattle.dns_server.proofs.Joining.{all_worked, leave}
+use Rattle.dns_server.proofs.Starting.{all_ready, start_count}
+use Rattle.dns_server.proofs.finishing.finish.Goals as goal
+
+pub push_reserved-requires : goal.push_reserved-requires
+push_reserved-requires g c =
+    let o = c.args.opened in
+    let count = start_count o.table 0 o.sides.items c.push_workers.new.roles.items c.push_workers.ensures.start in
+    let room = c.push_workers.ensures.room.0 in
+    omega (arith, count, room, c.requires.opened.roles_room)
+
+pub act_all-requires-clause-ready : goal.act_all-requires-clause-ready
+act_all-requires-clause-ready g c = λ κs b.
+    let o = c.args.opened in
+    let task : Task = record { table = o.table; source = source_data c.args.setup.source; most = c.args.setup.most } in
+    let starts = c.push_workers.new.roles.items in
+    subst (All (IsReady task)) (sym c.push_reserved.ensures.items)
+    (All-push (IsReady task) starts (Watch o.watcher) (all_ready task 0 o.sides.items starts (c.requires.some, c.requires.most) c.push_workers.ensures.start) c.requires.opened.watcher)
+
+pub unreachable-requires : goal.unreachable-requires
+unreachable-requires g c =
+    let o = c.args.opened in
+    let task : Task = record { table = o.table; source = source_data c.args.setup.source; most = c.args.setup.most } in
+    let B = Becomes g.S.Side.state g.W.PatternMaker.state task in
+    let role = c.in-Some-Work.field-0 in
+    let last = c.pop.ensures.items ∙ ap (λ (x : _). c.pop.new.self.items ++ option_to_list x) c.in-Some-Work.is in
+    let both = parted B c.push_workers.new.roles.items c.pop.new.self.items c.push_reserved.new.self.items c.act_all.new.roles.items (Watch o.watcher) role c.push_reserved.ensures.items last c.act_all.ensures in
+    subst (B (Watch o.watcher)) c.in-Some-Work.field-0-is both.1
+
+pub unreachable-requires-in-None : goal.unreachable-requires-in-None
+unreachable-requires-in-None g c =
+    let o = c.args.opened in
+    let task : Task = record { table = o.table; source = source_data c.args.setup.source; most = c.args.setup.most } in
+    let B = Becomes g.S.Side.state g.W.PatternMaker.state task in
+    let count = zip_count B c.push_reserved.new.self.items c.act_all.new.roles.items c.act_all.ensures in
+    let pushed = ap (λ (l : List _). length l) c.push_reserved.ensures.items ∙ length_push c.push_workers.new.roles.items (Watch o.watcher) in
+    let none = c.in-None.ensures.cases.0 in
+    omega (arith, count, pushed, none)
+
+pub part-requires-clause-workers : goal.part-requires-clause-workers
+part-requires-clause-workers g c =
+    let o = c.args.opened in
+    let task : Task = record { table = o.table; source = source_data c.args.setup.source; most = c.args.setup.most } in
+    let side = g.S.Side.state in
+    let watch = g.W.PatternMaker.state in
+    let B = Becomes side watch task in
+    let starts = c.push_workers.new.roles.items in
+    let others = c.pop.new.self.items in
+    let last = c.pop.ensures.items ∙ ap (λ (x : _). others ++ option_to_list x) (c.in-Some-Watch.is ∙ ap Some c.in-Some-Watch.field-0-is) in
+    let both = parted B starts others c.push_reserved.new.self.items c.act_all.new.roles.items (Watch o.watcher) (Watch c.in-Some-Watch.watcher) c.push_reserved.ensures.items last c.act_all.ensures in
+    all_worked side watch task 0 o.sides.items starts others c.push_workers.ensures.start both.0
+
+pub part-requires-clause-room : goal.part-requires-clause-room
+part-requires-clause-room g c =
+    let o = c.args.opened in
+    let task : Task = record { table = o.table; source = source_data c.args.setup.source; most = c.args.setup.most } in
+    let B = Becomes g.S.Side.state g.W.PatternMaker.state task in
+    let count = zip_count B c.push_reserved.new.self.items c.act_all.new.roles.items c.act_all.ensures in
+    let pushed = ap (λ (l : List _). length l) c.push_reserved.ensures.items ∙ length_push c.push_workers.new.roles.items (Watch o.watcher) in
+    let start = start_count o.table 0 o.sides.items c.push_workers.new.roles.items c.push_workers.ensures.start in
+    let popped = c.in-Some-Watch.ensures.cases in
+    let left = c.push_workers.ensures.room.1 in
+    (omega (arith, count, pushed, start, popped, c.requires.opened.dones_room), omega (arith, count, pushed, start, popped, left, c.requires.opened.each))
+
+pub close-totals-requires-clause-own : goal.close-totals-requires-clause-own
+close-totals-requires-clause-own g c =
+    let o = c.args.opened in
+    let task : Task = record { table = o.table; source = source_data c.args.setup.source; most = c.args.setup.most } in
+    let side = g.S.Side.state in
+    let watch = g.W.PatternMaker.state in
+    let starts = c.push_workers.new.roles.items in
+    let others = c.pop.new.self.items in
+    let last = c.pop.ensures.items ∙ ap (λ (x : _). others ++ option_to_list x) (c.in-Some-Watch.is ∙ ap Some c.in-Some-Watch.field-0-is) in
+    let both = parted (Becomes side watch task) starts others c.push_reserved.new.self.items c.act_all.new.roles.items (Watch o.watcher) (Watch c.in-Some-Watch.watcher) c.push_reserved.ensures.items last c.act_all.ensures in
+    both.1.keeps.own
+
+pub close-totals-requires-clause-passes : goal.close-totals-requires-clause-passes
+close-totals-requires-clause-passes g c =
+    let o = c.args.opened in
+    let task : Task = record { table = o.table; source = source_data c.args.setup.source; most = c.args.setup.most } in
+    let side = g.S.Side.state in
+    let watch = g.W.PatternMaker.state in
+    let starts = c.push_workers.new.roles.items in
+    let others = c.pop.new.self.items in
+    let last = c.pop.ensures.items ∙ ap (λ (x : _). others ++ option_to_list x) (c.in-Some-Watch.is ∙ ap Some c.in-Some-Watch.field-0-is) in
+    let both = parted (Becomes side watch task) starts others c.push_reserved.new.self.items c.act_all.new.roles.items (Watch o.watcher) (Watch c.in-Some-Watch.watcher) c.push_reserved.ensures.items last c.act_all.ensures in
+    let leaves = leave side watch task 0 o.sides.items starts others c.part.new.dones.items c.part.new.passes.items c.push_workers.ensures.start both.0 c.part.ensures in
+    let count = part_count IsPart others c.part.new.dones.items c.part.new.passes.items c.part.ensures in
+    let ended = zip_count (Becomes side watch task) starts others both.0 in
+    let start = start_count o.table 0 o.sides.items starts c.push_workers.ensures.start in
+    (omega (arith, count, ended, start, c.requires.opened.workers, both.1.workers, both.1.keeps.workers), idle_all o.table c.part.new.passes.items leaves.idle)
+
+pub close-totals-requires-clause-start : goal.close-totals-requires-clause-start
+close-totals-requires-clause-start g c =
+    let o = c.args.opened in
+    let task : Task = record { table = o.table; source = source_data c.args.setup.source; most = c.args.setup.most } in
+    let side = g.S.Side.state in
+    let watch = g.W.PatternMaker.state in
+    let starts = c.push_workers.new.roles.items in
+    let others = c.pop.new.self.items in
+    let last = c.pop.ensures.items ∙ ap (λ (x : _). others ++ option_to_list x) (c.in-Some-Watch.is ∙ ap Some c.in-Some-Watch.field-0-is) in
+    let both = parted (Becomes side watch task) starts others c.push_reserved.new.self.items c.act_all.new.roles.items (Watch o.watcher) (Watch c.in-Some-Watch.watcher) c.push_reserved.ensures.items last c.act_all.ensures in
+    both.1.keeps.joined
+
+pub close-totals-requires-clause-room : goal.close-totals-requires-clause-room
+close-totals-requires-clause-room g c =
+    let o = c.args.opened in
+    let task : Task = record { table = o.table; source = source_data c.args.setup.source; most = c.args.setup.most } in
+    let side = g.S.Side.state in
+    let watch = g.W.PatternMaker.state in
+    let starts = c.push_workers.new.roles.items in
+    let others = c.pop.new.self.items in
+    let last = c.pop.ensures.items ∙ ap (λ (x : _). others ++ option_to_list x) (c.in-Some-Watch.is ∙ ap Some c.in-Some-Watch.field-0-is) in
+    let both = parted (Becomes side watch task) starts others c.push_reserved.new.self.items c.act_all.new.roles.items (Watch o.watcher) (Watch c.in-Some-Watch.watcher) c.push_reserved.ensures.items last c.act_all.ensures in
+    omega (arith, both.1.keeps.home.empty, both.1.keeps.home.room, both.1.keeps.workers)
+
+pub close-totals-requires-clause-filled : goal.close-totals-requires-clause-filled
+close-totals-requires-clause-filled g c =
+    let o = c.args.opened in
+    let task : Task = record { table = o.table; source = source_data c.args.setup.source; most = c.args.setup.most } in
+    let side = g.S.Side.state in
+    let watch = g.W.PatternMaker.state in
+    let starts = c.push_workers.new.roles.items in
+    let others = c.pop.new.self.items in
+    let last = c.pop.ensures.items ∙ ap (λ (x : _). others ++ option_to_list x) (c.in-Some-Watch.is ∙ ap Some c.in-Some-Watch.field-0-is) in
+    let both = parted (Becomes side watch task) starts others c.push_reserved.new.self.items c.act_all.new.roles.items (Watch o.watcher) (Watch c.in-Some-Watch.watcher) c.push_reserved.ensures.items last c.act_all.ensures in
+    both.1.keeps.filled
+
+pub close-totals-requires-clause-kept : goal.close-totals-requires-clause-kept
+close-totals-requires-clause-kept g c =
+    let o = c.args.opened in
+    let task : Task = record { table = o.table; source = source_data c.args.setup.source; most = c.args.setup.most } in
+    let side = g.S.Side.state in
+    let watch = g.W.PatternMaker.state in
+    let starts = c.push_workers.new.roles.items in
+    let others = c.pop.new.self.items in
+    let last = c.pop.ensures.items ∙ ap (λ (x : _). others ++ option_to_list x) (c.in-Some-Watch.is ∙ ap Some c.in-Some-Watch.field-0-is) in
+    let both = parted (Becomes side watch task) starts others c.push_reserved.new.self.items c.act_all.new.roles.items (Watch o.watcher) (Watch c.in-Some-Watch.watcher) c.push_reserved.ensures.items last c.act_all.ensures in
+    let leaves = leave side watch task 0 o.sides.items starts others c.part.new.dones.items c.part.new.passes.items c.push_workers.ensures.start both.0 c.part.ensures in
+    leaves.kept
+
+pub returns : goal.returns
+returns g c =
+    let o = c.args.opened in
+    let task : Task = record { table = o.table; source = source_data c.args.setup.source; most = c.args.setup.most } in
+    let side = g.S.Side.state in
+    let watch = g.W.PatternMaker.state in
+    let starts = c.push_workers.new.roles.items in
+    let others = c.pop.new.self.items in
+    let last = c.pop.ensures.items ∙ ap (λ (x : _). others ++ option_to_list x) (c.in-Some-Watch.is ∙ ap Some c.in-Some-Watch.field-0-is) in
+    let both = parted (Becomes side watch task) starts others c.push_reserved.new.self.items c.act_all.new.roles.items (Watch o.watcher) (Watch c.in-Some-Watch.watcher) c.push_reserved.ensures.items last c.act_all.ensures in
+    let leaves = leave side watch task 0 o.sides.items starts others c.part.new.dones.items c.part.new.passes.items c.push_workers.ensures.start both.0 c.part.ensures in
+    let end = c.close-totals.ensures in
+    finishes side watch (run_setup c.args.setup) o c.in-Some-Watch.watcher c.part.new.dones.items c.part.new.passes.items others c.close-totals.result.published c.requires.opened both.1 leaves end.published end.closed end.traced

@@ -13,7 +13,10 @@ from program import PROGRAM, SECONDS, Client, Rows, Served, corefile, free_port,
 
 QUERY = bytes.fromhex("123401000001000000000000" "076578616d706c65036f726700" "00010001")
 WHOAMI = ".:{port} {\n\twhoami\n}\n"
-RELOAD = ".:{port} {\n\treload\n\twhoami\n}\n"
+RELOAD = ".:{port} {\n\treload 2s 1s\n\twhoami\n}\n"
+
+# Longer than a look waits at most.
+A_LOOK = 3.3
 NOBODY = 65534
 
 
@@ -57,11 +60,12 @@ def a_pipe_while_it_serves(rows):
         rows.row("a server with reload serves", server.is_serving(QUERY))
         os.remove(server.path)
         os.mkfifo(server.path)
-        time.sleep(1.1)
+        time.sleep(A_LOOK)
         with Client(server.port) as client:
             rows.row("it answers while its Corefile is a pipe", all(client.ask(QUERY) is not None for _ in range(5)))
-        rows.equal("and says so once", server.noted(),
-                   [f"read {server.path}: not a regular file", f"reload cannot read {server.path}"])
+        said = server.noted()
+        rows.row("and says so at each look", len(said) % 2 == 0 and said == len(said) // 2 * [
+            f"read {server.path}: not a regular file", f"reload cannot read {server.path}"] != [], said)
 
 
 def ports(rows):
@@ -156,17 +160,14 @@ def full_pipe(rows):
         os.close(writer)
         rows.row("it serves with standard error a full pipe", server.is_serving(QUERY))
         for count in range(2):
-            time.sleep(1.1)
             put(server, broken(count))
-            time.sleep(1.1)
+            time.sleep(A_LOOK)
             rows.equal("no query waits for a note", server.answers(5), 5)
         os.set_blocking(reader, False)
         rest = drained(reader)
         rows.row("the notes have failed", set(rest) <= {ord(".")}, rest[-80:])
         put(server, broken(7))
-        time.sleep(1.2)
-        server.answers(2)
-        time.sleep(0.2)
+        time.sleep(A_LOOK)
         rest = drained(reader)
         rows.row("a later note goes out", rest.startswith(b"reload refused: ") and rest.endswith(b"\n"), rest)
     os.close(reader)
@@ -190,9 +191,8 @@ def nobody_reads(rows):
         os.close(writer)
         rows.row("it serves with standard error a pipe", server.is_serving(QUERY))
         os.close(reader)
-        time.sleep(1.1)
         put(server, broken(0))
-        time.sleep(1.1)
+        time.sleep(A_LOOK)
         rows.equal("it serves on when nobody reads that pipe", server.answers(5), 5)
 
 

@@ -89,16 +89,18 @@ class Run:
                 return None, client.getsockname()[1]
 
     def next_note(self, line):
-        """Whether the next line on standard error is this one, in time. A look may come behind a query, so some are sent."""
+        """The next line on standard error, in time. A look that comes to the same as the one before repeats its line: unless that is
+        the one that is waited for, repeated lines are passed over."""
         end = time.monotonic() + SECONDS
         while time.monotonic() < end:
             with open(self.errors) as file:
                 noted = [text for text in file.read().split("\n")[:-1]]
-            if len(noted) > self.read:
+            while len(noted) > self.read:
                 self.read += 1
-                return noted[self.read - 1]
-            self.ask(PROBE, 0.2)
-            time.sleep(0.1)
+                said, before = noted[self.read - 1], noted[self.read - 2] if self.read > 1 else None
+                if said != before or said == line:
+                    return said
+            time.sleep(0.05)
         return None
 
     def end(self):
@@ -163,7 +165,7 @@ def take_step(run, rows, title, line, body):
         take_query(run, rows, text, words, body)
     elif verb == "noted":
         run.started()
-        rows.equal(text, run.next_note(rest), run.filled(rest, **{"client-port": run.client}))
+        rows.equal(text, run.next_note(run.filled(rest, **{"client-port": run.client})), run.filled(rest, **{"client-port": run.client}))
     elif verb == "run":
         ran = subprocess.run([PROGRAM, *map(run.filled, words[1:])], capture_output=True, text=True, timeout=SECONDS, env=run.env)
         rows.equal(text, [f"status {ran.returncode}", *ran.stdout.split("\n")[:-1], *ran.stderr.split("\n")[:-1]], [run.filled(line) for line in body])

@@ -33,15 +33,16 @@ class Rows:
 
 
 def free_port():
-    """A UDP port that nothing has at the moment, below those that the system gives to clients.
+    """A port that nothing has at the moment over UDP or TCP, below those that the system gives to clients.
 
     A client that asks before the server stands could be given the server's port otherwise, and would hear itself.
     """
     while True:
         port = random.randrange(20000, 32000)
-        with socket.socket(socket.AF_INET, socket.SOCK_DGRAM) as probe:
+        with socket.socket(socket.AF_INET, socket.SOCK_DGRAM) as probe, socket.socket(socket.AF_INET, socket.SOCK_STREAM) as other:
             try:
                 probe.bind(("0.0.0.0", port))
+                other.bind(("0.0.0.0", port))
                 return port
             except OSError:
                 pass

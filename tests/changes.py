@@ -1,0 +1,155 @@
+"""A zone that changes under load, in each way in which files are replaced: every reply is of one version, and no client
+sees an older one than it saw before, since its datagrams reach one worker. `changes.py 200` is a soak of as many."""
+import os
+import re
+import sys
+import tempfile
+import threading
+import time
+
+sys.path.insert(0, os.path.join(os.path.dirname(os.path.abspath(__file__)), "lib"))
+from program import Client, Rows, Served, needs_program  # noqa: E402
+
+CHANGES = 8
+CLIENTS = 6
+# A look comes within three seconds of the one before.
+LOOK = 3.0
+NAME = bytes.fromhex("0176076578616d706c65036f726700")
+QUERY = bytes.fromhex("123400000001000000000000") + NAME + bytes.fromhex("00100001")
+VERSION = re.compile(rb"version-(\d{6})")
+
+
+def zone(version):
+    return f"""$ORIGIN example.org.
+$TTL 60
+@ IN SOA ns.example.org. admin.example.org. {version} 7200 3600 1209600 60
+@ IN NS ns.example.org.
+v IN TXT "version-{version:06}"
+""".encode()
+
+
+class Zone:
+    """A zone file behind a link to a link, as a configuration that Kubernetes mounts, and the ways to replace it."""
+
+    def __init__(self, folder):
+        self.folder = folder
+        self.path = os.path.join(folder, "zone")
+        self.folders = 0
+        self.swap(1)
+        os.symlink(os.path.join("..data", "zone"), self.path)
+
+    def swap(self, version):
+        """The folder behind the link becomes another in one step."""
+        self.folders += 1
+        there = os.path.join(self.folder, f"folder{self.folders}")
+        os.mkdir(there)
+        with open(os.path.join(there, "zone"), "wb") as file:
+            file.write(zone(version))
+        link = os.path.join(self.folder, "..data_tmp")
+        os.symlink(os.path.basename(there), link)
+        os.replace(link, os.path.join(self.folder, "..data"))
+
+    def rename(self, version):
+        """Written aside, and renamed over the file."""
+        there = os.path.join(self.folder, "..data", "zone")
+        with open(there + ".new", "wb") as file:
+            file.write(zone(version))
+        os.replace(there + ".new", there)
+
+    def write(self, version):
+        """Cut to nothing, and written anew in two parts: what a look sees between is refused or the old one stays."""
+        text = zone(version)
+        with open(self.path, "wb") as file:
+            file.write(text[:40])
+            file.flush()
+            time.sleep(0.05)
+            file.write(text[40:])
+
+    def come_back(self, version):
+        """Gone for longer than a look takes, and back."""
+        there = os.path.realpath(self.path)
+        os.remove(there)
+        time.sleep(LOOK + 0.5)
+        with open(there + ".new", "wb") as file:
+            file.write(zone(version))
+        os.replace(there + ".new", there)
+
+
+class Asker(threading.Thread):
+    """Asks for the version all the time, over one socket."""
+
+    def __init__(self, port, over):
+        super().__init__()
+        self.port, self.over = port, over
+        self.seen, self.asked, self.lost, self.wrong, self.fell = 0, 0, 0, [], []
+
+    def run(self):
+        with Client(self.port) as client:
+            while not self.over.is_set():
+                self.asked += 1
+                reply = client.ask(QUERY, 1)
+                if reply is None:
+                    self.lost += 1
+                    continue
+                versions = VERSION.findall(reply)
+                if len(versions) != 1 or reply[2:4] != b"\x84\x00":
+                    self.wrong.append(reply)
+                    continue
+                version = int(versions[0])
+                if version < self.seen:
+                    self.fell.append((self.seen, version))
+                self.seen = version
+
+
+def memory(server):
+    with open(f"/proc/{server.process.pid}/statm") as file:
+        return int(file.read().split()[1]) * os.sysconf("SC_PAGE_SIZE") >> 10
+
+
+def changed(rows, changes):
+    with tempfile.TemporaryDirectory() as folder:
+        kept = Zone(folder)
+        conf = ".:{port} {\n\treload 2s 1s\n\tfile " + kept.path + " example.org\n}\n"
+        with Served(conf, "--workers", "4") as server:
+            rows.row("it serves the first version", server.is_serving(QUERY))
+            over = threading.Event()
+            askers = [Asker(server.port, over) for _ in range(CLIENTS)]
+            for asker in askers:
+                asker.start()
+            ways = [kept.rename, kept.write, kept.swap, kept.come_back]
+            missed, first = [], None
+            for version in range(2, changes + 2):
+                way = ways[version % len(ways)]
+                way(version)
+                end = time.monotonic() + 3 * LOOK
+                while time.monotonic() < end and not all(asker.seen == version for asker in askers):
+                    time.sleep(0.02)
+                if not all(asker.seen == version for asker in askers):
+                    missed.append((version, way.__name__, [asker.seen for asker in askers]))
+                if version == CHANGES + 1:
+                    first = memory(server)
+            last = memory(server)
+            over.set()
+            for asker in askers:
+                asker.join()
+            asked = sum(asker.asked for asker in askers)
+            rows.equal(f"each of {changes} versions reached every client", missed, [])
+            rows.equal("every reply was of one version", [reply for asker in askers for reply in asker.wrong], [])
+            rows.equal("no client saw an older version again", [fall for asker in askers for fall in asker.fell], [])
+            lost = sum(asker.lost for asker in askers)
+            rows.row("few datagrams were lost", lost * 1000 <= asked, (lost, asked))
+            rows.row("the server goes on", server.process.poll() is None)
+            if changes > CHANGES:
+                rows.row("it has no more memory than behind the first eight, but for a tenth", last * 10 <= first * 11, (first, last))
+            print(f"# {asked} queries, {lost} lost; {last} KiB resident", flush=True)
+
+
+def main():
+    needs_program()
+    rows = Rows()
+    changed(rows, int(sys.argv[1]) if len(sys.argv) > 1 else CHANGES)
+    rows.end()
+
+
+if __name__ == "__main__":
+    main()

@@ -35,6 +35,15 @@ TEN = name(*[b"label%d" % number for number in range(8)], b"example", b"org")
 
 WHOAMI = ".:%d {\n\twhoami\n}\n"
 RELOAD = ".:%d {\n\treload\n\twhoami\n}\n"
+ZONE = "example.org:%d {\n\tfile FOLDER/db\n}\n"
+HOST = name(b"h617", b"example", b"org")
+WILD = name(b"x", b"w", b"example", b"org")
+ABSENT = name(b"nope", b"example", b"org")
+BELOW = name(b"x", b"sub", b"example", b"org")
+DB = "\n".join([
+    "$TTL 300", "@ SOA ns admin 1 7200 3600 1209600 60", "@ NS ns", "ns A 192.0.2.53", "*.w A 192.0.2.10", "sub NS ns.sub", "ns.sub A 192.0.2.54",
+    *(f"h{k} A 10.9.{k // 256}.{k % 256}" for k in range(1000)), "",
+])
 
 CASES = [
     ("whoami, 2 labels", WHOAMI, query(TWO)),
@@ -42,6 +51,10 @@ CASES = [
     ("whoami, 3 labels", WHOAMI, query(THREE)),
     ("whoami, 10 labels", WHOAMI, query(TEN)),
     ("whoami, 2 labels, with reload", RELOAD, query(TWO)),
+    ("zone of 1,000 names: A with NS and its address", ZONE, query(HOST)),
+    ("the same by a wildcard", ZONE, query(WILD)),
+    ("the same: NXDOMAIN with SOA", ZONE, query(ABSENT)),
+    ("the same: a referral with its address", ZONE, query(BELOW)),
     ("a response, which gets no reply", WHOAMI, query(TWO)[:2] + b"\x81" + query(TWO)[3:]),
 ]
 
@@ -53,7 +66,9 @@ def count(text, message, queries, folder, answered):
         port = probe.getsockname()[1]
     conf = os.path.join(folder, "Corefile")
     with open(conf, "w") as file:
-        file.write(text % port)
+        file.write(text.replace("FOLDER", folder) % port)
+    with open(os.path.join(folder, "db"), "w") as file:
+        file.write(DB)
     out = os.path.join(folder, "callgrind.out")
     server = subprocess.Popen(
         ["valgrind", "--tool=callgrind", f"--callgrind-out-file={out}", PROGRAM, "serve", "--conf", conf, "--queries", str(queries)],

@@ -20,7 +20,7 @@ FEW, MANY = 2_000, 22_000
 PROGRAM = r'''// Answers questions for a zone of so many names, so many times.
 #![tactic(auto)]
 
-use dns_data::{Copies, Name, NoMemory, Rdata, Record, Records, Seq, Soa, Zone, class, kind};
+use dns_data::{Copies, Name, NoMemory, Rdata, Record, Records, Seq, Slot, Soa, Zone, class, kind};
 use std::alloc::Global;
 use std::{env, io};
 use zone_lookup::lookup;
@@ -102,9 +102,10 @@ fn name_of(alloc: Global, case: &str, number: u64, origin: &Name) -> Result<Name
 }
 
 #[inline(never)]
-fn ask(alloc: Global, zone: &TreeZone, name: &Name) -> Result<u64, NoMemory> {
-    let answer = lookup(alloc, zone, name, kind::A)?;
-    Ok(u64::from(answer.rcode).wrapping_add(answer.additional.len() as u64))
+fn ask(alloc: Global, zone: &TreeZone, name: &Name, slot: &mut Slot) -> Result<u64, NoMemory> {
+    slot.clear();
+    lookup(alloc, zone, name, kind::A, slot)?;
+    Ok(u64::from(slot.rcode).wrapping_add(slot.additional.len() as u64))
 }
 
 fn ask_all(alloc: Global, zone: Zone, case: &str, count: u64, times: u64) -> Result<u64, NoMemory> {
@@ -117,11 +118,12 @@ fn ask_all(alloc: Global, zone: Zone, case: &str, count: u64, times: u64) -> Res
         names.push(name)?;
     }
     let mut seen = 0_u64;
+    let mut slot = Slot::new(alloc);
     for t in 0..times {
         let Some(name) = names.get((t % 1024) as usize) else {
             break;
         };
-        seen = seen.wrapping_add(ask(alloc, &tree, name)?);
+        seen = seen.wrapping_add(ask(alloc, &tree, name, &mut slot)?);
     }
     Ok(seen)
 }

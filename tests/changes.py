@@ -1,5 +1,6 @@
 """A zone that changes under load, in each way in which files are replaced: every reply is of one version, and no client
-sees an older one than it saw before, since its datagrams reach one worker. `changes.py 200` is a soak of as many."""
+sees an older one than it saw before. Each asks again only behind its reply, and any of the workers may take its query:
+of two workers' replies that order is seen here, and is proved nowhere. `changes.py 200` is a soak of as many."""
 import os
 import re
 import sys

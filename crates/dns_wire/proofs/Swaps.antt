@@ -1,7 +1,7 @@
 -- What is put behind a draft depends on how long the draft is, and not on its bytes. So the length of a record's data can be filled in later.
 use Rattle.std.proofs.Common.{◌≡◌, ◌≤◌, ℕ, ◌+◌, ◌/◌, ◌%◌, List, [], ◌∷◌, ◌++◌, length, drop, Some, None, refl, sym, ap, ◌∙◌, append_assoc, arith, length-append, length-drop}
 use Rattle.std.proofs.lemmas.List.{append-nil, drop-append-le, drop_all, drop_at}
-use Rattle.std.specs.Prelude.{nat_lt, if◌then◌else◌}
+use Rattle.std.specs.Prelude.{nat_lt, if◌then◌else◌, slice_index}
 use Rattle.std.specs.Int.{w16, w32, w128, to_be_bytes}
 use Rattle.dns_data.specs.Name.{spelled}
 use Rattle.dns_data.specs.Record.{RecordData, kind_of, fields_of, Field, Compressed, Uncompressed, U8, U16, U32, U128, CharString, NonEmpty, CharStrings, Remainder, Unknown}
@@ -142,3 +142,19 @@ unfolding put_data
 aaaa_record d r addr e =
     let head = head_by d r (rdata.Aaaa addr) in
     ap (λ (k : ℕ). put (put_u16 head k) (to_be_bytes w128 addr)) (sym (bytes_behind head (to_be_bytes w128 addr))) ∙ sym (by_data d r (rdata.Aaaa addr) e)
+
+-- what five puts write, one put writes
+five_puts : (d : Draft) (k s t l a : List ℕ) → put d (k ++ (s ++ (t ++ (l ++ a)))) ≡ put (put (put (put (put d k) s) t) l) a
+five_puts d k s t l a =
+    let b = d.bytes in
+    let same : b ++ (k ++ (s ++ (t ++ (l ++ a)))) ≡ (((b ++ k) ++ s) ++ t) ++ l ++ a =
+    sym (append_assoc b k (s ++ (t ++ (l ++ a)))) ∙ sym (append_assoc (b ++ k) s (t ++ (l ++ a))) ∙ sym (append_assoc ((b ++ k) ++ s) t (l ++ a)) ∙ sym (append_assoc (((b ++ k) ++ s) ++ t) l a) in
+    ap (λ (bytes : List ℕ). record { bytes = bytes; offsets = d.offsets }) same
+
+-- what stands behind the owner of an A record
+pub address_at_once : (d : Draft) (k s t a : List ℕ) (kind class ttl addr : ℕ) → k ≡ to_be_bytes w16 kind → s ≡ to_be_bytes w16 class → t ≡ to_be_bytes w32 ttl → a ≡ to_be_bytes w32 addr
+    → put d (slice_index k 0 ∷ slice_index k 1 ∷ slice_index s 0 ∷ slice_index s 1 ∷ slice_index t 0 ∷ slice_index t 1 ∷ slice_index t 2 ∷ slice_index t 3 ∷ 0 ∷ 4 ∷ slice_index a 0 ∷ slice_index a 1 ∷ slice_index a 2 ∷ slice_index a 3 ∷ [])
+    ≡ put_u32 (put_u16 (put_u32 (put_u16 (put_u16 d kind) class) ttl) 4) addr
+address_at_once d k s t a kind class ttl addr ek es et ea =
+    (λ i. put d (slice_index (ek i) 0 ∷ slice_index (ek i) 1 ∷ slice_index (es i) 0 ∷ slice_index (es i) 1 ∷ slice_index (et i) 0 ∷ slice_index (et i) 1 ∷ slice_index (et i) 2 ∷ slice_index (et i) 3 ∷ 0 ∷ 4 ∷ slice_index (ea i) 0 ∷ slice_index (ea i) 1 ∷ slice_index (ea i) 2 ∷ slice_index (ea i) 3 ∷ []))
+    ∙ five_puts d (to_be_bytes w16 kind) (to_be_bytes w16 class) (to_be_bytes w32 ttl) (to_be_bytes w16 4) (to_be_bytes w32 addr)

@@ -1,18 +1,16 @@
 -- Writing a name up to the first suffix that was written out before.
-use Rattle.std.proofs.Common.{◌≡◌, ◌≤◌, ◌<◌, ℕ, ◌+◌, ◌-◌, Bool, nat_eq, List, [], ◌∷◌, ◌++◌, length, take, drop, Option, Some, None, refl, sym, ap, ◌∙◌, append_assoc, arith, length-append, length-drop}
+use Rattle.std.proofs.Common.{◌≡◌, ◌↔◌, ◌≤◌, ◌<◌, ℕ, ◌+◌, ◌-◌, Bool, IsTrue, List, [], ◌∷◌, ◌++◌, length, take, drop, Option, Some, None, refl, sym, ap, ◌∙◌, append_assoc, arith, length-append, length-drop}
 use Rattle.std.proofs.lemmas.List.{take_all, take_at, drop_at, drop-drop}
 use Rattle.std.proofs.Math.Seq.{take-add}
 use Rattle.std.proofs.lemmas.Bool.Decides.{same_from_decides, Decides-eqb}
 use Rattle.std.proofs.lemmas.Slice.Eq.{slice_eq-Decides}
-use Rattle.std.specs.Cmp.Lexicographic.{pointwise}
 use Rattle.dns_data.specs.Name.{IsName, IsWire, spelled, labels_of, same_labels}
 use Rattle.dns_data.specs.NameLaws.{IsName-drop, is_wire, view_of}
 use Rattle.dns_wire.specs.Written.{Draft, put, earliest, keep, put_label, put_name, put_pointer, pointer_or}
 
--- what `==` says of two spellings
-pub same_suffix : (r : Bool) (a b : List ℕ) → IsWire a → IsWire b → r ≡ pointwise nat_eq a b → r ≡ same_labels (labels_of a) (labels_of b)
-same_suffix r a b v w is =
-    let both = slice_eq-Decides Decides-eqb a b r is in
+-- what equal bytes say of two spellings
+pub same_suffix : (r : Bool) (a b : List ℕ) → IsWire a → IsWire b → (IsTrue r ↔ (a ≡ b)) → r ≡ same_labels (labels_of a) (labels_of b)
+same_suffix r a b v w both =
     same_from_decides _ _ (λ t. ap labels_of (both.0 t), λ h. both.1 (sym v.spells ∙ ap spelled h ∙ w.spells))
     (slice_eq-Decides (λ a b. slice_eq-Decides Decides-eqb a b _ refl) (labels_of a) (labels_of b) _ refl)
 

@@ -1,5 +1,7 @@
 ghost use Rattle.std.specs.Prelude.{◌≡◌, ◌≤◌, ◌+◌, [], true, length, map, IfOk, List, ℕ};
-ghost use Rattle.dns_data.specs.Record.{Compressed, Uncompressed, U8, U16, U32, U128, CharString, NonEmpty, CharStrings, Remainder, fields_of, kind_of, is_known_type};
+ghost use Rattle.dns_data.specs.Record.{Compressed, Uncompressed, U8, U16, U32, U128, CharString};
+ghost use Rattle.dns_data.specs.Record.{NonEmpty, CharStrings, Remainder, fields_of, kind_of};
+ghost use Rattle.dns_data.specs.Record.{is_known_type};
 ghost use Rattle.dns_wire.specs.Fields.{shape, shapes_of};
 ghost use Rattle.dns_wire.specs.Known.{AreKnown};
 ghost use Rattle.dns_wire.specs.Cursor.{HasRead, Passes, TakesString, Takes, ReadsData, back_onto};

@@ -1,4 +1,5 @@
-ghost use Rattle.std.specs.Prelude.{◌≡◌, ◌≤◌, ◌<◌, ◌+◌, ◌++◌, ℕ, List, length, IfSome, IfNone, IfOk, OnOk, IsTrue, ◌↔◌};
+ghost use Rattle.std.specs.Prelude.{◌≡◌, ◌≤◌, ◌<◌, ◌+◌, ◌++◌, ℕ, List, length, IfSome, IfNone};
+ghost use Rattle.std.specs.Prelude.{IfOk, OnOk, IsTrue, ◌↔◌};
 ghost use Rattle.dns_data.specs.Name.{IsName, IsWire, labels_of, wire_length};
 ghost use Rattle.dns_wire.specs.Wire.{NameAt, PointerAt, WholeNameAt};
 ghost use Rattle.dns_wire.specs.Sequences.{SequenceAt};

@@ -6,6 +6,7 @@ ghost use Rattle.dns_wire.specs.Offsets.{offset_of, IsOffset};
 
 use dns_data::NoMemory;
 use dns_data::limit::POINTER_END;
+use equal_bytes::are_equal;
 use std::alloc::Global;
 use std::marker::Model;
 
@@ -52,7 +53,7 @@ impl<'a> Offsets<'a> {
         self.count + self.far.len()
     }
 
-    #[inline]
+    #[inline(always)]
     pub fn push(&mut self, suffix: &'a [u8], at: usize) -> Result<(), NoMemory>
         requires wire { IsWire suffix.now }
         requires small { at < POINTER_END }
@@ -109,8 +110,20 @@ impl<'a> Offsets<'a> {
         if self.count < NEAR {
             return None;
         }
-        find_among(&self.far, suffix)
+        find_far(&self.far, suffix)
     }
+}
+
+// The same as `find_among`. Stays a call, since most replies have no such offsets.
+#[cold]
+#[inline(never)]
+fn find_far(offsets: &[(&[u8], usize)], suffix: &[u8]) -> Option<usize>
+    requires wire { IsWire suffix.now }
+    requires offsets { AllByRecursion IsOffset offsets.now }
+    ensures value { result ≡ earliest (map offset_of offsets.now) (labels_of suffix.now) }
+    ensures small { IfSome result (λ at. at < POINTER_END) }
+{
+    find_among(offsets, suffix)
 }
 
 #[inline]
@@ -121,7 +134,7 @@ fn find_among(offsets: &[(&[u8], usize)], suffix: &[u8]) -> Option<usize>
     ensures small { IfSome result (λ at. at < POINTER_END) }
 {
     for offset in offsets {
-        if offset.0 == suffix {
+        if are_equal(offset.0, suffix) {
             return Some(offset.1);
         }
     }

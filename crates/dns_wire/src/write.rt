@@ -1,11 +1,14 @@
-ghost use Rattle.std.specs.Prelude.{◌≡◌, ◌≤◌, ◌<◌, ◌+◌, ◌-◌, ◌^◌, [], ◌∷◌, length, take, vec_len, OnOk, IfOk, IfSome};
+ghost use Rattle.std.specs.Prelude.{◌≡◌, ◌≤◌, ◌<◌, ◌+◌, ◌-◌, ◌^◌, [], ◌∷◌, length, take, vec_len};
+ghost use Rattle.std.specs.Prelude.{OnOk, IfOk, IfSome};
 ghost use Rattle.std.specs.Int.{w16, to_be_bytes};
 ghost use Rattle.dns_data.specs.Record.{IsProper};
 ghost use Rattle.dns_wire.specs.Writes.{Writes};
-ghost use Rattle.dns_wire.specs.Written.{size, put, put_question, opt_bytes, header, untruncated, truncated, kept, written, IsLongest};
+ghost use Rattle.dns_wire.specs.Written.{size, put, put_question, opt_bytes, header, untruncated};
+ghost use Rattle.dns_wire.specs.Written.{truncated, kept, written, IsLongest};
 ghost use Rattle.dns_data.specs.Message.{AreCodes};
 ghost use Rattle.dns_wire.specs.Assembled.{message_of, high_byte, low_byte};
-ghost use Rattle.dns_wire.specs.Putting.{total, QuestionFits, OptFits, PutWithin, PutLongest, AreKept};
+ghost use Rattle.dns_wire.specs.Putting.{total, QuestionFits, OptFits, PutWithin, PutLongest};
+ghost use Rattle.dns_wire.specs.Putting.{AreKept};
 
 use crate::Flags;
 use crate::write_record::put_record;
@@ -177,8 +180,9 @@ fn put_sections<'a>(
     })
 }
 
-// Puts records until one doesn't fit, and gives how many were put. Mostly there are none.
-#[inline]
+// Puts records until one doesn't fit, and gives how many were put. Mostly there are none, which
+// takes no call.
+#[inline(always)]
 fn put_records<'a>(
     writer: &mut Writer<'a>,
     records: &'a [Record],
@@ -195,6 +199,7 @@ fn put_records<'a>(
 }
 
 // Puts records until one doesn't fit, and gives how many were put.
+#[inline(never)]
 fn put_each<'a>(
     writer: &mut Writer<'a>,
     records: &'a [Record],
@@ -267,7 +272,7 @@ fn id_bytes(id: u16) -> [u8; 2]
 }
 
 // The two bytes of flags and codes in a header.
-#[inline]
+#[inline(always)]
 fn flag_bytes(flags: Flags, is_truncated: bool) -> [u8; 2]
     requires { AreCodes flags.opcode flags.rcode }
     ensures { result ≡ high_byte flags is_truncated ∷ low_byte flags ∷ [] }
@@ -282,7 +287,7 @@ fn flag_bytes(flags: Flags, is_truncated: bool) -> [u8; 2]
 }
 
 // The header of a message of which so many records are written.
-#[inline]
+#[inline(always)]
 #[tactic(auto, unfolding(crate::specs::Written::header, crate::specs::Written::truncated))]
 fn header_bytes(parts: &MessageParts<'_>, kept: Counts) -> [u8; 12]
     requires codes { AreCodes parts.now.flags.opcode parts.now.flags.rcode }

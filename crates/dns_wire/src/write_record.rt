@@ -2,7 +2,8 @@ ghost use Rattle.std.specs.Prelude.{◌≡◌, OnOk};
 ghost use Rattle.std.specs.List.{AllByRecursion};
 ghost use Rattle.dns_data.specs.Record.{IsFormed, IsProper, IsCharacterString, fields_of};
 ghost use Rattle.dns_data.specs.declared.record.Rdata.TheVariants as rdata;
-ghost use Rattle.dns_wire.specs.Written.{put_u16, put_u32, put_string, put_strings, put_fields, put_data, put_record};
+ghost use Rattle.dns_wire.specs.Written.{put_u16, put_u32, put_string, put_strings, put_fields};
+ghost use Rattle.dns_wire.specs.Written.{put_data, put_record};
 
 use crate::writer::Writer;
 use dns_data::{Bytes, NoMemory, Rdata, Record, Soa};
@@ -15,10 +16,7 @@ pub fn put_record<'a>(writer: &mut Writer<'a>, rr: &'a Record) -> Result<(), NoM
     writer.put_name(&rr.owner)?;
     let (kind, class, ttl) = (rr.rdata.kind(), rr.class, rr.ttl);
     match &rr.rdata {
-        Rdata::A(addr) => {
-            put_head(writer, kind, class, ttl, 4)?;
-            put_u32(writer, *addr)
-        }
+        Rdata::A(addr) => put_address(writer, kind, class, ttl, *addr),
         Rdata::Aaaa(addr) => {
             put_head(writer, kind, class, ttl, 16)?;
             writer.put(&addr.to_be_bytes())
@@ -52,6 +50,28 @@ fn put_head(
     let length = length.to_be_bytes();
     writer.put(&[
         kind[0], kind[1], class[0], class[1], ttl[0], ttl[1], ttl[2], ttl[3], length[0], length[1],
+    ])
+}
+
+// What stands behind the owner of an A record, by one put.
+#[inline]
+fn put_address(
+    writer: &mut Writer<'_>,
+    kind: u16,
+    class: u16,
+    ttl: u32,
+    addr: u32,
+) -> Result<(), NoMemory>
+    ensures { OnOk result (writer.new
+        ≡ put_u32 (put_u16 (put_u32 (put_u16 (put_u16 writer.old kind) class) ttl) 4) addr) }
+{
+    let kind = kind.to_be_bytes();
+    let class = class.to_be_bytes();
+    let ttl = ttl.to_be_bytes();
+    let addr = addr.to_be_bytes();
+    writer.put(&[
+        kind[0], kind[1], class[0], class[1], ttl[0], ttl[1], ttl[2], ttl[3], 0, 4, addr[0],
+        addr[1], addr[2], addr[3],
     ])
 }
 

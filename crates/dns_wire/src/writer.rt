@@ -1,7 +1,9 @@
-ghost use Rattle.std.specs.Prelude.{◌≡◌, ◌<◌, ◌≤◌, ◌+◌, ◌-◌, ◌^◌, ◌++◌, [], length, take, drop, vec_len, OnOk, IfOk};
+ghost use Rattle.std.specs.Prelude.{◌≡◌, ◌<◌, ◌≤◌, ◌+◌, ◌-◌, ◌^◌, ◌++◌, [], length, take, drop};
+ghost use Rattle.std.specs.Prelude.{vec_len, OnOk, IfOk};
 ghost use Rattle.std.specs.Int.{w16, to_be_bytes};
 ghost use Rattle.dns_data.specs.Name.{IsName, IsWire, labels_of};
-ghost use Rattle.dns_wire.specs.Written.{size, put, put_u16, put_name, put_pointer, put_whole, keep};
+ghost use Rattle.dns_wire.specs.Written.{size, put, put_u16, put_name, put_pointer, put_whole};
+ghost use Rattle.dns_wire.specs.Written.{keep};
 
 use crate::offsets::Offsets;
 use dns_data::limit::{HEADER_BYTES, POINTER_END};
@@ -52,7 +54,7 @@ impl<'a> Writer<'a> {
     }
 
     /// The message, with its header in front.
-    #[inline]
+    #[inline(always)]
     pub fn into_bytes(self, header: &[u8; 12]) -> Bytes
         ensures { result ≡ header.now ++ self.entry.bytes }
     {
@@ -124,7 +126,7 @@ impl<'a> Writer<'a> {
     }
 
     // Remembers that a suffix will stand behind the bytes so far and those ahead of it.
-    #[inline]
+    #[inline(always)]
     fn keep(&mut self, ahead: &[u8], suffix: &'a [u8]) -> Result<(), NoMemory>
         requires { IsWire suffix.now }
         ensures { OnOk result (self.new ≡ record {
@@ -238,7 +240,7 @@ pub fn begun(room: Bytes) -> Result<Vec<u8>, NoMemory>
 }
 
 // Puts bytes in place of those that stand from an offset on.
-#[inline]
+#[inline(always)]
 fn overwrite(out: &mut Vec<u8>, at: usize, bytes: &[u8])
     requires { at + length bytes.now ≤ vec_len out.old }
     ensures { out.new.items ≡ take at out.old.items

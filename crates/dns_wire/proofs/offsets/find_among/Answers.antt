@@ -7,21 +7,21 @@ use Rattle.dns_wire.proofs.Writing.{same_suffix}
 use Rattle.dns_wire.proofs.Searching.{Stored, all_at, found_here, passed_here, none_left}
 use Rattle.dns_wire.proofs.offsets.find_among.Goals as goal
 
-pub returns-then-eq-clause-value : goal.returns-then-eq-clause-value
-returns-then-eq-clause-value c =
+pub returns-then-are_equal-clause-value : goal.returns-then-are_equal-clause-value
+returns-then-are_equal-clause-value c =
     let i = c.loop-offset.offset-index in
     let wire = (all_at IsOffset c.args.offsets.now i _ c.requires.offsets (omega arith)).0 in
-    let same = sym (same_suffix c.eq.result _ c.args.suffix.now wire c.requires.wire c.eq.ensures) ∙ c.if-eq.true in
+    let same = sym (same_suffix c.are_equal.result _ c.args.suffix.now wire c.requires.wire c.are_equal.ensures) ∙ c.if-are_equal.true in
     sym (found_here c.args.offsets.now i _ (labels_of c.args.suffix.now) (omega arith) same) ∙ c.loop-offset.invariant
 
-pub returns-then-eq-clause-small : goal.returns-then-eq-clause-small
-returns-then-eq-clause-small c = (all_at IsOffset c.args.offsets.now c.loop-offset.offset-index _ c.requires.offsets (omega arith)).1
+pub returns-then-are_equal-clause-small : goal.returns-then-are_equal-clause-small
+returns-then-are_equal-clause-small c = (all_at IsOffset c.args.offsets.now c.loop-offset.offset-index _ c.requires.offsets (omega arith)).1
 
 pub loop-offset-preserved : goal.loop-offset-preserved
 loop-offset-preserved c =
     let i = c.loop-offset.offset-index in
     let wire = (all_at IsOffset c.args.offsets.now i _ c.requires.offsets (omega arith)).0 in
-    let other = sym (same_suffix c.eq.result _ c.args.suffix.now wire c.requires.wire c.eq.ensures) ∙ c.if-eq.false in
+    let other = sym (same_suffix c.are_equal.result _ c.args.suffix.now wire c.requires.wire c.are_equal.ensures) ∙ c.if-are_equal.false in
     sym (passed_here c.args.offsets.now i _ (labels_of c.args.suffix.now) (omega arith) other) ∙ c.loop-offset.invariant
 
 pub returns-clause-value : goal.returns-clause-value

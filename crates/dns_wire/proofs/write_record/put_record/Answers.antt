@@ -31,20 +31,20 @@ returns-in_ok-put_data-in_default-clause-text c =
     c.fill_length.ensures ∙ filled head c.put_data.new.writer c.len-at.result (data_length r.rdata) at grown ∙ ap (with_length head) more
     ∙ record_by_parts c.args.writer.now r ∙ ap (put_record c.args.writer.now) c.rr.view_is
 
-pub returns-in_ok-put_head-in-A-clause-text : goal.returns-in_ok-put_head-in-A-clause-text
-returns-in_ok-put_head-in-A-clause-text c =
+pub returns-in-A-clause-text : goal.returns-in-A-clause-text
+returns-in-A-clause-text c =
     let r : RecordData = record { owner = c.rr.inside.owner; class = c.rr.inside.class; ttl = c.rr.inside.ttl; rdata = c.rr.inside.rdata } in
     let kind = c.kind-kind.ensures ∙ ap kind_of c.in-A.is in
-    let begun : c.put_head.new.writer ≡ put_u16 (head_by c.args.writer.now r (rdata.A c.in-A.addr)) 4 =
-    c.in_ok-put_head-in-A.ensures ∙ (λ i. put_u16 (put_u32 (put_u16 (put_u16 (c.in_ok-put_name.ensures.text i) (kind i)) r.class) r.ttl) 4) in
-    let whole = ap (λ (d : Draft). put_u32 d c.in-A.addr) begun ∙ a_record c.args.writer.now r c.in-A.addr c.in-A.is ∙ ap (put_record c.args.writer.now) c.rr.view_is in
-    on_ok_weaker c.put_u32.result (λ (p : c.put_u32.new.writer ≡ put_u32 c.put_head.new.writer c.in-A.addr). p ∙ whole) c.put_u32.ensures
+    let begun : put_u32 (put_u16 (put_u32 (put_u16 (put_u16 c.put_name.new.self c.kind-kind.result) r.class) r.ttl) 4) c.in-A.addr ≡ put_u32 (put_u16 (head_by c.args.writer.now r (rdata.A c.in-A.addr)) 4) c.in-A.addr =
+    λ i. put_u32 (put_u16 (put_u32 (put_u16 (put_u16 (c.in_ok-put_name.ensures.text i) (kind i)) r.class) r.ttl) 4) c.in-A.addr in
+    let whole = begun ∙ a_record c.args.writer.now r c.in-A.addr c.in-A.is ∙ ap (put_record c.args.writer.now) c.rr.view_is in
+    on_ok_weaker c.put_address.result (λ (p : c.put_address.new.writer ≡ put_u32 (put_u16 (put_u32 (put_u16 (put_u16 c.put_name.new.self c.kind-kind.result) r.class) r.ttl) 4) c.in-A.addr). p ∙ whole) c.put_address.ensures
 
 pub returns-in_ok-put_head-in-Aaaa-clause-text : goal.returns-in_ok-put_head-in-Aaaa-clause-text
 returns-in_ok-put_head-in-Aaaa-clause-text c =
     let r : RecordData = record { owner = c.rr.inside.owner; class = c.rr.inside.class; ttl = c.rr.inside.ttl; rdata = c.rr.inside.rdata } in
     let kind = c.kind-kind.ensures ∙ ap kind_of c.in-Aaaa.is in
-    let begun : c.put_head-in-Aaaa.new.writer ≡ put_u16 (head_by c.args.writer.now r (rdata.Aaaa c.in-Aaaa.addr)) 16 =
+    let begun : c.put_head.new.writer ≡ put_u16 (head_by c.args.writer.now r (rdata.Aaaa c.in-Aaaa.addr)) 16 =
     c.in_ok-put_head-in-Aaaa.ensures ∙ (λ i. put_u16 (put_u32 (put_u16 (put_u16 (c.in_ok-put_name.ensures.text i) (kind i)) r.class) r.ttl) 16) in
     let whole = (λ i. put (begun i) (c.to_be_bytes.ensures i)) ∙ aaaa_record c.args.writer.now r c.in-Aaaa.addr c.in-Aaaa.is ∙ ap (put_record c.args.writer.now) c.rr.view_is in
-    on_ok_weaker c.put.result (λ (p : c.put.new.self ≡ put c.put_head-in-Aaaa.new.writer c.to_be_bytes.result). p ∙ whole) c.put.ensures
+    on_ok_weaker c.put.result (λ (p : c.put.new.self ≡ put c.put_head.new.writer c.to_be_bytes.result). p ∙ whole) c.put.ensures

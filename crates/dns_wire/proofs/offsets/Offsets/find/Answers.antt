@@ -20,5 +20,5 @@ returns-clause-value c =
     let near = take c.self.inside.count c.self.inside.near in
     let far = c.self.inside.far.items in
     let none : earliest (map offset_of near) s ≡ None = sym c.in_default.ensures.value in
-    c.find_among-2.ensures.value ∙ ap (λ (ps : List Stored). earliest (map offset_of ps) s) c.deref.ensures.value
+    c.find_far.ensures.value ∙ ap (λ (ps : List Stored). earliest (map offset_of ps) s) c.deref.ensures.value
     ∙ sym (ap (λ (o : Option ℕ). option_or o (earliest (map offset_of far) s)) none) ∙ sym (earliest_of_both near far s) ∙ ap (λ (ps : List OffsetData). earliest ps s) c.self.view_is

@@ -195,7 +195,7 @@ fn push_authority<Z: ZoneStore>(
     if is_question(zone.origin(), name, kind) {
         return Ok(());
     }
-    zone.copy_set(alloc, zone.origin(), kind::NS, out)
+    zone.copy_top(alloc, kind::NS, out)
 }
 
 // Whether the question is for the origin's NS.

@@ -45,5 +45,5 @@ pub fn is_at(entry: &Record, name: &Name) -> bool
 pub fn is_of(entry: &Record, name: &Name, kind: u16) -> bool
     ensures { result ≡ is_of name.now kind entry.now }
 {
-    same(&entry.owner, name) && entry.rdata.kind() == kind
+    entry.rdata.kind() == kind && same(&entry.owner, name)
 }

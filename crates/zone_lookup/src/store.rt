@@ -39,6 +39,14 @@ pub trait ZoneStore {
         ensures ok { OnOk result (out.new ≡ out.old ++ set_at (zone self.now) name.now kind) }
         ensures err { OnErr result (Begins out.old out.new) };
 
+    /// Appends copies of the records of a type at the origin.
+    fn copy_top(&self, alloc: Global, kind: u16, out: &mut RecordRoom) -> Result<(), NoMemory>
+        ensures { OnOk result
+            (out.new ≡ out.old ++ set_at (zone self.now) (zone self.now).origin kind) }
+    {
+        self.copy_set(alloc, self.origin(), kind, out)
+    }
+
     /// The cut at or above a name.
     fn cut(&self, alloc: Global, name: &Name) -> Result<Option<Name>, NoMemory>
         ensures { IfOk result (λ cut. cut ≡ cut_of (zone self.now) name.now) }

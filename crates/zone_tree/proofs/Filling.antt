@@ -18,7 +18,7 @@ use Rattle.zone_lookup.specs.ZoneAnswer.{found_at, is_alias, alias_found, set_fo
 use Rattle.zone_lookup.specs.declared.find.Find.{Find}
 use Rattle.zone_lookup.proofs.PlainList.{has_any, has_of}
 use Rattle.zone_tree.specs.Sets.{before, is_asked, is_kind, picked, set_in, is_alias_in, found_in}
-use Rattle.zone_tree.specs.Tree.{AreEmpty, AreNames, AreSets, exists_among}
+use Rattle.zone_tree.specs.Tree.{AreEmpty, AreNames, AreSets, IsNumbered, exists_among}
 use Rattle.zone_tree.proofs.Picking.{picked-append, picked_one, picked_none}
 use Rattle.zone_tree.proofs.Shapes.{named_as, named_from, inside, set_either, under_true}
 use Rattle.std.proofs.lemmas.List.{drop_at}
@@ -252,3 +252,14 @@ pub exists_by : (names : List (List (List ℕ))) (zone : Zone) (name key : List 
 unfolding exists_in exists_among
 exists_by names zone name key None n e some none = sym (n.missing name (subst (λ (k : List (List ℕ)). IsMissing names k) e none))
 exists_by names zone name key (Some i) n e some none = sym (n.stands i name (subst (λ (k : List (List ℕ)). IsNamed names i k) e some.is))
+
+-- a number that was found, and one that wasn't
+pub numbered : (names : List (List (List ℕ))) (found : Option ℕ) (key name : List (List ℕ)) → key ≡ name → IfSome found (λ i. IsNumberOf names key i) → IfNone found (IsMissing names key) → IsNumbered names found name
+numbered names None key name e some none = subst (λ (n : List (List ℕ)). IsMissing names n) e none
+numbered names (Some i) key name e some none = subst (λ (n : List (List ℕ)). IsNamed names i n) e some.is
+
+pub numbered_some : (names : List (List (List ℕ))) (found : Option ℕ) (i : ℕ) (name : List (List ℕ)) → IsNumbered names found name → found ≡ Some i → IsNamed names i name
+numbered_some names found i name h e = rw e at h
+
+pub numbered_none : (names : List (List (List ℕ))) (found : Option ℕ) (name : List (List ℕ)) → IsNumbered names found name → found ≡ None → IsMissing names name
+numbered_none names found name h e = rw e at h

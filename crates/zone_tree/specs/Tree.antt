@@ -114,9 +114,15 @@ pub record AreCuts (names : List (List (List ℕ))) (zone : Zone) (cuts : List (
   pub each : (i : ℕ) (name : List (List ℕ)) (cut : Option ℕ) → slice_get names i ≡ Some name
       → slice_get cuts i ≡ Some cut → IsCutAt names (cut_of zone name) cut
 
+-- the number is that of a name, where it is there
+abbrev pub IsNumbered : List (List (List ℕ)) → Option ℕ → List (List ℕ) → Type 0
+IsNumbered names None name = IsMissing names name
+IsNumbered names (Some i) name = IsNamed names i name
+
 -- the whole invariant
 pub record IsTree (tree : Tree) : Type 0 where
   pub shape : IsShape tree.table tree.nodes.items
   pub names : AreNames tree.table tree.zone.records
+  pub top : IsNumbered tree.table tree.top tree.zone.origin
   pub sets : AreSets tree.table tree.zone.records tree.sets.items (length tree.zone.records)
   pub cuts : AreCuts tree.table tree.zone tree.cuts.items (length tree.table)

@@ -1,6 +1,7 @@
 ghost use Rattle.std.specs.Prelude.{◌≡◌, ◌++◌, ◌<◌, [], ◌∷◌, Some, length, IfOk, OnOk};
 ghost use Rattle.std.specs.Prelude.{slice_get, slice_set};
-ghost use Rattle.zone_tree.specs.Tree.{starred, starts_wild, Adding, AreNames, Grows, HasAll, IsNew, IsShape};
+ghost use Rattle.zone_tree.specs.Tree.{starred, starts_wild, Adding, AreNames, Grows, HasAll};
+ghost use Rattle.zone_tree.specs.Tree.{IsNew, IsShape};
 
 use crate::node::Node;
 use dns_data::{Name, NoMemory, Record};

@@ -44,6 +44,15 @@ impl ZoneStore for TreeZone {
         copy_asked(alloc, records, tree.sets[number].as_slice(), kind, out)
     }
 
+    fn copy_top(&self, alloc: Global, kind: u16, out: &mut RecordRoom) -> Result<(), NoMemory> {
+        let tree = &self.tree;
+        let Some(number) = tree.top else {
+            return Ok(());
+        };
+        let all = tree.zone.records.as_slice();
+        copy_asked(alloc, all, tree.sets[number].as_slice(), kind, out)
+    }
+
     fn cut(&self, alloc: Global, name: &Name) -> Result<Option<Name>, NoMemory> {
         let tree = &self.tree;
         let Some(encloser) = tree.table.find_longest(name) else {
@@ -78,7 +87,7 @@ impl ZoneStore for TreeZone {
 
     fn copy_denial(&self, alloc: Global, out: &mut RecordRoom) -> Result<(), NoMemory> {
         let tree = &self.tree;
-        let Some(number) = tree.table.find(&tree.zone.origin.labels()) else {
+        let Some(number) = tree.top else {
             return Ok(());
         };
         let records = tree.zone.records.as_slice();

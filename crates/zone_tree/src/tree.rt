@@ -1,11 +1,11 @@
 ghost use Rattle.std.specs.Prelude.{◌≡◌, IfOk};
-ghost use Rattle.zone_tree.specs.Tree.{IsTree};
+ghost use Rattle.zone_tree.specs.Tree.{IsNumbered, IsTree};
 
 use crate::cuts::cuts_of;
 use crate::node::{Node, Numbers};
 use crate::sets::sets_of;
 use crate::shape::add_owners;
-use dns_data::{NoMemory, Zone};
+use dns_data::{Name, NoMemory, Zone};
 use name_table::NameTable;
 use std::alloc::Global;
 use std::marker::Model;
@@ -18,6 +18,8 @@ pub struct Tree {
     /// The names that exist, up to the root.
     pub table: NameTable,
     pub nodes: Vec<Node>,
+    /// The number of the origin, where records stand at it or below it.
+    pub top: Option<usize>,
     /// The numbers of a name's records, in the zone's order.
     pub sets: Vec<Numbers>,
     /// The number of the cut at or above a name.
@@ -61,16 +63,24 @@ impl Tree {
         let mut table = NameTable::new(alloc, expected(records.len()))?;
         let mut nodes = Vec::new(alloc);
         add_owners(alloc, records, &mut table, &mut nodes)?;
+        let top = number_of(&table, &zone.origin);
         let sets = sets_of(alloc, records, &table)?;
         let cuts = cuts_of(alloc, &zone, &table, &nodes, &sets)?;
         Ok(Tree {
             zone,
             table,
             nodes,
+            top,
             sets,
             cuts,
         })
     }
+}
+
+fn number_of(table: &NameTable, name: &Name) -> Option<usize>
+    ensures { IsNumbered table.now result name.now }
+{
+    table.find(&name.labels())
 }
 
 // How many names to make room for.

@@ -1,6 +1,7 @@
 ghost use Rattle.std.specs.Prelude.{◌≡◌};
 ghost use Rattle.outside.specs.Script.{QuietSide, AnsweredSide};
-ghost use Rattle.outside.specs.Marks.{Adds, recv_marks, sent, noted, now_mark, word_mark, seen_mark, ask_marks, more_marks};
+ghost use Rattle.outside.specs.Marks.{Adds, recv_marks, sent, noted, now_mark, word_mark};
+ghost use Rattle.outside.specs.Marks.{seen_mark, ask_marks, more_marks};
 ghost use Rattle.outside.specs.Causes.{behind_recv, behind_send, behind_note, behind_ask};
 ghost use Rattle.outside.specs.States.{SideState, Counted, left_once};
 

@@ -1,8 +1,12 @@
-//! A compiled pattern that may be moved to another thread, and shared among threads.
+//! A compiled pattern that may be moved to another thread and shared among threads, and that
+//! searches with the caller's scratch.
 #![tactic(auto)]
 
+mod automaton;
 mod compiled;
+mod scratch;
 #[cfg(test)]
 mod tests;
 
 pub use compiled::Pattern;
+pub use scratch::Scratch;

@@ -1,7 +1,7 @@
 -- The steps that stand for compiled ones.
 use Rattle.std.specs.Prelude.{List, ◌++◌, map}
-use Rattle.chain_meaning.specs.Steps.{Answerer, Step, Acl, Any, File, Whoami, Errors, Log}
-use Rattle.chain_meaning.specs.Steps.{Answers}
+use Rattle.chain_meaning.specs.Steps.{Answerer, Acl, Any, Hosts, File, Whoami}
+use Rattle.chain_meaning.specs.Steps.{Step, Errors, Log, Answers}
 use Rattle.chain_build.specs.declared.back.BackAnswerer.{BackAnswerer}
 use Rattle.chain_build.specs.declared.back.BackAnswerer.TheVariants as behind
 use Rattle.chain_build.specs.declared.front.FrontAnswerer.{FrontAnswerer}
@@ -19,6 +19,7 @@ front_of (front.Log plan) = Log plan
 front_of (front.Answers plugin) = Answers (front_answerer plugin)
 
 abbrev pub back_answerer : BackAnswerer → Answerer
+back_answerer (behind.Hosts plan) = Hosts plan
 back_answerer (behind.File plans) = File plans
 back_answerer behind.Whoami = Whoami
 

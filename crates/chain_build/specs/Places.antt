@@ -9,7 +9,8 @@ use Rattle.plugin_api.specs.declared.ranks.Rank.TheVariants as rank
 use Rattle.dns_data.specs.declared.file.FileText.{FileText}
 use Rattle.chain_meaning.specs.Accepting.{block_refusal, directive_refusal}
 use Rattle.chain_meaning.specs.Steps.{Context, Step, acl_steps, any_steps, context_of, error_steps}
-use Rattle.chain_meaning.specs.Steps.{file_plan, file_steps, log_steps, plan_in, whoami_steps}
+use Rattle.chain_meaning.specs.Steps.{file_plan, file_steps, hosts_plan, hosts_steps, log_steps}
+use Rattle.chain_meaning.specs.Steps.{plan_in, whoami_steps}
 use Rattle.chain_build.specs.declared.fault.CheckFault.{CheckFault}
 use Rattle.chain_build.specs.declared.fault.CheckFault.TheVariants as fault
 use Rattle.chain_build.specs.declared.places.Places.{Places}
@@ -21,6 +22,7 @@ no_places = record {
   logs = [];
   acls = [];
   any = false;
+  hosts = [];
   files = [];
   whoami = false;
 }
@@ -41,6 +43,8 @@ placed_plain other plan places = places
 abbrev pub placed_by : Option Rank → Context → Directive → Places → Places
 placed_by (Some rank.Acl) context d places =
     record places { acls = places.acls ++ plan_in context.zones d ∷ [] }
+placed_by (Some rank.Hosts) context d places =
+    record places { hosts = places.hosts ++ hosts_plan context d ∷ [] }
 placed_by (Some rank.File) context d places =
     record places { files = places.files ++ file_plan context d ∷ [] }
 placed_by other context d places = placed_plain other (plan_in context.zones d) places
@@ -58,7 +62,8 @@ front_in places =
     ++ (log_steps places.logs ++ (acl_steps places.acls ++ any_steps places.any))
 
 abbrev pub back_in : Places → List Step
-back_in places = file_steps places.files ++ whoami_steps places.whoami
+back_in places =
+    hosts_steps places.hosts ++ (file_steps places.files ++ whoami_steps places.whoami)
 
 -- reading one more directive, behind those that stand before it
 abbrev pub ReadsMore : Context → List Directive → Directive → Places → Places

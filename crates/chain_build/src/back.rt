@@ -7,7 +7,8 @@ ghost use Rattle.chain_build.specs.Walking.{Answered, decided};
 
 use crate::ended::Ended;
 use dns_data::{NoMemory, Query, Seq, Slot};
-use file_plugin::{FilePlan, FileSay, decide};
+use file_plugin::{FilePlan, FileSay};
+use hosts_plugin::{HostsPlan, HostsSay};
 use outside::{Kept, Side};
 use plain_plugins::whoami_answer;
 use plugin_api::{Cause, Code};
@@ -16,6 +17,7 @@ use std::alloc::Global;
 /// A plugin behind a cache, which answers or goes on, and notes nothing.
 #[derive(Debug, Drop)]
 pub enum BackAnswerer {
+    Hosts(HostsPlan),
     File(Seq<FilePlan>),
     Whoami,
 }
@@ -54,10 +56,17 @@ fn answer(
     ensures { Answered (back_answerer plugin.now) query.now slot.old slot.new result }
 {
     match plugin {
-        BackAnswerer::File(plans) => match decide(alloc, plans.as_slice(), query, slot)? {
-            FileSay::Reply => Ok(Some(Ended::Reply)),
-            FileSay::Next => Ok(None),
+        BackAnswerer::Hosts(plan) => match hosts_plugin::decide(alloc, plan, query, slot)? {
+            HostsSay::Reply => Ok(Some(Ended::Reply)),
+            HostsSay::Next => Ok(None),
+            HostsSay::Unknown => Ok(Some(Ended::Code(Code::ServFail, Cause::UnknownHost))),
         },
+        BackAnswerer::File(plans) => {
+            match file_plugin::decide(alloc, plans.as_slice(), query, slot)? {
+                FileSay::Reply => Ok(Some(Ended::Reply)),
+                FileSay::Next => Ok(None),
+            }
+        }
         BackAnswerer::Whoami => {
             whoami_answer(alloc, query, slot)?;
             Ok(Some(Ended::Reply))

@@ -1,7 +1,7 @@
 ghost use Rattle.std.specs.Prelude.{◌≡◌, ◌++◌, map, IfOk, OnOk};
 ghost use Rattle.plugin_api.specs.{PlanData};
 ghost use Rattle.chain_meaning.specs.Steps.{acl_steps, any_steps, error_steps, log_steps};
-ghost use Rattle.chain_meaning.specs.Steps.{file_steps, whoami_steps};
+ghost use Rattle.chain_meaning.specs.Steps.{file_steps, hosts_steps, whoami_steps};
 ghost use Rattle.chain_build.specs.Compiled.{back_of, front_of};
 ghost use Rattle.chain_build.specs.Places.{back_in, front_in};
 
@@ -11,6 +11,7 @@ use crate::places::Places;
 use acl_plugin::AclPlan;
 use dns_data::{NoMemory, Seq};
 use file_plugin::FilePlan;
+use hosts_plugin::HostsPlan;
 use plain_plugins::PlainPlan;
 use std::alloc::Global;
 
@@ -31,6 +32,7 @@ pub fn compile(alloc: Global, places: Places) -> Result<BlockChain, NoMemory>
         logs,
         acls,
         any,
+        hosts,
         files,
         whoami,
     } = places;
@@ -40,6 +42,7 @@ pub fn compile(alloc: Global, places: Places) -> Result<BlockChain, NoMemory>
     push_acls(&mut front, acls)?;
     push_any(&mut front, any)?;
     let mut back = Seq::new(alloc);
+    push_hosts(&mut back, hosts)?;
     push_files(&mut back, files)?;
     push_whoami(&mut back, whoami)?;
     Ok(BlockChain { front, back })
@@ -84,6 +87,19 @@ fn push_any(steps: &mut Seq<FrontStep>, any: bool) -> Result<(), NoMemory>
         return steps.push(FrontStep::Answers(FrontAnswerer::Any));
     }
     Ok(())
+}
+
+fn push_hosts(steps: &mut Seq<BackAnswerer>, hosts: Seq<HostsPlan>) -> Result<(), NoMemory>
+    ensures { OnOk result (map back_of steps.new ≡ map back_of steps.old ++ hosts_steps hosts) }
+{
+    let mut hosts = hosts;
+    match hosts.pop() {
+        Some(last) => {
+            push_hosts(steps, hosts)?;
+            steps.push(BackAnswerer::Hosts(last))
+        }
+        None => Ok(()),
+    }
 }
 
 fn push_files(steps: &mut Seq<BackAnswerer>, files: Seq<FilePlan>) -> Result<(), NoMemory>

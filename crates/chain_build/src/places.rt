@@ -4,7 +4,7 @@ ghost use Rattle.plain_plugins.specs.{IsPlain};
 ghost use Rattle.chain_meaning.specs.Accepting.{is_built, stands_in};
 ghost use Rattle.std.specs.List.{All};
 ghost use Rattle.corefile_blocks.specs.Readable.{HasShortBytes};
-ghost use Rattle.chain_meaning.specs.Steps.{file_plans, file_word};
+ghost use Rattle.chain_meaning.specs.Steps.{file_plans, file_word, hosts_word};
 ghost use Rattle.chain_build.specs.Places.{ReadsBlock, ReadsMore, context_in, no_places};
 ghost use Rattle.chain_build.specs.Places.{placed_plain};
 ghost use Rattle.chain_build.specs.Reading.{ReadsAs, RefusesAs, RefusesFileAs};
@@ -17,6 +17,7 @@ use chain_meaning::Refusal;
 use corefile_blocks::file_of;
 use dns_data::{Block, BlockKey, Copies, Directive, FileText, Names, NoMemory, Seq, Text};
 use file_plugin::{FileFault, FilePlan};
+use hosts_plugin::HostsPlan;
 use plain_plugins::PlainPlan;
 use plugin_api::{DirectiveFault, DirectiveWhy, Rank, rank};
 use std::alloc::Global;
@@ -28,6 +29,7 @@ pub struct Places {
     pub logs: Seq<PlainPlan>,
     pub acls: Seq<AclPlan>,
     pub any: bool,
+    pub hosts: Seq<HostsPlan>,
     pub files: Seq<FilePlan>,
     pub whoami: bool,
 }
@@ -41,6 +43,7 @@ impl Places {
             logs: Seq::new(alloc),
             acls: Seq::new(alloc),
             any: false,
+            hosts: Seq::new(alloc),
             files: Seq::new(alloc),
             whoami: false,
         }
@@ -116,7 +119,7 @@ fn is_built(rank: Rank) -> bool
 {
     match rank {
         Rank::Passive | Rank::Reload | Rank::Errors | Rank::Log => true,
-        Rank::Acl | Rank::Any | Rank::File | Rank::Whoami => true,
+        Rank::Acl | Rank::Any | Rank::Hosts | Rank::File | Rank::Whoami => true,
         _ => false,
     }
 }
@@ -149,6 +152,7 @@ fn read_as(
 {
     match rank {
         Rank::File => read_file(alloc, zones, files, directive, places),
+        Rank::Hosts => read_hosts(alloc, zones, files, directive, places),
         Rank::Acl => match AclPlan::read(alloc, directive, zones) {
             Ok(plan) => {
                 places.acls.push(plan)?;
@@ -165,6 +169,38 @@ fn read_as(
                 Err(fault) => Err(refused(fault)),
             },
         _ => Err(CheckFault::NoMemory),
+    }
+}
+
+// Reads a directive `hosts`.
+fn read_hosts(
+    alloc: Global,
+    zones: &Names,
+    files: &[FileText],
+    directive: &Directive,
+    places: &mut Places,
+) -> Result<(), CheckFault>
+    requires { All HasShortBytes files.now }
+    ensures { ReadsAs rank.Hosts (context_in zones.now files.now) directive.now places.old
+        places.new result }
+{
+    let file = file_of(files, hosts_word(directive.args.as_slice()));
+    match HostsPlan::read(alloc, directive, zones, file) {
+        Ok(plan) => {
+            places.hosts.push(plan)?;
+            Ok(())
+        }
+        Err(fault) => Err(refused(fault)),
+    }
+}
+
+// The file that the words of `hosts` name, or else /etc/hosts.
+fn hosts_word(words: &[Text]) -> &str
+    ensures { result.now ≡ hosts_word words.now }
+{
+    match words {
+        [] => "/etc/hosts",
+        [word, ..] => word.as_str(),
     }
 }
 

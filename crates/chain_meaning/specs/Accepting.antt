@@ -17,6 +17,7 @@ use Rattle.file_plugin.specs.{FileData, file_fault}
 use Rattle.file_plugin.specs.declared.fault.FileFault.{FileFault}
 use Rattle.file_plugin.specs.declared.fault.FileFault.TheVariants as broken
 use Rattle.acl_plugin.specs.{acl_fault}
+use Rattle.hosts_plugin.specs.{hosts_fault}
 use Rattle.plain_plugins.specs.{plain_fault}
 use Rattle.plugin_api.specs.{is_once, rank_of}
 use Rattle.plugin_api.specs.declared.fault.DirectiveFault.{DirectiveFault}
@@ -36,6 +37,7 @@ is_built rank.Errors = true
 is_built rank.Log = true
 is_built rank.Acl = true
 is_built rank.Any = true
+is_built rank.Hosts = true
 is_built rank.File = true
 is_built rank.Whoami = true
 is_built other = false
@@ -61,6 +63,7 @@ refused_by_file (Some broken.NoMemory) = None
 -- what the reader of a directive refuses, behind these plans of `file`
 abbrev pub reader_refusal : Rank → List FileData → Directive → Context → Option Refusal
 reader_refusal rank.Acl before d context = refused_by (acl_fault d context.zones)
+reader_refusal rank.Hosts before d context = refused_by (hosts_fault d context.zones)
 reader_refusal rank.File before d context =
     refused_by_file (file_fault before d context.zones (file_in context.files d))
 reader_refusal rank before d context = refused_by (plain_fault rank d context.zones)

@@ -11,6 +11,8 @@ use Rattle.outside.specs.declared.mark.Mark.{Mark}
 use Rattle.outside.specs.declared.mark.Mark.TheVariants.{Noted}
 use Rattle.acl_plugin.specs.{acl_say}
 use Rattle.file_plugin.specs.{file_say}
+use Rattle.hosts_plugin.specs.{Said, hosts_say}
+use Rattle.hosts_plugin.specs.Hosts.{reply, next, unknown}
 use Rattle.acl_plugin.specs.declared.plan.AclSay.{AclSay}
 use Rattle.acl_plugin.specs.declared.plan.AclSay.TheVariants as acl
 use Rattle.plain_plugins.specs.{any_of, error_line, is_any, log_line, plain_zones, whoami_of}
@@ -23,8 +25,8 @@ use Rattle.plugin_api.specs.declared.verdict.Code.TheVariants as code
 use Rattle.zone_words.specs.{is_in}
 use Rattle.chain_meaning.specs.declared.decision.Decision.{Decision}
 use Rattle.chain_meaning.specs.declared.decision.Decision.TheVariants as decision
-use Rattle.chain_meaning.specs.Steps.{Answerer, Acl, Any, File, Whoami, Step, Errors}
-use Rattle.chain_meaning.specs.Steps.{Log, Answers}
+use Rattle.chain_meaning.specs.Steps.{Answerer, Acl, Any, Hosts, File, Whoami}
+use Rattle.chain_meaning.specs.Steps.{Step, Errors, Log, Answers}
 
 -- an RCODE without records
 abbrev pub nothing : ℕ → AnswerData
@@ -81,10 +83,17 @@ acl_answer acl.Drop = Some decision.Drop
 abbrev pub any_answer : Query → Option Decision
 any_answer q = if is_any q then Some (decision.Reply (any_of q)) else None
 
+-- hosts: an unknown name ends with SERVFAIL
+abbrev pub hosts_answer : Said → Option Decision
+hosts_answer (reply answer) = Some (decision.Reply answer)
+hosts_answer next = None
+hosts_answer unknown = Some (decision.Code code.ServFail cause.UnknownHost)
+
 -- what a plugin answers; None: it goes on
 unfoldable pub answer_of : Answerer → Query → List Mark → Meaning (Option Decision)
 answer_of (Acl plans) q marks = Done (acl_answer (acl_say plans q)) marks
 answer_of Any q marks = Done (any_answer q) marks
+answer_of (Hosts plan) q marks = Done (hosts_answer (hosts_say plan q)) marks
 answer_of (File plans) q marks = Done (option_map decision.Reply (file_say plans q)) marks
 answer_of Whoami q marks = Done (Some (decision.Reply (whoami_of q))) marks
 

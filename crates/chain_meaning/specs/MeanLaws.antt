@@ -13,7 +13,7 @@ use Rattle.zone_words.specs.{is_in}
 use Rattle.chain_meaning.specs.declared.decision.Decision.{Decision}
 use Rattle.chain_meaning.specs.declared.decision.Decision.TheVariants as decision
 use Rattle.chain_meaning.specs.Mean.{answer_of, error_noted, mean, or_rest, outcome_of, query_noted, rule, take_note}
-use Rattle.chain_meaning.specs.Steps.{Answerer, Acl, Any, File, Whoami, Step, Errors, Log, Answers}
+use Rattle.chain_meaning.specs.Steps.{Answerer, Acl, Any, Hosts, File, Whoami, Step, Errors, Log, Answers}
 
 pub mean-end : (q : Query) (marks : List Mark) → mean [] q marks ≡ Done (decision.Code code.ServFail cause.EndOfChain) marks
 unfolding mean
@@ -53,6 +53,7 @@ pub answer_nothing : (plugin : Answerer) (q : Query) → Starved (answer_of plug
 unfolding answer_of
 answer_nothing (Acl plans) q = refl
 answer_nothing Any q = refl
+answer_nothing (Hosts plan) q = refl
 answer_nothing (File plans) q = refl
 answer_nothing Whoami q = refl
 

@@ -1,6 +1,6 @@
 -- The chain of a block: a list of steps, each with what its plugin reads, directives and the zones of
--- the block's keys, and for `file` its file. All `acl` directives are one step, and so are all `file`
--- directives.
+-- the block's keys, and for `hosts` and `file` the file. All `acl` directives are one step, and so are
+-- all `file` directives.
 use Rattle.std.specs.Prelude.{ℕ, nat_eq, Bool, true, false, List, [], ◌∷◌, ◌++◌, map, Option, Some}
 use Rattle.std.specs.Prelude.{None, if◌then◌else◌}
 use Rattle.std.specs.List.{filter, list_any}
@@ -8,8 +8,11 @@ use Rattle.dns_data.specs.declared.block.Block.{Block}
 use Rattle.dns_data.specs.declared.directive.Directive.{Directive}
 use Rattle.dns_data.specs.declared.file.FileText.{FileText}
 use Rattle.corefile_blocks.specs.Blocks.{file_of}
+use Rattle.corefile_blocks.specs.WantedFiles.{hosts_default}
 use Rattle.file_plugin.specs.{FileData}
 use Rattle.file_plugin.specs.Reading.{data_of}
+use Rattle.hosts_plugin.specs.{HostsData}
+use Rattle.hosts_plugin.specs.Reading.{data_of as hosts_data}
 use Rattle.plugin_api.specs.{PlanData, order_of, rank_of}
 use Rattle.plugin_api.specs.declared.ranks.Rank.{Rank}
 use Rattle.plugin_api.specs.declared.ranks.Rank.TheVariants as rank
@@ -18,6 +21,7 @@ use Rattle.plugin_api.specs.declared.ranks.Rank.TheVariants as rank
 pub data Answerer : Type 0 where
   Acl : List PlanData → Answerer
   Any : Answerer
+  Hosts : HostsData → Answerer
   File : List FileData → Answerer
   Whoami : Answerer
 
@@ -67,6 +71,19 @@ file_word (file ∷ words) = file
 abbrev pub file_in : List FileText → Directive → Option (List ℕ)
 file_in files d = file_of (file_word d.args) files
 
+-- the file that the words of `hosts` name, or else /etc/hosts
+abbrev pub hosts_word : List (List ℕ) → List ℕ
+hosts_word [] = hosts_default
+hosts_word (file ∷ words) = file
+
+-- what the plan of a `hosts` directive reads: its file, where it isn't missing
+abbrev pub hosts_plan : Context → Directive → HostsData
+hosts_plan context d = hosts_data d context.zones (file_of (hosts_word d.args) context.files)
+
+-- the plans of the `hosts` directives, in the order of the text
+abbrev pub hosts_plans : Context → List Directive → List HostsData
+hosts_plans context directives = map (hosts_plan context) (filter (has_rank rank.Hosts) directives)
+
 -- what the plan of a `file` directive reads
 abbrev pub file_plan : Context → Directive → FileData
 file_plan context d = data_of d context.zones (file_in context.files d)
@@ -89,6 +106,12 @@ acl_steps (plan ∷ plans) = Answers (Acl (plan ∷ plans)) ∷ []
 abbrev pub any_steps : Bool → List Step
 any_steps stands = if stands then Answers Any ∷ [] else []
 
+abbrev pub hosts_step : HostsData → Step
+hosts_step plan = Answers (Hosts plan)
+
+abbrev pub hosts_steps : List HostsData → List Step
+hosts_steps plans = map hosts_step plans
+
 abbrev pub file_steps : List FileData → List Step
 file_steps [] = []
 file_steps (plan ∷ plans) = Answers (File (plan ∷ plans)) ∷ []
@@ -106,7 +129,9 @@ front_steps zones directives =
 
 abbrev pub back_steps : Context → List Directive → List Step
 back_steps context directives =
-    file_steps (file_plans context directives) ++ whoami_steps (some_has rank.Whoami directives)
+    hosts_steps (hosts_plans context directives)
+    ++ (file_steps (file_plans context directives)
+    ++ whoami_steps (some_has rank.Whoami directives))
 
 -- the chain of a block in a bundle with these files: rank by rank, whatever the order of the text
 unfoldable pub steps_of : List FileText → Block → List Step

@@ -1,0 +1,4 @@
+mod Before
+mod Cuts
+mod Indexing
+mod Saying

@@ -1,0 +1,30 @@
+use Rattle.std.proofs.Common.{◌≡◌, ◌∙◌, ◌++◌, ap, sym, subst, map}
+use Rattle.dns_data.specs.{owned_by}
+use Rattle.dns_data.specs.Message.{AnswerData, no_answer}
+use Rattle.hosts_plugin.specs.Hosts.{HostsData, address_say, answer_with, next, reply}
+use Rattle.hosts_plugin.specs.Index.{picked}
+use Rattle.hosts_plugin.specs.Made.{Parts}
+use Rattle.hosts_plugin.proofs.Saying.{address_listed, address_unlisted, filled}
+use Rattle.hosts_plugin.proofs.plan.HostsPlan.say_of_address.Goals as goal
+
+pub returns-in_default : goal.returns-in_default
+returns-in_default c =
+    let p = c.self.inside in
+    let plan : HostsData = record { directive = p.directive; zones = p.default; text = p.text } in
+    let parts : Parts = record { zones = p.zones; fallthrough = p.fallthrough; ttl = p.ttl; no_reverse = p.no_reverse; listings = p.listings; pointers = p.pointers; names = p.names; addresses = p.addresses } in
+    let q = c.args.query.now in
+    (subst (λ (d : HostsData). address_say d q ≡ next) c.self.view_is (address_unlisted plan parts q c.self.invariant c.if-self.false c.in_default.ensures), c.requires.clear)
+
+pub returns : goal.returns
+returns c =
+    let p = c.self.inside in
+    let plan : HostsData = record { directive = p.directive; zones = p.default; text = p.text } in
+    let parts : Parts = record { zones = p.zones; fallthrough = p.fallthrough; ttl = p.ttl; no_reverse = p.no_reverse; listings = p.listings; pointers = p.pointers; names = p.names; addresses = p.addresses } in
+    let q = c.args.query.now in
+    let s = c.slot.inside in
+    let old : AnswerData = record { rcode = s.rcode; aa = s.aa; ra = s.ra; tc = s.tc; answer = s.answer; authority = s.authority; additional = s.additional } in
+    let clear : old ≡ no_answer = c.slot.view_is ∙ c.requires.clear in
+    let records = map (owned_by q.name p.ttl) (picked p.pointers c.in-Some.set.now) in
+    let is = subst (λ (d : HostsData). address_say d q ≡ reply (answer_with records)) c.self.view_is (address_listed plan parts q c.in-Some.set.now c.self.invariant c.if-self.false c.in-Some.ensures) in
+    let pushed : c.push_pointers.new.out ≡ old.answer ++ records = rw c.as_slice-pointers.ensures at c.in_ok-push_pointers.ensures in
+    is ∙ ap reply (sym (filled old c.push_pointers.new.out records clear pushed))

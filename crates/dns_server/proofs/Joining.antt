@@ -20,20 +20,21 @@ use Rattle.pin_table.specs.Known.{filled_at}
 use Rattle.query_worker.specs.declared.worker.WorkEnd.{WorkEnd}
 use Rattle.query_worker.specs.declared.worker.WorkEnd.TheVariants as ends
 use Rattle.query_worker.specs.declared.worker.Worker.{Worker}
-use Rattle.query_worker.specs.{AreOf, IsLawful, IsOfPass, PastPin, WorkerRun, lawful_of, run_as, worked_of}
+use Rattle.query_worker.specs.{AreOf, IsLawful, IsOfPass, PastPin, WorkerRun, lawful_of, pinned_by, run_as, worked_of}
 use Rattle.reload_watch.specs.{AreFilledBy}
 use Rattle.reload_watch.specs.Filled.{IsOf}
 use Rattle.dns_server.specs.declared.report.Done.{Done}
 use Rattle.dns_server.specs.declared.roles.Role.{Role}
 use Rattle.dns_server.specs.declared.roles.Role.TheVariants.{Work, Watch}
 use Rattle.dns_server.specs.Each.{Each3}
-use Rattle.dns_server.specs.Report.{TellsRun}
+use Rattle.dns_server.specs.Report.{TellEach, TellsRun}
 use Rattle.dns_server.specs.Roles.{AreStarting, AreWorking, Becomes, IsPart, Task}
 use Rattle.dns_server.specs.States.{RunSetup, SideRun, side_run, side_runs}
+use Rattle.dns_server.proofs.Holding.{IsSettled}
 
 -- a worker that has ended, by the side as it was opened, as it was handed back, and by its pass
 pub record IsDone (most : ℕ) (opened : SideState) (run : SideRun) (pass : PassView Chain) : Type 0 where
-  pub told : Grows opened run.state (WorkerRun (IsOfPass pass.turns) most run.worked)
+  pub told : Grows opened run.state (WorkerRun (IsOfPass pass.turns) most (pinned_by pass) run.worked)
   pub seen : run.worked.seen + 1 ≤ pass.seen
   pub failed : run.worked.end ≡ ends.RecvFailed → RoseBy limits.FAILURES opened.counts.recv run.state.counts.recv
   pub starved : run.worked.end ≡ ends.NoMemory → 0 < run.worked.starved
@@ -63,6 +64,7 @@ module _ {S W : Type 0} (side : S → SideState) (watch : W → WatchState) (tas
   pub record Leave (number : ℕ) (sides : List S) (news : List (Role S W)) (dones : List (Done S)) (passes : List (Pass Chain)) : Type 0 where
     pub idle : IdleFrom (id_of task.table) number passes
     pub kept : All (λ q. Keeps chain_identity chain_log q.turns) (views_of passes)
+    pub settled : AllByRecursion IsSettled (views_of passes)
     pub done : Each3 (IsDone task.most) (map side sides) (side_runs side dones) (views_of passes)
 
   one_done : (number : ℕ) (opened : S) (old new : Worker S) (end : WorkEnd) (done : Done S) (pass : Pass Chain)
@@ -83,7 +85,7 @@ module _ {S W : Type 0} (side : S → SideState) (watch : W → WatchState) (tas
 
   pub leave : (number : ℕ) (sides : List S) (olds news : List (Role S W)) (dones : List (Done S)) (passes : List (Pass Chain)) → AreStarting task.table number sides olds
       → AllZip (Becomes side watch task) olds news → Each3 IsPart news dones passes → Leave number sides news dones passes
-  leave number [] [] [] [] [] are zip part = record { idle = none_idle (id_of task.table) number; kept = All-nil Keeping; done = tt }
+  leave number [] [] [] [] [] are zip part = record { idle = none_idle (id_of task.table) number; kept = All-nil Keeping; settled = tt; done = tt }
   leave number [] [] [] [] (pass ∷ passes) are zip part = absurd part
   leave number [] [] [] (done ∷ dones) passes are zip part = absurd part
   leave number [] [] (new ∷ news) dones passes are zip part = absurd zip
@@ -100,11 +102,12 @@ module _ {S W : Type 0} (side : S → SideState) (watch : W → WatchState) (tas
       let has = zip.0 in
       let back = sym part.0.0 in
       let worker : (pass_of new.pass).worker ≡ number = has.works.number ∙ ap (λ (q : PassView Chain). q.worker) are.0.pass_is in
-      let here = subst (λ (p : Pass Chain). (p.seat.table_id ≡ id_of task.table) × ((pass_of p).worker ≡ number) × ((pass_of p).held ≡ None) × Keeps chain_identity chain_log (pass_of p).turns) back
-      (has.rests.own, worker, has.rests.idle, has.rests.kept) in
+      let here = subst (λ (p : Pass Chain). (p.seat.table_id ≡ id_of task.table) × ((pass_of p).worker ≡ number) × ((pass_of p).held ≡ None) × Keeps chain_identity chain_log (pass_of p).turns × ((pass_of p).taken ≡ None)) back
+      (has.rests.own, worker, has.rests.idle, has.rests.kept, has.works.settled) in
       record {
         idle = one_idle (id_of task.table) number pass passes here.0 here.1 here.2 others.idle;
         kept = All-cons Keeping (pass_of pass) (views_of passes) here.3 others.kept;
+        settled = ((here.2, here.4), others.settled);
         done = (one_done number s old new end done pass are.0.side_is has part.0, others.done);
       }
 
@@ -148,15 +151,16 @@ given_of bundles port filled worker (pin ∷ pins) are given =
 
 -- a worker that has ended tells a run by the published bundles
 tells : (setup : RunSetup) (bundles : List Bundle) (opened : SideState) (run : SideRun) (pass : PassView Chain) → IsFreshSide opened → IsDone setup.most opened run pass
-    → AreOf bundles setup.default_port pass.turns → pass.seen ≤ length bundles → TellsRun setup bundles run
+    → AreOf bundles setup.default_port pass.turns → pass.seen ≤ length bundles → TellsRun setup bundles (pinned_by pass) run
 tells setup bundles opened run pass fresh done are seen =
     let none : opened.counts.recv ≡ 0 = ap (λ (c : SideCounts). c.recv) fresh.no_fault in
     record {
-      run = tells_since opened run.state (WorkerRun (IsLawful bundles setup.default_port) setup.most run.worked) fresh (record {
+      run = tells_since opened run.state (WorkerRun (IsLawful bundles setup.default_port) setup.most (pinned_by pass) run.worked) fresh (record {
         marks = done.told.marks;
         told = done.told.told;
         are = run_as (IsOfPass pass.turns) (IsLawful bundles setup.default_port) (lawful_of bundles setup.default_port pass.turns are) done.told.are;
       });
+      at_most = done.told.are.at_most;
       seen = let s = done.seen in omega (arith, s, seen);
       failed = λ e. subst (λ (n : ℕ). RoseBy limits.FAILURES n run.state.counts.recv) none (done.failed e);
       starved = done.starved;
@@ -166,7 +170,7 @@ tells setup bundles opened run pass fresh done are seen =
 pub all_tell : (setup : RunSetup) (bundles : List Bundle) (filled : List (List Chain)) (number : ℕ) (opened : List SideState) (runs : List SideRun) (passes : List (PassView Chain))
     → AllByRecursion IsFreshSide opened → Each3 (IsDone setup.most) opened runs passes → AreFilledBy bundles setup.default_port filled
     → ((w : ℕ) (q : PassView Chain) → slice_get passes w ≡ Some q → AreGiven chain_identity chain_log filled (number + w) q.turns × (q.seen ≤ length bundles))
-    → AllByRecursion (TellsRun setup bundles) runs
+    → TellEach setup bundles (map (λ q. pinned_by q) passes) runs
 all_tell setup bundles filled number [] [] [] fresh done are given = tt
 all_tell setup bundles filled number [] [] (q ∷ passes) fresh done are given = absurd done
 all_tell setup bundles filled number [] (run ∷ runs) passes fresh done are given = absurd done

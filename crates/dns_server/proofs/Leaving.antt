@@ -3,7 +3,7 @@ use Rattle.std.proofs.Common.{◌≡◌, ◌≤◌, ◌<◌, ◌*◌, ◌+◌, �
 use Rattle.std.specs.Arc.{arc_value}
 use Rattle.std.specs.Vec.{vec_capacity, vec_len}
 use Rattle.std.specs.List.{All, AllZip}
-use Rattle.std.proofs.lemmas.List.{take_all}
+use Rattle.std.proofs.lemmas.List.{length-map, take_all}
 use Rattle.outside.specs.Causes.{RoseJust}
 use Rattle.outside.specs.States.{SideState, WatchState}
 use Rattle.corefile_blocks.specs.declared.bundle.Bundle.{Bundle}
@@ -17,7 +17,8 @@ use Rattle.pin_table.specs.declared.views.Plan.{Plan}
 use Rattle.pin_table.specs.{AreFilled, AreGiven, AreIdle, IsPublisherOf, count_of, id_of, plan_of, views_of}
 use Rattle.pin_table.specs.Closing.{IsClosed, IsTraced, joined_plan}
 use Rattle.pin_table.specs.Opening.{IsOpened}
-use Rattle.reload_watch.specs.{AreFilledBy, AreLooks, EndsWatch, all_starved}
+use Rattle.query_worker.specs.{pinned_by}
+use Rattle.reload_watch.specs.{AreFilledBy, AreLooks, EndsWatch, IsPlaced, all_starved}
 use Rattle.reload_watch.specs.declared.watcher.Watcher.{Watcher}
 use Rattle.dns_server.specs.declared.finishing.Opened.{Opened}
 use Rattle.dns_server.specs.declared.report.Done.{Done}
@@ -28,7 +29,8 @@ use Rattle.dns_server.specs.Roles.{Becomes, HasWatched, IsPart, IsWatching, Task
 use Rattle.dns_server.specs.Roles as roles
 use Rattle.dns_server.specs.States.{RunSetup, side_runs}
 use Rattle.dns_server.proofs.Each.{zip_last}
-use Rattle.dns_server.proofs.Joining.{IdleFrom, Leave, all_tell, scripts_are}
+use Rattle.dns_server.proofs.Holding.{looks_held, placed_opened}
+use Rattle.dns_server.proofs.Joining.{IdleFrom, IsDone, Leave, all_tell, scripts_are}
 
 -- the last of the roles, and the others
 pub parted : {R : Type 0} (B : R → R → Type 0) (starts others befores afters : List R) (first last : R) → befores ≡ starts ++ first ∷ [] → afters ≡ others ++ last ∷ [] → AllZip B befores afters
@@ -85,6 +87,8 @@ module _ {S W : Type 0} (side : S → SideState) (watch : W → WatchState) (set
       let port = is.port_is in
       let bundles = by.bundles in
       let filled = (plan_of last.publisher).past.filled in
+      let sides_count = part_count (IsDone setup.most) (map side opened.sides.items) (side_runs side dones) (views_of passes) leave.done in
+      let count_is : (plan_of last.publisher).workers ≡ length (views_of passes) = has.keeps.workers ∙ has.workers ∙ is.workers ∙ sym (length-map opened.sides.items side) ∙ sym sides_count in
       let tell = all_tell setup bundles filled 0 (map side opened.sides.items) (side_runs side dones) (views_of passes) is.fresh leave.done
       (subst (λ (p : ℕ). AreFilledBy bundles p filled) port by.filled) (given bundles by.count closed traced) in
       record {
@@ -97,7 +101,10 @@ module _ {S W : Type 0} (side : S → SideState) (watch : W → WatchState) (set
         starved = subst (λ (n : ℕ). RoseJust (all_starved by.looks) n last.starved) is.watcher.starved by.starved;
         stays = has.stays;
         scripts = scripts_are setup.most (map side opened.sides.items) (side_runs side dones) (views_of passes) leave.done;
+        pinned = map (λ q. pinned_by q) (views_of passes);
         tell = rw (sym by.bundles_are) tell;
+        held = looks_held (plan_of last.publisher).workers (plan_of last.publisher).past (views_of passes) count_is leave.settled (plan_of last.publisher).sweeps setup.source setup.default_port
+            (first ∷ []) by.looks closed.sweeps (subst (λ (p : ℕ). AreLooks setup.source p (first ∷ []) by.looks) port by.are) by.swept;
       }
 
 -- a watcher that has published the first chains
@@ -117,6 +124,7 @@ watching table w chains own opened filled workers few serve are home starved =
         some = let f = few.0 in omega (arith, workers, f);
         few = let f = few.1 in omega (arith, workers, f);
         joined = ap (λ (p : Plan Chain). p.joined) plan;
+        placed = subst IsPlaced (sym plan) (placed_opened (length chains) chains opened.0);
         count = ap (λ (p : Plan Chain). length p.past.filled) plan ∙ sym count;
         within = omega (arith, count);
         current = record {

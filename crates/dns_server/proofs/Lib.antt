@@ -1,5 +1,6 @@
 pub mod Each
 pub mod Ended
+pub mod Holding
 pub mod Joining
 pub mod Leaving
 pub mod Opened

@@ -1,9 +1,10 @@
 -- How a run opens and ends.
-use Rattle.std.proofs.Common.{◌≡◌, ◌≢◌, ℕ, suc, List, [], ◌∷◌, ◌++◌, length, get_or, Option, Some, None, Result, Ok, Err, append-nil, refl, sym, ap, subst, ◌∙◌, inl, inr, arith, ◌⊎◌}
+use Rattle.std.proofs.Common.{◌≡◌, ◌≤◌, ◌≢◌, ℕ, suc, List, [], ◌∷◌, ◌++◌, length, get_or, Option, Some, None, Result, Ok, Err, append-nil, refl, sym, ap, subst, ◌∙◌, inl, inr, arith, ◌⊎◌}
 use Rattle.std.specs.Prelude.{IfSome, codes}
 use Rattle.std.specs.List.{flat_map, AllByRecursion}
 use Rattle.std.proofs.lemmas.List.Concat.{flat_map-cons}
 use Rattle.dns_data.specs.declared.block.Block.{Block}
+use Rattle.dns_data.specs.declared.limit.TheConstants as limits
 use Rattle.outside.specs.declared.mark.WatchMark.{WatchMark}
 use Rattle.outside.specs.declared.mark.WatchMark.TheVariants.{Published}
 use Rattle.outside.specs.Causes.{Rose, HostCounts, WatchCounts}
@@ -29,11 +30,11 @@ use Rattle.reload_watch.specs.{AreLooks, EndsWatch, IsReading, ReadsFirst, Reads
 use Rattle.reload_watch.specs.WatchTurn.{WatchTurn, IsLook, gathered, looked, published_as, starved}
 use Rattle.dns_server.specs.declared.status.Status.{Status}
 use Rattle.dns_server.specs.declared.status.Status.TheVariants as status
-use Rattle.dns_server.specs.Opening.{BeginsSides, OpensAll, OpensSome, RefusesSides, TakesSides, scripts_of, sides_of, told_sides}
+use Rattle.dns_server.specs.Opening.{BeginsSides, OpensAll, OpensSome, RefusesSides, TakesSides, scripts_of, side_count, sides_of, told_sides}
 use Rattle.dns_server.specs.Report.{RunData, CauseOf, Finishes, IsEndStatus, IsFirstStatus, IsServed, Left, ReadGave, RunsBehind, RunsCommand, Supplies, WasAccepted, opened_by, stopped_run}
 use Rattle.dns_server.specs.States.{RunSetup, SideRun}
 use Rattle.dns_server.specs.WatchRun.{Tells}
-use Rattle.dns_server.proofs.Opened.{none_taken}
+use Rattle.dns_server.proofs.Opened.{none_taken, sides_count}
 
 first_byte : List (List ℕ) → ℕ
 first_byte [] = 0
@@ -65,7 +66,7 @@ gave setup old new how gives P fresh tells is =
 -- a run that stopped before it served, behind the opening of its watch
 pub stops_open : {setup : RunSetup} {before after : HostState} (how : Status) (watch back : WatchState) (places : List OpenedSide) (scripts : List (Option SideScriptData))
     → back.script ≡ watch.script → Tells (Some back) (IsReading setup.source)
-    → (places ≡ []) ⊎ BeginsSides setup.default_port setup.workers places → length scripts ≡ length places
+    → (places ≡ []) ⊎ ReadGave setup (stopped_run how (Some back)) (BeginsSides setup.default_port setup.workers places) → length scripts ≡ length places
     → AddsHost before after (told_sides places) → TakesSides before.supply after.supply scripts → CauseOf how setup (stopped_run how (Some back)) before.counts after.counts
     → RunsBehind setup (stopped_run how (Some back)) watch before after
 stops_open {setup} {before} {after} how watch back places scripts script opening wanted each told supply cause = record {
@@ -85,7 +86,9 @@ stops_open {setup} {before} {after} how watch back places scripts script opening
     supplied = supply;
     one_each = each;
     back = inl (refl, refl);
+    pinned = [];
     sides = tt;
+    held = tt;
   };
   cause = cause;
 }
@@ -154,14 +157,21 @@ scripts_count : (l : List SideState) → length (scripts_of l) ≡ length l
 scripts_count [] = refl
 scripts_count (x ∷ l) = ap suc (scripts_count l)
 
+-- ports that want few enough sides have few enough
+few_sides : (workers : ℕ) (ports : List ℕ) (sides : List OpenedSide) → side_count workers ports ≤ limits.WORKERS → sides_of workers ports ≡ sides → length sides ≤ limits.WORKERS
+few_sides workers ports sides few are =
+    let count = sides_count workers ports in
+    let same = ap (λ (l : List OpenedSide). length l) are in
+    omega (arith, few, count, same)
+
 -- a run that served
 pub serves : (setup : RunSetup) (before after : HostState) (how : Status) (fresh read published : WatchState) (plans : PlansData) (places : List OpenedSide) (sides : List SideState) (left : Left)
-    → IsFreshWatch fresh → read.script ≡ fresh.script → ReadsPlans setup.source setup.default_port fresh read plans → plans.ports ≢ []
+    → IsFreshWatch fresh → read.script ≡ fresh.script → ReadsPlans setup.source setup.default_port fresh read plans → plans.ports ≢ [] → side_count setup.workers plans.ports ≤ limits.WORKERS
     → AddsWatch read published (Published 0 ∷ []) → published.script ≡ read.script
     → places ≡ sides_of setup.workers plans.ports → OpensAll before after places sides
     → Finishes setup plans.bundle sides published left → IsEndStatus left.sides left.starved how
     → RunsBehind setup (record { status = how; sides = left.sides; watch = Some left.watch; published = left.published; starved = left.starved }) fresh before after
-serves setup before after how fresh read published plans places sides left is_fresh script reads some_ports publishes kept places_are opens by stands =
+serves setup before after how fresh read published plans places sides left is_fresh script reads some_ports few publishes kept places_are opens by stands =
     let accepted : IsAccepted setup.default_port plans.bundle plans.blocks = subst (λ (p : ℕ). IsAccepted p plans.bundle plans.blocks) reads.port reads.are.accepted in
     let count : length (bundles_of plans.bundle by.looks) ≡ left.published = by.count in
     let some : left.published ≢ 0 = λ e. omega (arith, e, count) in
@@ -183,13 +193,15 @@ serves setup before after how fresh read published plans places sides left is_fr
           told = tells_looks setup.source setup.default_port plans.bundle by.looks by.ending left.watch.journal reads.tells.reads reads.tells.gathers (watch_tells_since is_fresh told) by.ends;
         };
         places = places;
-        opened = record { blocks = plans.blocks; accepted = accepted; ports = plans.ports; ports_are = reads.are.ports; some = some_ports; are = places_are };
+        opened = record { blocks = plans.blocks; accepted = accepted; ports = plans.ports; ports_are = reads.are.ports; some = some_ports; few = few_sides setup.workers plans.ports places few (sym places_are); are = places_are };
         told = opens.told;
         scripts = scripts_of sides;
         supplied = opens.supply;
         one_each = one_each;
         back = inr by.scripts;
+        pinned = by.pinned;
         sides = by.tell;
+        held = by.held;
       };
       cause = end_cause setup before.counts after.counts (Some left.watch) left.sides left.published left.starved how some stands;
     }
@@ -248,49 +260,61 @@ pub read_stops : {setup : RunSetup} {old new : WatchState} {plans : PlansData} {
 read_stops {setup} {old} {new} {plans} how fresh script reads told supply cause =
     stops how old new script (opens_nothing setup.source old new (Ok plans.bundle) fresh reads.tells) told supply cause
 
--- the first sides of the first bundle are those of its ports
-begins : (setup : RunSetup) (plans : PlansData) (places others : List OpenedSide) → plans.default_port ≡ setup.default_port → ArePlans plans → plans.ports ≢ [] → sides_of setup.workers plans.ports ≡ places ++ others
-    → BeginsSides setup.default_port setup.workers places
-begins setup plans places others same is some are = record {
-  bundle = plans.bundle;
-  others = others;
-  wants = record { blocks = plans.blocks; accepted = subst (λ (p : ℕ). IsAccepted p plans.bundle plans.blocks) same is.accepted; ports = plans.ports; ports_are = is.ports; some = some; are = sym are };
-}
+-- the first sides of the bundle that was read are those of its ports
+begins : (setup : RunSetup) (old new : WatchState) (how : Status) (plans : PlansData) (places others : List OpenedSide) → IsFreshWatch old → ReadsPlans setup.source setup.default_port old new plans
+    → plans.ports ≢ [] → side_count setup.workers plans.ports ≤ limits.WORKERS → sides_of setup.workers plans.ports ≡ places ++ others
+    → ReadGave setup (stopped_run how (Some new)) (BeginsSides setup.default_port setup.workers places)
+begins setup old new how plans places others fresh reads some few are =
+    let is = reads.are in
+    gave setup old new how (Ok plans.bundle) (BeginsSides setup.default_port setup.workers places) fresh reads.tells (record {
+      bundle = plans.bundle;
+      got = refl;
+      others = others;
+      wants = record {
+        blocks = plans.blocks;
+        accepted = subst (λ (p : ℕ). IsAccepted p plans.bundle plans.blocks) reads.port is.accepted;
+        ports = plans.ports;
+        ports_are = is.ports;
+        some = some;
+        few = few_sides setup.workers plans.ports (places ++ others) few are;
+        are = sym are;
+      };
+    })
 
 -- memory ran out behind the opening of the sides
 pub opened_stops : {setup : RunSetup} {old new : WatchState} {plans : PlansData} {before after : HostState} (places others : List OpenedSide) (sides : List SideState) (how : Status)
-    → IsFreshWatch old → new.script ≡ old.script → ReadsPlans setup.source setup.default_port old new plans → plans.ports ≢ []
+    → IsFreshWatch old → new.script ≡ old.script → ReadsPlans setup.source setup.default_port old new plans → plans.ports ≢ [] → side_count setup.workers plans.ports ≤ limits.WORKERS
     → sides_of setup.workers plans.ports ≡ places ++ others → OpensAll before after places sides
     → CauseOf how setup (stopped_run how (Some new)) before.counts after.counts
     → RunsBehind setup (stopped_run how (Some new)) old before after
-opened_stops {setup} {old} {new} {plans} places others sides how fresh script reads some are opens cause =
+opened_stops {setup} {old} {new} {plans} places others sides how fresh script reads some few are opens cause =
     stops_open how old new places (scripts_of sides) script (opens_nothing setup.source old new (Ok plans.bundle) fresh reads.tells)
-    (inr (begins setup plans places others reads.port reads.are some are)) (scripts_count sides ∙ opens.each) opens.told opens.supply cause
+    (inr (begins setup old new how plans places others fresh reads some few are)) (scripts_count sides ∙ opens.each) opens.told opens.supply cause
 
 told_same : {a b c : HostState} (places : List OpenedSide) → AddsHost a b (told_sides places) → AddsHost b c no_telling → AddsHost a c (told_sides places)
 told_same {a} {c = c} places first none = subst (AddsHost a c) (λ i. record { lines = []; opens = append-nil places i; watches = 0 }) (host-adds-then first none)
 
 -- behind some sides, one failed to open
 pub fails_stops : {setup : RunSetup} {old new : WatchState} {plans : PlansData} {before after : HostState}
-    → IsFreshWatch old → new.script ≡ old.script → ReadsPlans setup.source setup.default_port old new plans → plans.ports ≢ []
+    → IsFreshWatch old → new.script ≡ old.script → ReadsPlans setup.source setup.default_port old new plans → plans.ports ≢ [] → side_count setup.workers plans.ports ≤ limits.WORKERS
     → (some : OpensSome before after (sides_of setup.workers plans.ports) (λ mid. FailsToOpen mid after))
     → RunsBehind setup (stopped_run status.OpenFailed (Some new)) old before after
-fails_stops {setup} {old} {new} {plans} {before} {after} fresh script reads ports some =
+fails_stops {setup} {old} {new} {plans} {before} {after} fresh script reads ports few some =
     let f = some.fails in
     let rose : Rose before.counts.opens after.counts.opens = subst (λ (c : HostCounts). Rose c.opens after.counts.opens) some.opens.counts (rose_failed f) in
     stops_open status.OpenFailed old new some.places (scripts_of some.sides) script (opens_nothing setup.source old new (Ok plans.bundle) fresh reads.tells)
-    (inr (begins setup plans some.places some.others reads.port reads.are ports some.all_are)) (scripts_count some.sides ∙ some.opens.each)
+    (inr (begins setup old new status.OpenFailed plans some.places some.others fresh reads ports few some.all_are)) (scripts_count some.sides ∙ some.opens.each)
     (told_same some.places some.opens.told f.told) (subst (λ (s : Option SupplyData). TakesSides before.supply s (scripts_of some.sides)) (sym f.supply) some.opens.supply) (refl, rose)
 
 -- behind some sides, memory ran out
 pub starves_stops : {setup : RunSetup} {old new : WatchState} {plans : PlansData} {before after : HostState}
-    → IsFreshWatch old → new.script ≡ old.script → ReadsPlans setup.source setup.default_port old new plans → plans.ports ≢ []
+    → IsFreshWatch old → new.script ≡ old.script → ReadsPlans setup.source setup.default_port old new plans → plans.ports ≢ [] → side_count setup.workers plans.ports ≤ limits.WORKERS
     → (some : OpensSome before after (sides_of setup.workers plans.ports) (λ mid. OpensNothing mid after))
     → RunsBehind setup (stopped_run status.NoMemory (Some new)) old before after
-starves_stops {setup} {old} {new} {plans} {before} {after} fresh script reads ports some =
+starves_stops {setup} {old} {new} {plans} {before} {after} fresh script reads ports few some =
     let f = some.fails in
     stops_open status.NoMemory old new some.places (scripts_of some.sides) script (opens_nothing setup.source old new (Ok plans.bundle) fresh reads.tells)
-    (inr (begins setup plans some.places some.others reads.port reads.are ports some.all_are)) (scripts_count some.sides ∙ some.opens.each)
+    (inr (begins setup old new status.NoMemory plans some.places some.others fresh reads ports few some.all_are)) (scripts_count some.sides ∙ some.opens.each)
     (told_same some.places some.opens.told f.told) (subst (λ (s : Option SupplyData). TakesSides before.supply s (scripts_of some.sides)) (sym f.supply) some.opens.supply) tt
 
 -- the watch could not be opened
@@ -318,7 +342,9 @@ not_opened {setup} {before} {after} how told supply cause = record {
     supplied = supply_kept before.supply after.supply supply;
     one_each = refl;
     back = inl (refl, refl);
+    pinned = [];
     sides = tt;
+    held = tt;
   };
   cause = cause;
 }
@@ -364,7 +390,9 @@ opened_before {setup} {run} {first} {before} {after} watch opens runs =
         supplied = watch_taken first.supply before.supply after.supply watch run.watch behind.scripts behind.handed behind.watch_is behind.script opens.supply behind.supplied;
         one_each = behind.one_each;
         back = behind.back;
+        pinned = behind.pinned;
         sides = behind.sides;
+        held = behind.held;
       };
       cause = subst (λ (c : HostCounts). CauseOf run.status setup run c after.counts) opens.counts runs.cause;
     }

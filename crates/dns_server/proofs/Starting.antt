@@ -1,8 +1,10 @@
 -- The workers before they act.
-use Rattle.std.proofs.Common.{◌≡◌, ℕ, suc, ◌+◌, ◌<◌, List, [], ◌∷◌, ◌++◌, length, get_or, Some, None, slice_get, refl, ap, subst, arith}
-use Rattle.std.specs.List.{All, remove}
+use Rattle.std.proofs.Common.{◌≡◌, ℕ, suc, ◌+◌, ◌<◌, List, [], ◌∷◌, ◌++◌, length, map, get_or, Some, None, slice_get, refl, ap, subst, ◌∙◌, arith}
+use Rattle.std.specs.List.{All, AllByRecursion, remove}
 use Rattle.std.proofs.lemmas.List.Elements.{All-cons, All-nil}
 use Rattle.atomic_table.specs.Seated.{TableId}
+use Rattle.outside.specs.Hosts.{IsFreshSide}
+use Rattle.outside.specs.States.{SideState}
 use Rattle.chain_build.specs.declared.chain.Chain.{Chain}
 use Rattle.pin_table.specs.declared.passes.Pass.{Pass}
 use Rattle.pin_table.specs.declared.table.PinTable.{PinTable}
@@ -61,14 +63,17 @@ ready task number side w is = record {
     kept = rw is.pass_is tt;
   };
   unused = ap (λ (q : PassView Chain). q.turns) is.pass_is;
+  settled = ap (λ (q : PassView Chain). q.taken) is.pass_is;
   published = rw is.pass_is (omega arith);
   idle = is.idle;
 }
 
-pub all_ready : {S W : Type 0} (task : Task) (number : ℕ) (sides : List S) (roles : List (Role S W)) → IsMost task.most → AreStarting task.table number sides roles → All (IsReady task) roles
-all_ready task number [] [] most are = All-nil (IsReady task)
-all_ready task number [] (role ∷ roles) most are = absurd are
-all_ready task number (s ∷ sides) [] most are = absurd are
-all_ready task number (s ∷ sides) (Work x end ∷ roles) most are =
-    All-cons (IsReady task) (Work x end) roles (ready task number s x are.0, most) (all_ready task (number + 1) sides roles most are.1)
-all_ready task number (s ∷ sides) (Watch x ∷ roles) most are = absurd are
+pub all_ready : {S W : Type 0} (side : S → SideState) (task : Task) (number : ℕ) (sides : List S) (roles : List (Role S W)) → IsMost task.most → AllByRecursion IsFreshSide (map side sides)
+    → AreStarting task.table number sides roles → All (IsReady side task) roles
+all_ready side task number [] [] most fresh are = All-nil (IsReady side task)
+all_ready side task number [] (role ∷ roles) most fresh are = absurd are
+all_ready side task number (s ∷ sides) [] most fresh are = absurd are
+all_ready side task number (s ∷ sides) (Work x end ∷ roles) most fresh are =
+    let here : (side x.side).left ≡ 0 = ap (λ q. (side q).left) are.0.side_is ∙ fresh.0.here in
+    All-cons (IsReady side task) (Work x end) roles (ready task number s x are.0, most, here) (all_ready side task (number + 1) sides roles most fresh.1 are.1)
+all_ready side task number (s ∷ sides) (Watch x ∷ roles) most fresh are = absurd are

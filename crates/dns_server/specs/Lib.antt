@@ -2,6 +2,7 @@ pub mod Each
 pub mod Messages
 pub mod States
 pub mod Opening
+pub mod Holding
 pub mod WatchRun
 pub mod Report
 pub mod Roles

@@ -1,6 +1,6 @@
 -- The sides that a run opens: for each port UDP and then TCP, and for each as many as workers. This
 -- server's own rule.
-use Rattle.std.specs.Prelude.{◌≡◌, ◌≢◌, ◌<◌, ◌⊎◌, ℕ, zero, suc, ◌+◌, ◌*◌, List, [], ◌∷◌, ◌++◌}
+use Rattle.std.specs.Prelude.{◌≡◌, ◌≢◌, ◌≤◌, ◌<◌, ℕ, zero, suc, ◌+◌, ◌*◌, List, [], ◌∷◌, ◌++◌}
 use Rattle.std.specs.Prelude.{length, map, Some}
 use Rattle.std.specs.List.{AllByRecursion, flat_map}
 use Rattle.dns_data.specs.declared.block.Block.{Block}
@@ -17,6 +17,7 @@ use Rattle.outside.specs.declared.host.OpenFault.TheVariants as openfault
 use Rattle.std.specs.Prelude.{Option, None, Result, Ok, Err}
 use Rattle.corefile_blocks.specs.declared.bundle.Bundle.{Bundle}
 use Rattle.corefile_blocks.specs.Ports.{ArePorts}
+use Rattle.corefile_bundle.specs.declared.fault.GatherFault.{GatherFault}
 use Rattle.chain_meaning.specs.declared.refusal.Refusal.{Refusal}
 use Rattle.chain_meaning.specs.declared.refusal.Refusal.TheVariants as refusal
 use Rattle.chain_meaning.specs.Accepting.{IsAccepted}
@@ -44,7 +45,7 @@ sides_of workers ports = flat_map (port_sides workers) ports
 abbrev pub side_count : ℕ → List ℕ → ℕ
 side_count workers ports = 2 * (length ports * workers)
 
--- the first bundle is accepted, with these ports
+-- the first bundle is accepted, with these ports, and its sides are no more than may be opened
 pub record WantsSides (default_port workers : ℕ) (bundle : Bundle) (sides : List OpenedSide)
     : Type 0 where
   pub blocks : List Block
@@ -52,21 +53,16 @@ pub record WantsSides (default_port workers : ℕ) (bundle : Bundle) (sides : Li
   pub ports : List ℕ
   pub ports_are : ArePorts blocks ports
   pub some : ports ≢ []
+  pub few : length sides ≤ limits.WORKERS
   pub are : sides ≡ sides_of workers ports
 
--- an accepted bundle wants these sides, and others behind them
-pub record BeginsSides (default_port workers : ℕ) (sides : List OpenedSide) : Type 0 where
+-- what was read is a bundle that wants these sides, and others behind them
+pub record BeginsSides (default_port workers : ℕ) (sides : List OpenedSide)
+    (gives : Result Bundle GatherFault) : Type 0 where
   pub bundle : Bundle
+  pub got : gives ≡ Ok bundle
   pub others : List OpenedSide
   pub wants : WantsSides default_port workers bundle (sides ++ others)
-
--- a run that published opened the sides of its first bundle; one that didn't opened none, or the
--- first ones
-abbrev pub OpensSides : ℕ → ℕ → List Bundle → List OpenedSide → Type 0
-OpensSides default_port workers [] sides =
-    (sides ≡ []) ⊎ BeginsSides default_port workers sides
-OpensSides default_port workers (bundle ∷ others) sides =
-    WantsSides default_port workers bundle sides
 
 -- more sides than may be opened
 abbrev pub RefusesSides : List ℕ → ℕ → Refusal → Type 0

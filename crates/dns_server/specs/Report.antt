@@ -1,6 +1,6 @@
 -- What a run reports: how each side worked, what was published, and the cause of its status. This
 -- server's own rule.
-use Rattle.std.specs.Prelude.{◌≡◌, ◌<◌, ◌≢◌, ◌⊎◌, ℕ, nat_lt, Bool, true, false, List, [], ◌∷◌, ◌++◌}
+use Rattle.std.specs.Prelude.{◌≡◌, ◌≤◌, ◌<◌, ◌≢◌, ◌⊎◌, ℕ, nat_lt, Bool, true, false, List, [], ◌∷◌, ◌++◌}
 use Rattle.std.specs.Prelude.{length, map}
 use Rattle.std.specs.Prelude.{Option, None, Some, IfSome, option_map, Result, Ok, Err}
 use Rattle.std.specs.List.{flat_map, AllByRecursion}
@@ -34,7 +34,8 @@ use Rattle.dns_server.specs.declared.status.Status.{Status}
 use Rattle.dns_server.specs.declared.status.Status.TheVariants as status
 use Rattle.command_line.specs.Command.{ServeData, IsCommand, serve}
 use Rattle.chain_meaning.specs.Accepting.{IsAccepted}
-use Rattle.dns_server.specs.Opening.{OpensSides, RefusesSides, TakesSides, scripts_of}
+use Rattle.dns_server.specs.Holding.{AreHeld, AreHeldBehind}
+use Rattle.dns_server.specs.Opening.{BeginsSides, RefusesSides, TakesSides, WantsSides, scripts_of}
 use Rattle.dns_server.specs.States.{RunSetup, SideRun, setup_of, side_runs}
 use Rattle.dns_server.specs.WatchRun.{WatchRun}
 
@@ -56,15 +57,26 @@ run_data side watch ran = record {
   starved = ran.starved;
 }
 
--- a side that tells its journal tells a worker's run by the published bundles; a worker that could
--- not receive met 64 failing calls; and the side was told once that its worker has ended
-pub record TellsRun (setup : RunSetup) (bundles : List Bundle) (side : SideRun) : Type 0 where
+-- a side that tells its journal tells a worker's run by the published bundles, under pins of these
+-- serials, the last one first; the worker took no more than it was told; one that could not receive
+-- met 64 failing calls; and the side was told once that its worker has ended
+pub record TellsRun (setup : RunSetup) (bundles : List Bundle) (pinned : List ℕ) (side : SideRun)
+    : Type 0 where
   pub run : IfSome side.state.journal
-      (WorkerRun (IsLawful bundles setup.default_port) setup.most side.worked)
+      (WorkerRun (IsLawful bundles setup.default_port) setup.most pinned side.worked)
+  pub at_most : side.worked.taken ≤ setup.most
   pub seen : side.worked.seen < length bundles
   pub failed : side.worked.end ≡ ends.RecvFailed → RoseBy limits.FAILURES 0 side.state.counts.recv
   pub starved : side.worked.end ≡ ends.NoMemory → 0 < side.worked.starved
   pub left : side.state.left ≡ 1
+
+-- each side does, under pins of these serials
+abbrev pub TellEach : RunSetup → List Bundle → List (List ℕ) → List SideRun → Type 0
+TellEach setup bundles [] [] = Unit {0}
+TellEach setup bundles [] (side ∷ sides) = ⊥
+TellEach setup bundles (pinned ∷ others) [] = ⊥
+TellEach setup bundles (pinned ∷ others) (side ∷ sides) =
+    TellsRun setup bundles pinned side × TellEach setup bundles others sides
 
 -- what the workers and the watcher leave: the sides, the watch, how many generations were
 -- published, and how many looks met want of memory
@@ -74,8 +86,8 @@ pub record Left : Type 0 where
   pub published : ℕ
   pub starved : ℕ
 
--- workers and a watcher that have ended behind the publication of the first bundle: these looks, and
--- each side's run by what they published
+-- workers and a watcher that have ended behind the publication of the first bundle: these looks,
+-- and each side's run by what they published
 pub record Finishes (setup : RunSetup) (first : Bundle) (sides : List SideState)
     (watch : WatchState) (left : Left) : Type 0 where
   pub looks : List WatchTurn
@@ -87,7 +99,9 @@ pub record Finishes (setup : RunSetup) (first : Bundle) (sides : List SideState)
   pub starved : RoseJust (all_starved looks) 0 left.starved
   pub stays : WatchStays watch left.watch
   pub scripts : map (λ side. side.state.script) left.sides ≡ scripts_of sides
-  pub tell : AllByRecursion (TellsRun setup (bundles_of first looks)) left.sides
+  pub pinned : List (List ℕ)
+  pub tell : TellEach setup (bundles_of first looks) pinned left.sides
+  pub held : AreHeld pinned (first ∷ []) looks
 
 -- each published bundle is accepted
 pub record IsServed (default_port : ℕ) (bundle : Bundle) : Type 0 where
@@ -119,11 +133,32 @@ Supplies None after watch scripts = after ≡ None
 Supplies (Some before) None watch scripts = ⊥
 Supplies (Some before) (Some after) watch scripts = SuppliesRun before after watch scripts
 
--- a run that published hands back the sides that it opened, whose scripts are these; any other hands
--- back none
+-- a run that published hands back the sides that it opened, whose scripts are these; any other
+-- hands back none
 abbrev pub HandsBack : ℕ → List SideRun → List (Option SideScriptData) → Type 0
 HandsBack published sides scripts =
     ((published ≡ 0) × (sides ≡ [])) ⊎ (map (λ side. side.state.script) sides ≡ scripts)
+
+-- where the watch tells its journal, it is these reads of the first bundle
+abbrev pub HasRead : Option WatchState → List OneRead → Type 0
+HasRead watch reads = IfSome watch (λ w. IfSome w.journal (λ told. told ≡ marks_of reads))
+
+-- the reads of the first bundle came to this, and a fact of that
+pub record ReadGave (setup : RunSetup) (run : RunData) (P : Result Bundle GatherFault → Type 0)
+    : Type 0 where
+  pub reads : List OneRead
+  pub read : HasRead run.watch reads
+  pub gives : Result Bundle GatherFault
+  pub gathers : GathersFrom setup.source reads gives
+  pub is : P gives
+
+-- a run that published opened the sides of its first bundle; one that didn't opened none, or the
+-- first ones of the bundle that it read
+abbrev pub OpensSides : RunSetup → RunData → List Bundle → List OpenedSide → Type 0
+OpensSides setup run [] sides =
+    (sides ≡ []) ⊎ ReadGave setup run (BeginsSides setup.default_port setup.workers sides)
+OpensSides setup run (bundle ∷ others) sides =
+    WantsSides setup.default_port setup.workers bundle sides
 
 -- a run by a command: one list of published bundles stands behind the watch's looks, the sides that
 -- were opened, and each side's journal. A watch that was opened is handed back.
@@ -135,36 +170,25 @@ pub record ServesBy (setup : RunSetup) (run : RunData) (before after : HostState
   pub looks : List WatchTurn
   pub watched : WatchRun setup bundles looks run.watch run.starved
   pub places : List OpenedSide
-  pub opened : OpensSides setup.default_port setup.workers bundles places
+  pub opened : OpensSides setup run bundles places
   pub told : AddsHost before after (opened_by run.watch places)
   pub scripts : List (Option SideScriptData)
   pub supplied : Supplies before.supply after.supply run.watch scripts
   pub one_each : length scripts ≡ length places
   pub back : HandsBack run.published run.sides scripts
-  pub sides : AllByRecursion (TellsRun setup bundles) run.sides
+  pub pinned : List (List ℕ)
+  pub sides : TellEach setup bundles pinned run.sides
+  pub held : AreHeldBehind pinned bundles looks
 
 -- the words ask for no serving: they are no command, or `load`, which isn't built
 abbrev pub IsUsage : List (List ℕ) → Type 0
 IsUsage words = (how : ServeData) → IsCommand words (serve how) → ⊥
-
--- where the watch tells its journal, it is these reads of the first bundle
-abbrev pub HasRead : Option WatchState → List OneRead → Type 0
-HasRead watch reads = IfSome watch (λ w. IfSome w.journal (λ told. told ≡ marks_of reads))
 
 -- nothing was published
 pub record IsRefused (run : RunData) (P : Type 0) : Type 0 where
   pub published : run.published ≡ 0
   pub watch : run.watch ≢ None
   pub why : P
-
--- the reads of the first bundle came to this, and a fact of that
-pub record ReadGave (setup : RunSetup) (run : RunData) (P : Result Bundle GatherFault → Type 0)
-    : Type 0 where
-  pub reads : List OneRead
-  pub read : HasRead run.watch reads
-  pub gives : Result Bundle GatherFault
-  pub gathers : GathersFrom setup.source reads gives
-  pub is : P gives
 
 -- the first bundle is accepted, with these ports, and a fact of them
 pub record WasAccepted (setup : RunSetup) (gives : Result Bundle GatherFault)
@@ -253,13 +277,15 @@ pub record ServesBehind (setup : RunSetup) (run : RunData) (watch : WatchState)
   pub looks : List WatchTurn
   pub watched : WatchRun setup bundles looks run.watch run.starved
   pub places : List OpenedSide
-  pub opened : OpensSides setup.default_port setup.workers bundles places
+  pub opened : OpensSides setup run bundles places
   pub told : AddsHost before after (opened_by None places)
   pub scripts : List (Option SideScriptData)
   pub supplied : TakesSides before.supply after.supply scripts
   pub one_each : length scripts ≡ length places
   pub back : HandsBack run.published run.sides scripts
-  pub sides : AllByRecursion (TellsRun setup bundles) run.sides
+  pub pinned : List (List ℕ)
+  pub sides : TellEach setup bundles pinned run.sides
+  pub held : AreHeldBehind pinned bundles looks
 
 pub record RunsBehind (setup : RunSetup) (run : RunData) (watch : WatchState)
     (before after : HostState) : Type 0 where

@@ -53,10 +53,11 @@ pub record IsWatching {W : Type 0} (table : PinTable Chain) (watcher : Watcher W
 abbrev pub IsMost : ℕ → Type 0
 IsMost most = (0 < most) × (most ≤ limits.TURNS)
 
--- what a role has before it acts
-abbrev pub IsReady : {S W : Type 0} → Task → Role S W → Type 0
-IsReady task (Work worker end) = working.IsReady task.table worker × IsMost task.most
-IsReady task (Watch watcher) = IsWatching task.table watcher
+-- what a role has before it acts: a worker's side was told of no end
+abbrev pub IsReady : {S W : Type 0} → (S → SideState) → Task → Role S W → Type 0
+IsReady side task (Work worker end) =
+    working.IsReady task.table worker × IsMost task.most × ((side worker.side).left ≡ 0)
+IsReady side task (Watch watcher) = IsWatching task.table watcher
 
 -- a worker that has ended so
 pub record HasWorked {S : Type 0} (state : S → SideState) (task : Task) (old new : Worker S)

@@ -7,7 +7,8 @@ ghost use Rattle.std.specs.Vec.{vec_capacity};
 ghost use Rattle.pin_table.specs.{ArePasses, id_of};
 ghost use Rattle.reload_watch.specs.{source_data};
 ghost use Rattle.dns_server.specs.Each.{Each3};
-ghost use Rattle.dns_server.specs.Roles.{AreStarting, AreWorking, Becomes, IsPart, IsReady, task_of};
+ghost use Rattle.dns_server.specs.Roles.{AreStarting, AreWorking, Becomes, IsPart, IsReady};
+ghost use Rattle.dns_server.specs.Roles.{task_of};
 
 use crate::report::Done;
 use chain_build::Chain;
@@ -37,7 +38,7 @@ pub(crate) struct Shared<'a> {
 
 // What a role does until it has ended.
 fn act<R: Wait, S: Side, W: Watch>(rt: &R, alloc: Global, shared: Shared<'_>, role: &mut Role<S, W>)
-    requires ready { IsReady (task_of shared) role.old }
+    requires ready { IsReady S.state (task_of shared) role.old }
     ensures { Becomes S.state W.state (task_of shared.entry) role.old role.new }
 {
     match role {
@@ -57,7 +58,7 @@ pub(crate) fn act_all<R: Threads + Wait + Sync, S: Side + Send + Drop, W: Watch 
     shared: Shared<'_>,
     roles: &mut Vec<Role<S, W>>,
 )
-    requires ready { All (IsReady (task_of shared)) roles.old.items }
+    requires ready { All (IsReady S.state (task_of shared)) roles.old.items }
     ensures { AllZip (Becomes S.state W.state (task_of shared.entry)) roles.old.items
         roles.new.items }
 {
@@ -70,7 +71,7 @@ fn act_each<R: Threads + Wait + Sync, S: Side + Send + Drop, W: Watch + Send + D
     shared: Shared<'_>,
     roles: &mut [Role<S, W>],
 )
-    requires ready { All (IsReady (task_of shared)) roles.old }
+    requires ready { All (IsReady S.state (task_of shared)) roles.old }
     ensures { (length roles.new ≡ length roles.old)
         × ((k : ℕ) (d : _) → k < length roles.old
         → Becomes S.state W.state (task_of shared.entry) (slice_index_or roles.old k d)
@@ -81,7 +82,7 @@ fn act_each<R: Threads + Wait + Sync, S: Side + Send + Drop, W: Watch + Send + D
         return;
     }
     let run = |_at: usize, role: &mut Role<S, W>|
-        requires { IsReady (task_of shared) role.now }
+        requires { IsReady S.state (task_of shared) role.now }
         ensures { Becomes S.state W.state (task_of shared.entry) role.entry.now role.exit.now }
     {
         act(rt, alloc, shared, role);

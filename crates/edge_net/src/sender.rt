@@ -74,7 +74,7 @@ impl Sender {
 
 /// The client whose socket address is the first so many of the bytes. `None` for another family,
 /// and for too few bytes.
-#[inline]
+#[inline(always)]
 pub fn client_of(bytes: &[u8; 128], len: u32) -> Option<Client>
     ensures { result ≡ client_of bytes.now len }
 {

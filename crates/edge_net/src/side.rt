@@ -33,6 +33,15 @@ impl End {
             End::Tcp(_) => Transport::Tcp,
         }
     }
+
+    // Waits for a message, for a second.
+    #[inline(always)]
+    fn recv(&mut self, rt: &(impl Clock + Files), bytes: &mut Bytes) -> Arrival {
+        match self {
+            End::Udp(end) => end.recv(rt, bytes),
+            End::Tcp(end) => end.recv(rt, bytes),
+        }
+    }
 }
 
 /// A worker's side over sockets. It tells no journal and no script, and counts its failing calls.
@@ -170,24 +179,36 @@ impl<R: Wait + Clock + RandomSource + Eprint + Files + Drop> Side for NetSide<R>
     }
 }
 
-// Waits for the next message. Nothing: another side has left.
+// Waits for the next message. Nothing: another side has left. Mostly a message comes within a
+// second, and the loop is a call of its own.
+#[inline(always)]
 fn await_message<R: Clock + Files>(
     rt: &R,
     end: &mut End,
     crew: &Crew,
     bytes: &mut Bytes,
 ) -> Arrival {
+    match end.recv(rt, bytes) {
+        Arrival::Nothing => await_longer(rt, end, crew, bytes),
+        arrival => arrival,
+    }
+}
+
+// Waits for the next message where none has come within a second.
+#[cold]
+#[inline(never)]
+fn await_longer<R: Clock + Files>(
+    rt: &R,
+    end: &mut End,
+    crew: &Crew,
+    bytes: &mut Bytes,
+) -> Arrival {
     for _ in 0..u64::MAX {
-        let arrival = match end {
-            End::Udp(end) => end.recv(rt, bytes),
-            End::Tcp(end) => end.recv(rt, bytes),
-        };
-        match arrival {
-            Arrival::Nothing => {
-                if crew.is_ending() {
-                    return Arrival::Nothing;
-                }
-            }
+        if crew.is_ending() {
+            return Arrival::Nothing;
+        }
+        match end.recv(rt, bytes) {
+            Arrival::Nothing => {}
             arrival => return arrival,
         }
     }

@@ -74,6 +74,7 @@ impl TcpEnd {
     }
 
     /// Waits for the next whole message of any connection, each in its turn.
+    #[inline(never)]
     pub fn recv(&mut self, clock: &impl Clock, message: &mut Bytes) -> Arrival {
         self.crowd.requeue();
         for _ in 0..u64::MAX {

@@ -70,7 +70,7 @@ impl UdpEnd {
     }
 
     /// Waits for the next datagram, whose bytes come in place of what the message held.
-    #[inline]
+    #[inline(always)]
     pub fn recv(&mut self, rt: &(impl Clock + Files), message: &mut Bytes) -> Arrival
         ensures { (client : Client) → result ≡ Arrival.Got client
             → client_of self.new.from.bytes self.new.from.len ≡ Some client }
@@ -117,7 +117,8 @@ impl UdpEnd {
         )
     }
 
-    // A datagram of any of the sockets. While the one that had the last has more, it goes on.
+    // The next datagram. Mostly there is one socket.
+    #[inline(always)]
     fn receive(&mut self) -> Result<(usize, Client), Unreceived>
         ensures count { IfOk result (λ r. r.0 ≤ length self.new.packet.items) }
         ensures client { IfOk result (λ r.
@@ -132,6 +133,16 @@ impl UdpEnd {
                 true,
             );
         }
+        self.receive_any()
+    }
+
+    // A datagram of any of the sockets. While the one that had the last has more, it goes on.
+    #[inline(never)]
+    fn receive_any(&mut self) -> Result<(usize, Client), Unreceived>
+        ensures count { IfOk result (λ r. r.0 ≤ length self.new.packet.items) }
+        ensures client { IfOk result (λ r.
+            client_of self.new.from.bytes self.new.from.len ≡ Some r.1) }
+    {
         if self.row % 8 != 0 {
             let socket = socket_at(&self.socket, &self.others, self.at);
             match receive(socket, self.packet.as_mut_slice(), &mut self.from, false) {
@@ -146,6 +157,8 @@ impl UdpEnd {
 
     // Looks at the addresses of the host once in ten seconds. Where they changed, the sockets at
     // them are opened anew.
+    #[cold]
+    #[inline(never)]
     fn look(&mut self, rt: &(impl Clock + Files)) {
         let now = moment(rt).unwrap_or(0);
         if let Some(looked) = self.looked {

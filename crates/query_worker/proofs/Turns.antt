@@ -1,5 +1,5 @@
 -- How the turns of a worker go on.
-use Rattle.std.proofs.Common.{◌≡◌, ◌≤◌, ◌<◌, ℕ, ◌+◌, Bool, true, false, List, [], ◌∷◌, ◌++◌, length, reverse, Some, None, refl, sym, ap, subst, ◌∙◌, arith, inl, inr, add-zero}
+use Rattle.std.proofs.Common.{◌≡◌, ◌≤◌, ◌<◌, ℕ, ◌+◌, Bool, true, false, List, [], ◌∷◌, ◌++◌, length, map, reverse, Some, None, refl, sym, ap, subst, ◌∙◌, arith, inl, inr, add-zero}
 use Rattle.std.specs.List.{flat_map, AllByRecursion}
 use Rattle.std.proofs.lemmas.List.{append-nil, reverse-append}
 use Rattle.std.proofs.lemmas.List.Concat.{flat_map-append, flat_map-cons}
@@ -16,11 +16,11 @@ use Rattle.query_worker.specs.declared.worker.Tally.{Tally}
 use Rattle.query_worker.specs.declared.worker.WorkEnd.{WorkEnd}
 use Rattle.query_worker.specs.declared.worker.WorkEnd.TheVariants as ends
 use Rattle.query_worker.specs.Laws.{all_as}
-use Rattle.query_worker.specs.Pins.{PastPin, IsByPin, IsOfPass, TakeUnder, TellsPins, CountsPins}
+use Rattle.query_worker.specs.Pins.{PastPin, IsByPin, IsOfPass, TakeUnder, TellsPins, CountsPins, pinned_by}
 use Rattle.query_worker.specs.States.{worked_of}
 use Rattle.query_worker.specs.Tally.{TurnEnds, IsIdle, tallied, with_miss, starved_in_row}
-use Rattle.query_worker.specs.Turn.{Turn, failed, replied, silenced, starved, marks_of, datagrams, starved_in, serials, NeverFall, total}
-use Rattle.query_worker.specs.Worker.{TakesOne, AddsTurn, Ending, last_row, HasNoLongRow, AreTurns, WorkerRun, pin_of}
+use Rattle.query_worker.specs.Turn.{Turn, failed, unread, replied, silenced, starved, marks_of, datagrams, starved_in, serials, NeverFall, total}
+use Rattle.query_worker.specs.Worker.{TakesOne, AddsTurn, Ending, last_row, last_unread, HasNoLongRow, NoneBehind, AreTurns, WorkerRun, pin_of}
 
 total-push : (count : Turn → ℕ) (turns : List Turn) (turn : Turn) → total count (turns ++ turn ∷ []) ≡ total count turns + count turn
 total-push count [] turn = omega arith
@@ -45,12 +45,14 @@ never_fall-push from number (n ∷ numbers) rise below le = (rise.0, never_fall-
 -- a turn under a pin takes one datagram, under its serial
 serials_by : (pin : PastPin) (turn : Turn) → IsByPin pin turn → serials turn ≡ pin.serial ∷ []
 serials_by pin failed is = absurd is
+serials_by pin unread is = absurd is
 serials_by pin (replied s d m r o) is = ap (λ (n : ℕ). n ∷ []) (sym is.0)
 serials_by pin (silenced s d m w) is = ap (λ (n : ℕ). n ∷ []) (sym is.0)
 serials_by pin (starved s d m) is = ap (λ (n : ℕ). n ∷ []) (sym is.0)
 
 datagrams_by : (pin : PastPin) (turn : Turn) → IsByPin pin turn → datagrams turn ≡ 1
 datagrams_by pin failed is = absurd is
+datagrams_by pin unread is = absurd is
 datagrams_by pin (replied s d m r o) is = refl
 datagrams_by pin (silenced s d m w) is = refl
 datagrams_by pin (starved s d m) is = refl
@@ -58,6 +60,7 @@ datagrams_by pin (starved s d m) is = refl
 -- it is one of the pass's pins
 of_pass_by : (pin : PastPin) (pins : List PastPin) (turn : Turn) → IsByPin pin turn → IsOfPass (pin ∷ pins) turn
 of_pass_by pin pins failed is = tt
+of_pass_by pin pins unread is = tt
 of_pass_by pin pins (replied s d m r o) is = inl is
 of_pass_by pin pins (silenced s d m w) is = inl is
 of_pass_by pin pins (starved s d m) is = inl is
@@ -65,6 +68,7 @@ of_pass_by pin pins (starved s d m) is = inl is
 -- with one pin more
 of_pass_more : (pin : PastPin) (pins : List PastPin) (turn : Turn) → IsOfPass pins turn → IsOfPass (pin ∷ pins) turn
 of_pass_more pin pins failed is = tt
+of_pass_more pin pins unread is = tt
 of_pass_more pin pins (replied s d m r o) is = inr is
 of_pass_more pin pins (silenced s d m w) is = inr is
 of_pass_more pin pins (starved s d m) is = inr is
@@ -72,78 +76,160 @@ of_pass_more pin pins (starved s d m) is = inr is
 -- a further turn, under a further pin
 under-took : (pins : List PastPin) (turns : List Turn) (pin : PastPin) (turn : Turn) → TakeUnder pins turns → IsByPin pin turn → TakeUnder (pins ++ pin ∷ []) (turns ++ turn ∷ [])
 under-took [] [] pin failed under is = absurd is
+under-took [] [] pin unread under is = absurd is
 under-took [] [] pin (replied s d m r o) under is = (is, tt)
 under-took [] [] pin (silenced s d m w) under is = (is, tt)
 under-took [] [] pin (starved s d m) under is = (is, tt)
 under-took (p ∷ pins) [] pin turn under is = absurd under
 under-took [] (failed ∷ turns) pin turn under is = under-took [] turns pin turn under is
+under-took [] (unread ∷ turns) pin turn under is = under-took [] turns pin turn under is
 under-took [] (replied s d m r o ∷ turns) pin turn under is = absurd under
 under-took [] (silenced s d m w ∷ turns) pin turn under is = absurd under
 under-took [] (starved s d m ∷ turns) pin turn under is = absurd under
 under-took (p ∷ pins) (failed ∷ turns) pin turn under is = under-took (p ∷ pins) turns pin turn under is
+under-took (p ∷ pins) (unread ∷ turns) pin turn under is = under-took (p ∷ pins) turns pin turn under is
 under-took (p ∷ pins) (replied s d m r o ∷ turns) pin turn under is = (under.0, under-took pins turns pin turn under.1 is)
 under-took (p ∷ pins) (silenced s d m w ∷ turns) pin turn under is = (under.0, under-took pins turns pin turn under.1 is)
 under-took (p ∷ pins) (starved s d m ∷ turns) pin turn under is = (under.0, under-took pins turns pin turn under.1 is)
 
-under-failed : (pins : List PastPin) (turns : List Turn) → TakeUnder pins turns → TakeUnder pins (turns ++ failed ∷ [])
-under-failed [] [] under = tt
-under-failed (p ∷ pins) [] under = absurd under
-under-failed [] (failed ∷ turns) under = under-failed [] turns under
-under-failed [] (replied s d m r o ∷ turns) under = absurd under
-under-failed [] (silenced s d m w ∷ turns) under = absurd under
-under-failed [] (starved s d m ∷ turns) under = absurd under
-under-failed (p ∷ pins) (failed ∷ turns) under = under-failed (p ∷ pins) turns under
-under-failed (p ∷ pins) (replied s d m r o ∷ turns) under = (under.0, under-failed pins turns under.1)
-under-failed (p ∷ pins) (silenced s d m w ∷ turns) under = (under.0, under-failed pins turns under.1)
-under-failed (p ∷ pins) (starved s d m ∷ turns) under = (under.0, under-failed pins turns under.1)
+-- a receive that gave no datagram
+abbrev IsMiss : Turn → Type 0
+IsMiss failed = Unit {0}
+IsMiss unread = Unit {0}
+IsMiss (replied s d m r o) = ⊥
+IsMiss (silenced s d m w) = ⊥
+IsMiss (starved s d m) = ⊥
+
+serials_missed : (turn : Turn) → IsMiss turn → serials turn ≡ []
+serials_missed failed is = refl
+serials_missed unread is = refl
+serials_missed (replied s d m r o) is = absurd is
+serials_missed (silenced s d m w) is = absurd is
+serials_missed (starved s d m) is = absurd is
+
+datagrams_missed : (turn : Turn) → IsMiss turn → datagrams turn ≡ 0
+datagrams_missed failed is = refl
+datagrams_missed unread is = refl
+datagrams_missed (replied s d m r o) is = absurd is
+datagrams_missed (silenced s d m w) is = absurd is
+datagrams_missed (starved s d m) is = absurd is
+
+of_pass_missed : (pins : List PastPin) (turn : Turn) → IsMiss turn → IsOfPass pins turn
+of_pass_missed pins failed is = tt
+of_pass_missed pins unread is = tt
+of_pass_missed pins (replied s d m r o) is = absurd is
+of_pass_missed pins (silenced s d m w) is = absurd is
+of_pass_missed pins (starved s d m) is = absurd is
+
+under-missed : (pins : List PastPin) (turns : List Turn) (turn : Turn) → IsMiss turn → TakeUnder pins turns → TakeUnder pins (turns ++ turn ∷ [])
+under-missed [] [] failed is under = tt
+under-missed [] [] unread is under = tt
+under-missed [] [] (replied s d m r o) is under = absurd is
+under-missed [] [] (silenced s d m w) is under = absurd is
+under-missed [] [] (starved s d m) is under = absurd is
+under-missed (p ∷ pins) [] turn is under = absurd under
+under-missed [] (failed ∷ turns) turn is under = under-missed [] turns turn is under
+under-missed [] (unread ∷ turns) turn is under = under-missed [] turns turn is under
+under-missed [] (replied s d m r o ∷ turns) turn is under = absurd under
+under-missed [] (silenced s d m w ∷ turns) turn is under = absurd under
+under-missed [] (starved s d m ∷ turns) turn is under = absurd under
+under-missed (p ∷ pins) (failed ∷ turns) turn is under = under-missed (p ∷ pins) turns turn is under
+under-missed (p ∷ pins) (unread ∷ turns) turn is under = under-missed (p ∷ pins) turns turn is under
+under-missed (p ∷ pins) (replied s d m r o ∷ turns) turn is under = (under.0, under-missed pins turns turn is under.1)
+under-missed (p ∷ pins) (silenced s d m w ∷ turns) turn is under = (under.0, under-missed pins turns turn is under.1)
+under-missed (p ∷ pins) (starved s d m ∷ turns) turn is under = (under.0, under-missed pins turns turn is under.1)
 
 -- behind a turn that took a datagram no row is left
 row_by : (row : ℕ) (turns : List Turn) (pin : PastPin) (turn : Turn) → IsByPin pin turn → last_row row (turns ++ turn ∷ []) ≡ 0
 row_by row [] pin failed is = absurd is
+row_by row [] pin unread is = absurd is
 row_by row [] pin (replied s d m r o) is = refl
 row_by row [] pin (silenced s d m w) is = refl
 row_by row [] pin (starved s d m) is = refl
 row_by row (failed ∷ turns) pin turn is = row_by (row + 1) turns pin turn is
+row_by row (unread ∷ turns) pin turn is = row_by (row + 1) turns pin turn is
 row_by row (replied s d m r o ∷ turns) pin turn is = row_by 0 turns pin turn is
 row_by row (silenced s d m w ∷ turns) pin turn is = row_by 0 turns pin turn is
 row_by row (starved s d m ∷ turns) pin turn is = row_by 0 turns pin turn is
 
+unread_by : (met : ℕ) (turns : List Turn) (pin : PastPin) (turn : Turn) → IsByPin pin turn → last_unread met (turns ++ turn ∷ []) ≡ 0
+unread_by met [] pin failed is = absurd is
+unread_by met [] pin unread is = absurd is
+unread_by met [] pin (replied s d m r o) is = refl
+unread_by met [] pin (silenced s d m w) is = refl
+unread_by met [] pin (starved s d m) is = refl
+unread_by met (failed ∷ turns) pin turn is = unread_by met turns pin turn is
+unread_by met (unread ∷ turns) pin turn is = unread_by (met + 1) turns pin turn is
+unread_by met (replied s d m r o ∷ turns) pin turn is = unread_by 0 turns pin turn is
+unread_by met (silenced s d m w ∷ turns) pin turn is = unread_by 0 turns pin turn is
+unread_by met (starved s d m ∷ turns) pin turn is = unread_by 0 turns pin turn is
+
 no_row_by : (row : ℕ) (turns : List Turn) (pin : PastPin) (turn : Turn) → HasNoLongRow row turns → IsByPin pin turn → HasNoLongRow row (turns ++ turn ∷ [])
 no_row_by row [] pin failed short is = absurd is
+no_row_by row [] pin unread short is = absurd is
 no_row_by row [] pin (replied s d m r o) short is = tt
 no_row_by row [] pin (silenced s d m w) short is = tt
 no_row_by row [] pin (starved s d m) short is = tt
 no_row_by row (failed ∷ turns) pin turn short is = (short.0, no_row_by (row + 1) turns pin turn short.1 is)
+no_row_by row (unread ∷ turns) pin turn short is = (short.0, no_row_by (row + 1) turns pin turn short.1 is)
 no_row_by row (replied s d m r o ∷ turns) pin turn short is = no_row_by 0 turns pin turn short is
 no_row_by row (silenced s d m w ∷ turns) pin turn short is = no_row_by 0 turns pin turn short is
 no_row_by row (starved s d m ∷ turns) pin turn short is = no_row_by 0 turns pin turn short is
 
--- a turn that failed makes the row longer by one
-row_failed : (row : ℕ) (turns : List Turn) → last_row row (turns ++ failed ∷ []) ≡ last_row row turns + 1
-row_failed row [] = refl
-row_failed row (failed ∷ turns) = row_failed (row + 1) turns
-row_failed row (replied s d m r o ∷ turns) = row_failed 0 turns
-row_failed row (silenced s d m w ∷ turns) = row_failed 0 turns
-row_failed row (starved s d m ∷ turns) = row_failed 0 turns
+-- a receive that gave no datagram makes the row longer by one
+row_missed : (row : ℕ) (turns : List Turn) (turn : Turn) → IsMiss turn → last_row row (turns ++ turn ∷ []) ≡ last_row row turns + 1
+row_missed row [] failed is = refl
+row_missed row [] unread is = refl
+row_missed row [] (replied s d m r o) is = absurd is
+row_missed row [] (silenced s d m w) is = absurd is
+row_missed row [] (starved s d m) is = absurd is
+row_missed row (failed ∷ turns) turn is = row_missed (row + 1) turns turn is
+row_missed row (unread ∷ turns) turn is = row_missed (row + 1) turns turn is
+row_missed row (replied s d m r o ∷ turns) turn is = row_missed 0 turns turn is
+row_missed row (silenced s d m w ∷ turns) turn is = row_missed 0 turns turn is
+row_missed row (starved s d m ∷ turns) turn is = row_missed 0 turns turn is
 
-no_row_failed : (row : ℕ) (turns : List Turn) → HasNoLongRow row turns → last_row row turns + 1 < 64 → HasNoLongRow row (turns ++ failed ∷ [])
-no_row_failed row [] short few = (few, tt)
-no_row_failed row (failed ∷ turns) short few = (short.0, no_row_failed (row + 1) turns short.1 few)
-no_row_failed row (replied s d m r o ∷ turns) short few = no_row_failed 0 turns short few
-no_row_failed row (silenced s d m w ∷ turns) short few = no_row_failed 0 turns short few
-no_row_failed row (starved s d m ∷ turns) short few = no_row_failed 0 turns short few
+no_row_missed : (row : ℕ) (turns : List Turn) (turn : Turn) → IsMiss turn → HasNoLongRow row turns → last_row row turns + 1 < 64 → HasNoLongRow row (turns ++ turn ∷ [])
+no_row_missed row [] failed is short few = (few, tt)
+no_row_missed row [] unread is short few = (few, tt)
+no_row_missed row [] (replied s d m r o) is short few = absurd is
+no_row_missed row [] (silenced s d m w) is short few = absurd is
+no_row_missed row [] (starved s d m) is short few = absurd is
+no_row_missed row (failed ∷ turns) turn is short few = (short.0, no_row_missed (row + 1) turns turn is short.1 few)
+no_row_missed row (unread ∷ turns) turn is short few = (short.0, no_row_missed (row + 1) turns turn is short.1 few)
+no_row_missed row (replied s d m r o ∷ turns) turn is short few = no_row_missed 0 turns turn is short few
+no_row_missed row (silenced s d m w ∷ turns) turn is short few = no_row_missed 0 turns turn is short few
+no_row_missed row (starved s d m ∷ turns) turn is short few = no_row_missed 0 turns turn is short few
+
+-- how much of the row met want of memory, behind one that failed and behind one that met it
+unread_failed : (met : ℕ) (turns : List Turn) → last_unread met (turns ++ failed ∷ []) ≡ last_unread met turns
+unread_failed met [] = refl
+unread_failed met (failed ∷ turns) = unread_failed met turns
+unread_failed met (unread ∷ turns) = unread_failed (met + 1) turns
+unread_failed met (replied s d m r o ∷ turns) = unread_failed 0 turns
+unread_failed met (silenced s d m w ∷ turns) = unread_failed 0 turns
+unread_failed met (starved s d m ∷ turns) = unread_failed 0 turns
+
+unread_more : (met : ℕ) (turns : List Turn) → last_unread met (turns ++ unread ∷ []) ≡ last_unread met turns + 1
+unread_more met [] = refl
+unread_more met (failed ∷ turns) = unread_more met turns
+unread_more met (unread ∷ turns) = unread_more (met + 1) turns
+unread_more met (replied s d m r o ∷ turns) = unread_more 0 turns
+unread_more met (silenced s d m w ∷ turns) = unread_more 0 turns
+unread_more met (starved s d m ∷ turns) = unread_more 0 turns
+
+-- where fewer than `most` datagrams were taken, no receive came behind the last one, nor does a further one
+none_behind : (most taken : ℕ) (turns : List Turn) → taken + total datagrams turns < most → NoneBehind most taken turns
+none_behind most taken [] few = tt
+none_behind most taken (turn ∷ turns) few = (omega (arith, few), none_behind most (taken + datagrams turn) turns (omega (arith, few)))
+
+none_behind-push : (most taken : ℕ) (turns : List Turn) (turn : Turn) → taken + total datagrams turns < most → NoneBehind most taken (turns ++ turn ∷ [])
+none_behind-push most taken [] turn few = (omega (arith, few), tt)
+none_behind-push most taken (t ∷ turns) turn few = (omega (arith, few), none_behind-push most (taken + datagrams t) turns turn (omega (arith, few)))
 
 -- marks that are known are those that were added
 adds_just : {a b : SideState} {q r : PassView Chain} {known : List Mark} → Grows a b (λ marks. (marks ≡ known) × (r ≡ q)) → Adds a b known
 adds_just {a} {b} grows = subst (Adds a b) grows.are.0 grows.told
-
--- 1 where a call in the row met want of memory, which leaves no turn
-abbrev pub one_if : Bool → ℕ
-one_if true = 1
-one_if false = 0
-
-one_of_true : (has_starved : Bool) → has_starved ≡ true → one_if has_starved ≡ 1
-one_of_true has_starved is = ap one_if is
 
 -- what is at most one number is at most a greater one
 all_below : (a b : ℕ) (numbers : List ℕ) → a ≤ b → AllByRecursion (λ n. n ≤ a) numbers → AllByRecursion (λ n. n ≤ b) numbers
@@ -158,26 +244,30 @@ pub record HasWorked (old new : SideState) (q : PassView Chain) (t : Tally) : Ty
   pub under : TakeUnder (reverse q.turns) turns
   pub seen : AllByRecursion (λ n. n ≤ t.seen) (flat_map serials turns)
   pub counts : CountsPins t q
+  pub pinned : flat_map serials turns ≡ reverse (pinned_by q)
+  pub settled : q.taken ≡ None
   pub no_row : HasNoLongRow 0 turns
-  pub row : last_row 0 turns + one_if t.has_starved ≤ t.failures
-  pub whole : t.has_starved ≡ false → last_row 0 turns ≡ t.failures
-  pub some : t.has_starved ≡ true → 0 < t.starved
-  pub met : t.failures ≤ last_row 0 turns + t.starved
+  pub before_last : (most : ℕ) → t.pins ≤ most → t.failures ≡ 0 → NoneBehind most 0 turns
+  pub row : last_row 0 turns ≡ t.failures
+  pub met : t.has_starved ≡ true → 0 < last_unread 0 turns
+  pub unmet : t.has_starved ≡ false → last_unread 0 turns ≡ 0
 
 -- nothing yet
-pub starts : (a : SideState) (q : PassView Chain) (t : Tally) → IsIdle t → q.turns ≡ [] → 0 < q.seen → HasWorked a a q t
-starts a q t idle unused some = subst (HasWorked a a q) (sym idle) (record {
+pub starts : (a : SideState) (q : PassView Chain) (t : Tally) → IsIdle t → q.turns ≡ [] → q.taken ≡ None → 0 < q.seen → HasWorked a a q t
+starts a q t idle unused settled some = subst (HasWorked a a q) (sym idle) (record {
   turns = [];
   told = adds-nothing a;
-  are = record { lawful_are = tt; in_order = tt; datagrams_are = refl; starved_at_most = omega arith };
+  are = record { lawful_are = tt; in_order = tt; datagrams_are = refl; starved_are = refl };
   under = subst (λ (l : List PastPin). TakeUnder (reverse l) []) (sym unused) tt;
   seen = tt;
   counts = record { pins = ap length unused; last = λ e. absurd (omega (arith, e)); none = λ e. refl; within = omega (arith, some) };
+  pinned = ap (λ (l : List PastPin). reverse (map (λ (p : PastPin). p.serial) l)) (sym unused);
+  settled = settled;
   no_row = tt;
-  row = omega arith;
-  whole = λ e. refl;
-  some = λ e. absurd cc;
-  met = omega arith;
+  before_last = λ most le none. tt;
+  row = refl;
+  met = λ e. absurd cc;
+  unmet = λ e. refl;
 })
 
 -- a turn that took a datagram
@@ -202,129 +292,145 @@ takes {a} {b} {c} {q} {r} {t} s want w grows =
             (of_pass_by pin q.turns turn one.by_pin);
         in_order = rw serials_are (never_fall-push 0 s (flat_map serials w.turns) w.are.in_order below (omega arith));
         datagrams_are = omega (arith, total-push datagrams w.turns turn, w.are.datagrams_are, datagrams_by pin turn one.by_pin);
-        starved_at_most = omega (arith, total-push starved_in w.turns turn, w.are.starved_at_most, one.starved_are);
+        starved_are = omega (arith, total-push starved_in w.turns turn, w.are.starved_are, one.starved_are);
       };
       under = subst (λ (l : List PastPin). TakeUnder l (w.turns ++ turn ∷ [])) (sym (reverse-append (pin ∷ []) q.turns)) (under-took (reverse q.turns) w.turns pin turn w.under one.by_pin);
       seen = rw serials_are (all-push (λ n. n ≤ s) (flat_map serials w.turns) s below (omega arith));
       counts = record { pins = omega (arith, counted); last = λ e. refl; none = λ e. absurd (omega (arith, e)); within = omega arith };
+      pinned = serials_are ∙ ap (λ (l : List ℕ). l ++ s ∷ []) w.pinned ∙ sym (reverse-append (s ∷ []) (pinned_by q));
+      settled = refl;
       no_row = no_row_by 0 w.turns pin turn w.no_row one.by_pin;
-      row = omega (arith, row_by 0 w.turns pin turn one.by_pin);
-      whole = λ e. row_by 0 w.turns pin turn one.by_pin;
-      some = λ e. absurd cc;
-      met = omega arith;
+      before_last = λ most le none. none_behind-push most 0 w.turns turn (omega (arith, le, w.are.datagrams_are));
+      row = row_by 0 w.turns pin turn one.by_pin;
+      met = λ e. absurd cc;
+      unmet = λ e. unread_by 0 w.turns pin turn one.by_pin;
     })
 
--- the journal behind a receive that failed
-failed_told : {a b c : SideState} (turns : List Turn) → Adds a b (flat_map marks_of turns) → Adds b c (RecvFailed ∷ []) → Adds a c (flat_map marks_of (turns ++ failed ∷ []))
-failed_told {a} {b} {c} turns told adds = subst (Adds a c) (sym (marks-push turns failed)) (adds-then told adds)
+-- no serial was pinned
+missed_serials : (turns : List Turn) (turn : Turn) → IsMiss turn → flat_map serials (turns ++ turn ∷ []) ≡ flat_map serials turns
+missed_serials turns turn is = serials-push turns turn ∙ ap (λ (l : List ℕ). flat_map serials turns ++ l) (serials_missed turn is) ∙ append-nil (flat_map serials turns)
 
-failed_are : (pins : List PastPin) {taken starving : ℕ} (turns : List Turn) → AreTurns (IsOfPass pins) taken starving turns → AreTurns (IsOfPass pins) taken starving (turns ++ failed ∷ [])
-failed_are pins turns are =
-    let same : flat_map serials (turns ++ failed ∷ []) ≡ flat_map serials turns = serials-push turns failed ∙ append-nil (flat_map serials turns) in
+missed_are : (pins : List PastPin) {taken starving after : ℕ} (turns : List Turn) (turn : Turn) → IsMiss turn → starving + starved_in turn ≡ after → AreTurns (IsOfPass pins) taken starving turns
+    → AreTurns (IsOfPass pins) taken after (turns ++ turn ∷ [])
+missed_are pins turns turn is same are =
+    let serials_are : flat_map serials (turns ++ turn ∷ []) ≡ flat_map serials turns = missed_serials turns turn is in
     record {
-      lawful_are = all-push (IsOfPass pins) turns failed are.lawful_are tt;
-      in_order = rw same are.in_order;
-      datagrams_are = omega (arith, total-push datagrams turns failed, are.datagrams_are);
-      starved_at_most = omega (arith, total-push starved_in turns failed, are.starved_at_most);
+      lawful_are = all-push (IsOfPass pins) turns turn are.lawful_are (of_pass_missed pins turn is);
+      in_order = rw serials_are are.in_order;
+      datagrams_are = omega (arith, total-push datagrams turns turn, are.datagrams_are, datagrams_missed turn is);
+      starved_are = omega (arith, total-push starved_in turns turn, are.starved_are, same);
     }
 
-failed_seen : (s : ℕ) (turns : List Turn) → AllByRecursion (λ n. n ≤ s) (flat_map serials turns) → AllByRecursion (λ n. n ≤ s) (flat_map serials (turns ++ failed ∷ []))
-failed_seen s turns seen =
-    let same : flat_map serials (turns ++ failed ∷ []) ≡ flat_map serials turns = serials-push turns failed ∙ append-nil (flat_map serials turns) in
-    rw same seen
+-- what a worker did, whose last receive gave no datagram
+record HasMissed (old new : SideState) (q : PassView Chain) (t : Tally) : Type 0 where
+  pub before : List Turn
+  pub last : Turn
+  pub told : Adds old new (flat_map marks_of (before ++ last ∷ []))
+  pub are : AreTurns (IsOfPass q.turns) t.pins t.starved (before ++ last ∷ [])
+  pub under : TakeUnder (reverse q.turns) (before ++ last ∷ [])
+  pub seen : AllByRecursion (λ n. n ≤ t.seen) (flat_map serials (before ++ last ∷ []))
+  pub counts : CountsPins t q
+  pub pinned : flat_map serials (before ++ last ∷ []) ≡ reverse (pinned_by q)
+  pub settled : q.taken ≡ None
+  pub first : HasNoLongRow 0 before
+  pub missed : 0 < t.failures
+  pub short : t.failures < 64 → HasNoLongRow 0 (before ++ last ∷ [])
+  pub row : last_row 0 (before ++ last ∷ []) ≡ t.failures
+  pub met : t.has_starved ≡ true → 0 < last_unread 0 (before ++ last ∷ [])
+  pub unmet : t.has_starved ≡ false → last_unread 0 (before ++ last ∷ []) ≡ 0
 
--- what is counted of pins, where none was made
-counts_missed : {q : PassView Chain} {t : Tally} → CountsPins t q → CountsPins (with_miss t) q
-counts_missed c = record { pins = c.pins; last = c.last; none = c.none; within = c.within }
+-- what is counted behind such a receive
+abbrev missed_tally : Tally → ℕ → Bool → Tally
+missed_tally t starving flag = record { pins = t.pins; seen = t.seen; starved = starving; failures = t.failures + 1; has_starved = flag }
 
-counts_starved : {q : PassView Chain} {t : Tally} → CountsPins t q → CountsPins (with_miss (starved_in_row t)) q
-counts_starved c = record { pins = c.pins; last = c.last; none = c.none; within = c.within }
-
--- a receive that failed, where the row is not long yet
-fails : {a b c : SideState} {q : PassView Chain} {t : Tally} → HasWorked a b q t → Adds b c (RecvFailed ∷ []) → t.failures + 1 < 64 → HasWorked a c q (with_miss t)
-fails {q = q} {t = t} w adds few = record {
-  turns = w.turns ++ failed ∷ [];
-  told = failed_told w.turns w.told adds;
-  are = failed_are q.turns w.turns w.are;
-  under = under-failed (reverse q.turns) w.turns w.under;
-  seen = failed_seen t.seen w.turns w.seen;
-  counts = counts_missed w.counts;
-  no_row = no_row_failed 0 w.turns w.no_row (omega (arith, w.row));
-  row = omega (arith, w.row, row_failed 0 w.turns);
-  whole = λ e. let whole = w.whole e in omega (arith, whole, row_failed 0 w.turns);
-  some = w.some;
-  met = omega (arith, w.met, row_failed 0 w.turns);
+misses : {a b c : SideState} {q : PassView Chain} {t : Tally} (turn : Turn) (starving : ℕ) (flag : Bool) → IsMiss turn → (w : HasWorked a b q t) → Adds b c (marks_of turn) → t.starved + starved_in turn ≡ starving
+    → (flag ≡ true → 0 < last_unread 0 (w.turns ++ turn ∷ [])) → (flag ≡ false → last_unread 0 (w.turns ++ turn ∷ []) ≡ 0)
+    → HasMissed a c q (missed_tally t starving flag)
+misses {a} {b} {c} {q} {t} turn starving flag is w adds want met unmet = record {
+  before = w.turns;
+  last = turn;
+  told = subst (Adds a c) (sym (marks-push w.turns turn)) (adds-then w.told adds);
+  are = missed_are q.turns w.turns turn is want w.are;
+  under = under-missed (reverse q.turns) w.turns turn is w.under;
+  seen = rw (missed_serials w.turns turn is) w.seen;
+  counts = record { pins = w.counts.pins; last = w.counts.last; none = w.counts.none; within = w.counts.within };
+  pinned = missed_serials w.turns turn is ∙ w.pinned;
+  settled = w.settled;
+  first = w.no_row;
+  missed = omega arith;
+  short = λ few. no_row_missed 0 w.turns turn is w.no_row (omega (arith, w.row, few));
+  row = omega (arith, w.row, row_missed 0 w.turns turn is);
+  met = met;
+  unmet = unmet;
 }
 
--- a receive that met want of memory
-meets_want : {a b c : SideState} {q : PassView Chain} {t : Tally} → HasWorked a b q t → Adds b c [] → HasWorked a c q (with_miss (starved_in_row t))
-meets_want {a = a} {c = c} w adds = record {
-  turns = w.turns;
-  told = subst (Adds a c) (append-nil (flat_map marks_of w.turns)) (adds-then w.told adds);
-  are = record { lawful_are = w.are.lawful_are; in_order = w.are.in_order; datagrams_are = w.are.datagrams_are; starved_at_most = omega (arith, w.are.starved_at_most) };
-  under = w.under;
-  seen = w.seen;
-  counts = counts_starved w.counts;
-  no_row = w.no_row;
-  row = omega (arith, w.row);
-  whole = λ e. absurd cc;
-  some = λ e. omega arith;
-  met = omega (arith, w.met);
+-- a receive that failed, and one that met want of memory
+fails : {a b c : SideState} {q : PassView Chain} {t : Tally} → HasWorked a b q t → Adds b c (RecvFailed ∷ []) → HasMissed a c q (with_miss t)
+fails {t = t} w adds =
+    misses failed t.starved t.has_starved tt w adds (omega arith) (λ e. let met = w.met e in omega (arith, met, unread_failed 0 w.turns)) (λ e. let none = w.unmet e in omega (arith, none, unread_failed 0 w.turns))
+
+meets_want : {a b c : SideState} {q : PassView Chain} {t : Tally} → HasWorked a b q t → Adds b c [] → HasMissed a c q (with_miss (starved_in_row t))
+meets_want {t = t} w adds = misses unread (t.starved + 1) true tt w adds refl (λ e. omega (arith, unread_more 0 w.turns)) (λ e. absurd cc)
+
+-- the row is not long yet
+still : {a c : SideState} {q : PassView Chain} {t : Tally} → HasMissed a c q t → t.failures < 64 → HasWorked a c q t
+still m few = record {
+  turns = m.before ++ m.last ∷ [];
+  told = m.told;
+  are = m.are;
+  under = m.under;
+  seen = m.seen;
+  counts = m.counts;
+  pinned = m.pinned;
+  settled = m.settled;
+  no_row = m.short few;
+  before_last = λ most le none. absurd (omega (arith, none, m.missed));
+  row = m.row;
+  met = m.met;
+  unmet = m.unmet;
 }
 
 -- a worker's run that has ended
 pub record Stopped (most : ℕ) (a c : SideState) (q : PassView Chain) (t : Tally) (end : WorkEnd) : Type 0 where
-  pub run : Grows a c (WorkerRun (IsOfPass q.turns) most (worked_of t end))
+  pub run : Grows a c (WorkerRun (IsOfPass q.turns) most (pinned_by q) (worked_of t end))
   pub pins : Grows a c (TellsPins q.turns)
   pub counts : CountsPins t q
+  pub settled : q.taken ≡ None
 
 -- the turns, and what the journal has behind them
 closes : {most : ℕ} {a c : SideState} {q : PassView Chain} {t : Tally} {end : WorkEnd} {marks : List Mark} (turns : List Turn) (ending : List Mark) → Adds a c marks
     → marks ≡ flat_map marks_of turns ++ ending → AreTurns (IsOfPass q.turns) t.pins t.starved turns → TakeUnder (reverse q.turns) turns → AllByRecursion (λ n. n ≤ t.seen) (flat_map serials turns)
-    → CountsPins t q → t.pins ≤ most → Ending most (worked_of t end) turns end ending → Stopped most a c q t end
-closes {marks = marks} turns ending adds told are under seen counts le ends = record {
-  run = record { marks = marks; told = adds; are = record { turns = turns; ending = ending; told = told; are = are; at_most = le; seen_all = seen; ends = ends } };
+    → CountsPins t q → flat_map serials turns ≡ reverse (pinned_by q) → q.taken ≡ None → NoneBehind most 0 turns → t.pins ≤ most → Ending most (worked_of t end) turns end ending → Stopped most a c q t end
+closes {marks = marks} turns ending adds told are under seen counts pinned settled behind le ends = record {
+  run = record { marks = marks; told = adds; are = record { turns = turns; ending = ending; told = told; are = are; at_most = le; none_behind = behind; pinned_are = pinned; seen_all = seen; ends = ends } };
   pins = record { marks = marks; told = adds; are = record { turns = turns; ending = ending; told = told; under = under } };
   counts = counts;
+  settled = settled;
 }
 
 -- the side's end
-ends_with : {most : ℕ} {a b c : SideState} {q : PassView Chain} {t : Tally} → HasWorked a b q t → Adds b c (RecvEnd ∷ []) → t.pins ≤ most → Stopped most a c q t ends.End
-ends_with w adds le = closes w.turns (RecvEnd ∷ []) (adds-then w.told adds) refl w.are w.under w.seen w.counts le (w.no_row, inl refl)
+ends_with : {most : ℕ} {a b c : SideState} {q : PassView Chain} {t : Tally} → HasWorked a b q t → Adds b c (RecvEnd ∷ []) → t.pins < most → Stopped most a c q t ends.End
+ends_with {most} w adds more =
+    closes w.turns (RecvEnd ∷ []) (adds-then w.told adds) refl w.are w.under w.seen w.counts w.pinned w.settled (none_behind most 0 w.turns (omega (arith, more, w.are.datagrams_are))) (omega (arith, more)) (w.no_row, inl (refl, more))
 
 -- the last datagram was taken
-takes_last : {most : ℕ} {a b : SideState} {q : PassView Chain} {t : Tally} → HasWorked a b q t → t.pins ≡ most → Stopped most a b q t ends.End
-takes_last w last = closes w.turns [] w.told (sym (append-nil (flat_map marks_of w.turns))) w.are w.under w.seen w.counts (omega (arith, last)) (w.no_row, inr (refl, last))
+takes_last : {most : ℕ} {a b : SideState} {q : PassView Chain} {t : Tally} → HasWorked a b q t → t.failures ≡ 0 → t.pins ≡ most → Stopped most a b q t ends.End
+takes_last {most} w none last =
+    closes w.turns [] w.told (sym (append-nil (flat_map marks_of w.turns))) w.are w.under w.seen w.counts w.pinned w.settled (w.before_last most (omega (arith, last)) none) (omega (arith, last)) (w.no_row, inr (refl, last))
 
--- the 64th receive in a row failed, and none of them met want of memory
-fails_last : {most : ℕ} {a b c : SideState} {q : PassView Chain} {t : Tally} → HasWorked a b q t → Adds b c (RecvFailed ∷ []) → t.failures + 1 ≡ 64 → t.has_starved ≡ false → t.pins ≤ most
-    → Stopped most a c q (with_miss t) ends.RecvFailed
-fails_last {q = q} {t = t} w adds last none_starved le =
-    closes {t = with_miss t} (w.turns ++ failed ∷ []) [] (failed_told w.turns w.told adds) (sym (append-nil (flat_map marks_of (w.turns ++ failed ∷ [])))) (failed_are q.turns w.turns w.are)
-    (under-failed (reverse q.turns) w.turns w.under) (failed_seen t.seen w.turns w.seen) (counts_missed w.counts) le
-    (record { before = w.turns; last = refl; row = let whole = w.whole none_starved in omega (arith, whole, last); first = w.no_row }, refl)
+-- the 64th receive in a row gave no datagram, and none of these met want of memory
+fails_last : {most : ℕ} {a c : SideState} {q : PassView Chain} {t : Tally} → HasMissed a c q t → t.failures ≡ 64 → t.has_starved ≡ false → t.pins < most → Stopped most a c q t ends.RecvFailed
+fails_last {most} {t = t} m last none_starved more =
+    closes {t = t} (m.before ++ m.last ∷ []) [] m.told (sym (append-nil (flat_map marks_of (m.before ++ m.last ∷ [])))) m.are m.under m.seen m.counts m.pinned m.settled
+    (none_behind most 0 (m.before ++ m.last ∷ []) (omega (arith, more, m.are.datagrams_are))) (omega (arith, more))
+    (record { before = m.before; last = m.last; turns_are = refl; first = m.first; row = m.row ∙ last; met = m.unmet none_starved }, refl)
 
--- the 64th receive in a row failed, and one of them met want of memory
-fails_with_want : {most : ℕ} {a b c : SideState} {q : PassView Chain} {t : Tally} → HasWorked a b q t → Adds b c (RecvFailed ∷ []) → t.failures + 1 ≡ 64 → t.has_starved ≡ true → t.pins ≤ most
-    → Stopped most a c q (with_miss t) ends.NoMemory
-fails_with_want {q = q} {t = t} w adds last has_starved le =
-    closes {t = with_miss t} (w.turns ++ failed ∷ []) [] (failed_told w.turns w.told adds) (sym (append-nil (flat_map marks_of (w.turns ++ failed ∷ [])))) (failed_are q.turns w.turns w.are)
-    (under-failed (reverse q.turns) w.turns w.under) (failed_seen t.seen w.turns w.seen) (counts_missed w.counts) le (
-      record {
-        first = no_row_failed 0 w.turns w.no_row (omega (arith, w.row, last, one_of_true t.has_starved has_starved));
-        some = w.some has_starved;
-        row = omega (arith, w.met, last, row_failed 0 w.turns);
-      },
-      refl,
-    )
-
--- the 64th receive in a row met want of memory
-meets_last_want : {most : ℕ} {a b c : SideState} {q : PassView Chain} {t : Tally} → HasWorked a b q t → Adds b c [] → t.failures + 1 ≡ 64 → t.pins ≤ most
-    → Stopped most a c q (with_miss (starved_in_row t)) ends.NoMemory
-meets_last_want {t = t} w adds last le =
-    let h = meets_want w adds in
-    closes {t = with_miss (starved_in_row t)} h.turns [] h.told (sym (append-nil (flat_map marks_of h.turns))) h.are h.under h.seen h.counts le
-    (record { first = h.no_row; some = h.some refl; row = omega (arith, h.met, last) }, refl)
+-- the 64th receive in a row gave no datagram, and one of these met want of memory
+starves_last : {most : ℕ} {a c : SideState} {q : PassView Chain} {t : Tally} → HasMissed a c q t → t.failures ≡ 64 → t.has_starved ≡ true → t.pins < most → Stopped most a c q t ends.NoMemory
+starves_last {most} {t = t} m last has_starved more =
+    closes {t = t} (m.before ++ m.last ∷ []) [] m.told (sym (append-nil (flat_map marks_of (m.before ++ m.last ∷ [])))) m.are m.under m.seen m.counts m.pinned m.settled
+    (none_behind most 0 (m.before ++ m.last ∷ []) (omega (arith, more, m.are.datagrams_are))) (omega (arith, more))
+    (record { before = m.before; last = m.last; turns_are = refl; first = m.first; row = m.row ∙ last; met = m.met has_starved }, refl)
 
 -- a turn that starved at no query
 takes_one : {a b c : SideState} {q r : PassView Chain} {t : Tally} (s : ℕ) → HasWorked a b q t → Grows b c (TakesOne q r s 0)
@@ -341,28 +447,28 @@ pub goes_on : {a b c : SideState} {q r : PassView Chain} {t : Tally} (most : ℕ
     → HasWorked a c r (tallied what t)
 goes_on most (turned.Answered s) w grows ends = takes_one s w grows
 goes_on most (turned.Starved s) w grows ends = takes s 1 w grows
-goes_on {a} {b} {c} {q} {r} {t} most turned.RecvFailed w grows ends = no_pin (λ x. HasWorked a c x (with_miss t)) grows (fails w (adds_just grows) ends)
-goes_on {a} {b} {c} {q} {r} {t} most turned.RecvStarved w grows ends = no_pin (λ x. HasWorked a c x (with_miss (starved_in_row t))) grows (meets_want w (adds_just grows))
+goes_on {a} {b} {c} {q} {r} {t} most turned.RecvFailed w grows ends = no_pin (λ x. HasWorked a c x (with_miss t)) grows (still (fails w (adds_just grows)) ends)
+goes_on {a} {b} {c} {q} {r} {t} most turned.RecvStarved w grows ends = no_pin (λ x. HasWorked a c x (with_miss (starved_in_row t))) grows (still (meets_want w (adds_just grows)) ends)
 goes_on most turned.RecvEnd w grows ends = absurd cc
 
 -- the last turn
 pub stops : {a b c : SideState} {q r : PassView Chain} {t : Tally} (most : ℕ) (what : Turned) (end : WorkEnd) → t.pins < most → HasWorked a b q t → Grows b c (AddsTurn q r what)
     → TurnEnds most what (tallied what t) (Some end) → Stopped most a c r (tallied what t) end
-stops most (turned.Answered s) ends.End more w grows last = takes_last (takes_one s w grows) last
+stops most (turned.Answered s) ends.End more w grows last = takes_last (takes_one s w grows) refl last
 stops most (turned.Answered s) ends.RecvFailed more w grows last = absurd last
 stops most (turned.Answered s) ends.NoMemory more w grows last = absurd last
-stops most (turned.Starved s) ends.End more w grows last = takes_last (takes s 1 w grows) last
+stops most (turned.Starved s) ends.End more w grows last = takes_last (takes s 1 w grows) refl last
 stops most (turned.Starved s) ends.RecvFailed more w grows last = absurd last
 stops most (turned.Starved s) ends.NoMemory more w grows last = absurd last
 stops most turned.RecvFailed ends.End more w grows last = absurd last
 stops {a} {b} {c} {q} {r} {t} most turned.RecvFailed ends.RecvFailed more w grows last =
-    no_pin (λ x. Stopped most a c x (with_miss t) ends.RecvFailed) grows (fails_last w (adds_just grows) last.0 last.1 (omega (arith, more)))
+    no_pin (λ x. Stopped most a c x (with_miss t) ends.RecvFailed) grows (fails_last (fails w (adds_just grows)) last.0 last.1 (omega (arith, more)))
 stops {a} {b} {c} {q} {r} {t} most turned.RecvFailed ends.NoMemory more w grows last =
-    no_pin (λ x. Stopped most a c x (with_miss t) ends.NoMemory) grows (fails_with_want w (adds_just grows) last.0 last.1 (omega (arith, more)))
+    no_pin (λ x. Stopped most a c x (with_miss t) ends.NoMemory) grows (starves_last (fails w (adds_just grows)) last.0 last.1 (omega (arith, more)))
 stops most turned.RecvStarved ends.End more w grows last = absurd last
 stops most turned.RecvStarved ends.RecvFailed more w grows last = absurd (let none_starved = last.1 in cc)
 stops {a} {b} {c} {q} {r} {t} most turned.RecvStarved ends.NoMemory more w grows last =
-    no_pin (λ x. Stopped most a c x (with_miss (starved_in_row t)) ends.NoMemory) grows (meets_last_want w (adds_just grows) last.0 (omega (arith, more)))
+    no_pin (λ x. Stopped most a c x (with_miss (starved_in_row t)) ends.NoMemory) grows (starves_last (meets_want w (adds_just grows)) last.0 last.1 (omega (arith, more)))
 stops {a} {b} {c} {q} {r} {t} most turned.RecvEnd ends.End more w grows last = no_pin (λ x. Stopped most a c x t ends.End) grows (ends_with w (adds_just grows) (omega (arith, more)))
 stops most turned.RecvEnd ends.RecvFailed more w grows last = absurd cc
 stops most turned.RecvEnd ends.NoMemory more w grows last = absurd cc

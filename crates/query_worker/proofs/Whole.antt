@@ -26,10 +26,10 @@ pub record GoesOn (most : ℕ) (start now : WorkerState) : Type 0 where
   pub stays : Stays start.side now.side
 
 -- before its first turn
-pub first_turn : {most : ℕ} (start : WorkerState) → IsIdle start.tally → start.pass.turns ≡ [] → 0 < start.pass.seen → 0 < most → GoesOn most start start
-first_turn {most} start idle unused seen some =
+pub first_turn : {most : ℕ} (start : WorkerState) → IsIdle start.tally → start.pass.turns ≡ [] → start.pass.taken ≡ None → 0 < start.pass.seen → 0 < most → GoesOn most start start
+first_turn {most} start idle unused settled seen some =
     let first = tallied_first start.side.counts.recv most start.tally idle some in
-    record { has = starts start.side start.pass start.tally idle unused seen; is = first.0; stands = first.1; number = refl; stays = stays-nothing start.side }
+    record { has = starts start.side start.pass start.tally idle unused settled seen; is = first.0; stands = first.1; number = refl; stays = stays-nothing start.side }
 
 -- a turn is of the same pass
 same_number : (what : Turned) (q r : PassView Chain) (marks : List Mark) → AddsTurn q r what marks → r.worker ≡ q.worker
@@ -79,6 +79,7 @@ last_turn {most} {start} {before} {after} {side} {end} was takes left =
       run = left_run stopped.run;
       pins = left_run stopped.pins;
       counts = stopped.counts;
+      settled = stopped.settled;
       number = same_number takes.what before.pass after.pass takes.told.marks takes.told.are ∙ was.number;
       failed = failed_at most start.side.counts.recv after.side.counts.recv after.tally end count.0 count.1;
       starved = starved_at most start.side.counts.recv after.side.counts.recv after.tally end count.0 count.1;

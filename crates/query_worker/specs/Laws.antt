@@ -17,7 +17,7 @@ use Rattle.query_worker.specs.declared.worker.Worker.{Worker}
 use Rattle.query_worker.specs.Pins.{PastPin, OfPin, IsPinFor, IsOfPass, IsOf, AreOf, IsReady}
 use Rattle.query_worker.specs.States.{Worked}
 use Rattle.query_worker.specs.Tally.{IsIdle}
-use Rattle.query_worker.specs.Turn.{Turn, failed, replied, silenced, starved, IsLawful, IsPublished}
+use Rattle.query_worker.specs.Turn.{Turn, failed, unread, replied, silenced, starved, IsLawful, IsPublished}
 use Rattle.query_worker.specs.Worker.{WorkerRun}
 
 -- what holds of each holds of each in the other way too
@@ -28,10 +28,10 @@ all_as P Q to [] are = tt
 all_as P Q to (turn ∷ turns) are = (to turn are.0, all_as P Q to turns are.1)
 
 -- turns that are lawful in one way, and so in another
-pub run_as : {most : ℕ} {worked : Worked} {journal : List Mark} (P Q : Turn → Type 0)
+pub run_as : {most : ℕ} {pinned : List ℕ} {worked : Worked} {journal : List Mark} (P Q : Turn → Type 0)
     → ((turn : Turn) → P turn → Q turn)
-    → WorkerRun P most worked journal
-    → WorkerRun Q most worked journal
+    → WorkerRun P most pinned worked journal
+    → WorkerRun Q most pinned worked journal
 run_as P Q to run = record {
   turns = run.turns;
   ending = run.ending;
@@ -40,9 +40,11 @@ run_as P Q to run = record {
     lawful_are = all_as P Q to run.turns run.are.lawful_are;
     in_order = run.are.in_order;
     datagrams_are = run.are.datagrams_are;
-    starved_at_most = run.are.starved_at_most;
+    starved_are = run.are.starved_are;
   };
   at_most = run.at_most;
+  none_behind = run.none_behind;
+  pinned_are = run.pinned_are;
   seen_all = run.seen_all;
   ends = run.ends;
 }
@@ -81,6 +83,7 @@ pub lawful_of : (bundles : List Bundle) (default_port : ℕ) (pins : List PastPi
     → IsOfPass pins turn
     → IsLawful bundles default_port turn
 lawful_of bundles default_port pins are failed is = tt
+lawful_of bundles default_port pins are unread is = tt
 lawful_of bundles default_port pins are (replied serial d marks reply out) is =
     published_of bundles default_port pins serial d marks (Reply reply) are is
 lawful_of bundles default_port pins are (silenced serial d marks why) is =
@@ -102,6 +105,7 @@ ready_of table worker number seen own fresh some idle = record {
     kept = subst (λ (q : PassView Chain). Keeps chain_identity chain_log q.turns) (sym fresh) tt;
   };
   unused = ap (λ (q : PassView Chain). q.turns) fresh;
+  settled = ap (λ (q : PassView Chain). q.taken) fresh;
   published = subst (λ (q : PassView Chain). 0 < q.seen) (sym fresh) some;
   idle = idle;
 }

@@ -9,6 +9,7 @@ use Rattle.pin_table.specs.declared.table.PinTable.{PinTable}
 use Rattle.pin_table.specs.declared.views.PassView.{PassView}
 use Rattle.pin_table.specs.declared.views.Turn as views
 use Rattle.pin_table.specs.{IsPassOf, Keeps, pass_of}
+use Rattle.pin_table.specs.Known.{turn_serials}
 use Rattle.chain_meaning.specs.declared.served.Served.{Served}
 use Rattle.chain_meaning.specs.declared.served.Served.TheVariants.{Reply, Silent, NoMemory}
 use Rattle.chain_meaning.specs.Serving.{Serves}
@@ -17,7 +18,11 @@ use Rattle.chain_build.specs.{chain_identity, chain_log, plans_of}
 use Rattle.query_worker.specs.declared.worker.Tally.{Tally}
 use Rattle.query_worker.specs.declared.worker.Worker.{Worker}
 use Rattle.query_worker.specs.Tally.{IsIdle}
-use Rattle.query_worker.specs.Turn.{Turn, failed, replied, silenced, starved, marks_of}
+use Rattle.query_worker.specs.Turn.{Turn, failed, unread, replied, silenced, starved, marks_of}
+
+-- the serials that a pass has pinned, the last one first
+abbrev pub pinned_by : PassView Chain → List ℕ
+pinned_by pass = turn_serials pass.turns
 
 -- a pin that has ended: its serial, and its chain as it was given and as it came home
 abbrev pub PastPin : Type 0
@@ -38,6 +43,7 @@ IsPinFor serial d marks served pin =
 -- the turn took a datagram under this pin, and did what the pin's chain means
 abbrev pub IsByPin : PastPin → Turn → Type 0
 IsByPin pin failed = ⊥
+IsByPin pin unread = ⊥
 IsByPin pin (replied serial d marks reply out) = IsPinFor serial d marks (Reply reply) pin
 IsByPin pin (silenced serial d marks why) = IsPinFor serial d marks (Silent why) pin
 IsByPin pin (starved serial d marks) = IsPinFor serial d marks NoMemory pin
@@ -45,6 +51,7 @@ IsByPin pin (starved serial d marks) = IsPinFor serial d marks NoMemory pin
 -- a turn that took a datagram did so under one of these pins, and did what that pin's chain means
 abbrev pub IsOfPass : List PastPin → Turn → Type 0
 IsOfPass pins failed = Unit {0}
+IsOfPass pins unread = Unit {0}
 IsOfPass pins (replied serial d marks reply out) =
     OfPin pins (IsPinFor serial d marks (Reply reply))
 IsOfPass pins (silenced serial d marks why) =
@@ -58,6 +65,8 @@ TakeUnder [] [] = Unit {0}
 TakeUnder (pin ∷ pins) [] = ⊥
 TakeUnder [] (failed ∷ turns) = TakeUnder [] turns
 TakeUnder (pin ∷ pins) (failed ∷ turns) = TakeUnder (pin ∷ pins) turns
+TakeUnder [] (unread ∷ turns) = TakeUnder [] turns
+TakeUnder (pin ∷ pins) (unread ∷ turns) = TakeUnder (pin ∷ pins) turns
 TakeUnder [] (turn ∷ turns) = ⊥
 TakeUnder (pin ∷ pins) (turn ∷ turns) = IsByPin pin turn × TakeUnder pins turns
 
@@ -97,5 +106,6 @@ pub record IsResting (table : PinTable Chain) (pass : Pass Chain) : Type 0 where
 pub record IsReady {S : Type 0} (table : PinTable Chain) (worker : Worker S) : Type 0 where
   pub rests : IsResting table worker.pass
   pub unused : (pass_of worker.pass).turns ≡ []
+  pub settled : (pass_of worker.pass).taken ≡ None
   pub published : 0 < (pass_of worker.pass).seen
   pub idle : IsIdle worker.tally

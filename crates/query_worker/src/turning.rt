@@ -26,7 +26,8 @@ pub enum Turned {
     RecvEnd,
 }
 
-/// One turn: takes a datagram, pins the current generation, serves, sends, and unpins.
+/// One turn: takes a datagram, pins the current generation, serves, sends, and unpins. A side that
+/// was told of its worker's end takes none any more.
 pub fn take_turn<S: Side>(
     alloc: Global,
     side: &mut S,
@@ -36,6 +37,7 @@ pub fn take_turn<S: Side>(
 ) -> Turned
     requires rests { IsResting table.now pass.old }
     requires few { length (pass_of pass.old).turns < limits.TURNS }
+    requires stays { (S.state side.old).left ≡ 0 }
     ensures told { Grows (S.state side.old) (S.state side.new)
         (AddsTurn (pass_of pass.old) (pass_of pass.new) result) }
     ensures stays { Stays (S.state side.old) (S.state side.new) }
@@ -80,8 +82,8 @@ fn answer<S: Side>(
     side.saw(Seen::Pinned(serial));
     let served = serve(alloc, &chain, datagram, side, room);
     let turned = send(side, serial, served, room);
-    side.saw(Seen::Unpinned(serial));
     table.unpin(pass, chain);
+    side.saw(Seen::Unpinned(serial));
     turned
 }
 

@@ -13,7 +13,7 @@ use pin_table::PinTable;
 use std::alloc::Global;
 use std::sync::Wait;
 
-/// Takes turns until one ends the worker, and tells its side.
+/// Takes turns until one ends the worker, and tells its side, which takes no turn behind that.
 pub fn work<R: Wait, S: Side>(
     rt: &R,
     alloc: Global,
@@ -23,6 +23,7 @@ pub fn work<R: Wait, S: Side>(
 ) -> WorkEnd
     requires ready { IsReady table.now worker.old }
     requires most { (0 < most) × (most ≤ limits.TURNS) }
+    requires stays { (S.state worker.old.side).left ≡ 0 }
     ensures works { WorksToEnd most
         (worker_state S.state worker.old) (worker_state S.state worker.new) result }
     ensures same { SamePass worker.old.pass worker.new.pass }
@@ -48,6 +49,7 @@ pub fn work_once<S: Side>(
     requires pins { length (pass_of worker.old.pass).turns ≡ worker.old.tally.pins }
     requires more { worker.old.tally.pins < most }
     requires most { most ≤ limits.TURNS }
+    requires stays { (S.state worker.old.side).left ≡ 0 }
     requires failures { worker.old.tally.failures < limits.FAILURES }
     requires starved { worker.old.tally.starved ≤ 65 * worker.old.tally.pins +
         worker.old.tally.failures }

@@ -1,2 +1,4 @@
 pub mod Looks
+pub mod Placed
+pub mod Sweeping
 pub mod Watching

@@ -1,5 +1,5 @@
 -- How the looks of a watcher go on.
-use Rattle.std.proofs.Common.{true, Result, Ok, Err, ◌≡◌, ◌≢◌, ℕ, ◌+◌, Bool, List, [], ◌∷◌, ◌++◌, length, Option, Some, None, append_assoc, refl, sym, ap, subst, ◌∙◌, arith}
+use Rattle.std.proofs.Common.{true, Result, Ok, Err, ◌≡◌, ◌≢◌, ℕ, ◌+◌, ◌-◌, Bool, List, [], ◌∷◌, ◌++◌, length, Option, Some, None, append_assoc, refl, sym, ap, subst, ◌∙◌, arith}
 use Rattle.std.specs.Prelude.{OnSome}
 use Rattle.std.specs.List.{All, flat_map}
 use Rattle.std.proofs.lemmas.List.{append-nil}
@@ -22,8 +22,10 @@ use Rattle.reload_watch.specs.declared.looking.Looking.TheVariants as looking
 use Rattle.reload_watch.specs.Filled.{AreFilledBy, EndsWith, IsOf}
 use Rattle.reload_watch.specs.Look.{AnswersLook, standing_of, LooksOver, LooksOnce, Starves, ServesGathered, look_marks, starved_by}
 use Rattle.reload_watch.specs.Reloads.{reloads, times_of}
+use Rattle.pin_table.specs.declared.views.Sweep.{Sweep}
 use Rattle.reload_watch.specs.States.{Serving, WatcherState}
-use Rattle.reload_watch.specs.WatchTurn.{WatchTurn, looked, starved, watch_marks, published_by, bundles_of, look_starved, all_starved, IsLooked, IsLook, AreLooks}
+use Rattle.reload_watch.specs.Sweeps.{KeepsSweeps, SweptFor}
+use Rattle.reload_watch.specs.WatchTurn.{WatchTurn, looked, starved, watch_marks, published_by, bundles_of, look_starved, all_starved, IsLooked, IsLook, AreLooks, IsSweptTurn, AreSwept}
 use Rattle.reload_watch.specs.Watcher.{TakesLook}
 
 pub bundles-push : (first : Bundle) (looks : List WatchTurn) (look : WatchTurn) → bundles_of first (looks ++ look ∷ []) ≡ bundles_of first looks ++ published_by look
@@ -45,6 +47,45 @@ looks-push source default_port bundles (l ∷ looks) look are is =
     let same : bundles ++ flat_map published_by (l ∷ looks) ≡ (bundles ++ published_by l) ++ flat_map published_by looks =
     ap (λ (b : List Bundle). bundles ++ b) (flat_map-cons published_by l looks) ∙ sym (append_assoc bundles (published_by l) (flat_map published_by looks)) in
     (are.0, looks-push source default_port (bundles ++ published_by l) looks look are.1 (subst (λ (b : List Bundle). IsLook source default_port b look) same is))
+
+-- what was swept for a turn is known later too
+swept_for_more : (before after : List Sweep) (n : ℕ) (answer : Looking) → KeepsSweeps before after → SweptFor before n answer → SweptFor after n answer
+swept_for_more before after n looking.NoReload keeps swept = tt
+swept_for_more before after n (looking.ReadFailed name) keeps swept = tt
+swept_for_more before after n looking.Same keeps swept = tt
+swept_for_more before after n (looking.Refused why) keeps swept = tt
+swept_for_more before after n (looking.PortsDiffer ports others) keeps swept = tt
+swept_for_more before after n looking.SerialsSpent keeps swept = tt
+swept_for_more before after n (looking.AllPinned one two three) keeps swept =
+    record {
+      order = swept.order;
+      a = swept.a;
+      b = swept.b;
+      c = swept.c;
+      apart = swept.apart;
+      one = keeps (n - 1) swept.a one swept.one;
+      two = keeps (n - 1) swept.b two swept.two;
+      three = keeps (n - 1) swept.c three swept.three;
+    }
+swept_for_more before after n (looking.Published serial) keeps swept = tt
+swept_for_more before after n looking.NoMemory keeps swept = tt
+
+swept_turn_more : (before after : List Sweep) (n : ℕ) (look : WatchTurn) → KeepsSweeps before after → IsSweptTurn before n look → IsSweptTurn after n look
+swept_turn_more before after n (looked times reads gives answer flag) keeps swept = swept_for_more before after n answer keeps swept
+swept_turn_more before after n (starved times reads gives) keeps swept = tt
+
+swept_more : (before after : List Sweep) (bundles : List Bundle) (looks : List WatchTurn) → KeepsSweeps before after → AreSwept before bundles looks → AreSwept after bundles looks
+swept_more before after bundles [] keeps are = tt
+swept_more before after bundles (look ∷ looks) keeps are =
+    (swept_turn_more before after (length bundles) look keeps are.0, swept_more before after (bundles ++ published_by look) looks keeps are.1)
+
+swept-push : (sweeps : List Sweep) (bundles : List Bundle) (looks : List WatchTurn) (look : WatchTurn) → AreSwept sweeps bundles looks
+    → IsSweptTurn sweeps (length (bundles ++ flat_map published_by looks)) look → AreSwept sweeps bundles (looks ++ look ∷ [])
+swept-push sweeps bundles [] look are is = (subst (λ (b : List Bundle). IsSweptTurn sweeps (length b) look) (append-nil bundles) is, tt)
+swept-push sweeps bundles (l ∷ looks) look are is =
+    let same : bundles ++ flat_map published_by (l ∷ looks) ≡ (bundles ++ published_by l) ++ flat_map published_by looks =
+    ap (λ (b : List Bundle). bundles ++ b) (flat_map-cons published_by l looks) ∙ sym (append_assoc bundles (published_by l) (flat_map published_by looks)) in
+    (are.0, swept-push sweeps (bundles ++ published_by l) looks look are.1 (subst (λ (b : List Bundle). IsSweptTurn sweeps (length b) look) same is))
 
 length-more : {A : Type 0} (items : List A) (item : A) → length (items ++ item ∷ []) ≡ length items + 1
 length-more [] item = refl
@@ -122,20 +163,27 @@ looked_of {source} {p} {first} {looks} {g = g} gives answer w again answers = re
 abbrev pub Waits : Serving → WatchState → WatchState → Type 0
 Waits g b mid = AddsWatch b mid (Look (times_of g.plans.blocks).interval (times_of g.plans.blocks).jitter ∷ [])
 
--- the looks with one more
-pub record Again (source : Source) (p : ℕ) (first : Bundle) (looks : List WatchTurn) (a c : WatchState) (h : Serving) (was has : ℕ) : Type 0 where
+-- what is swept for an answer is swept for the turn
+abbrev IsTurnOf : Looking → WatchTurn → Type 0
+IsTurnOf answer look = (sweeps : List Sweep) (n : ℕ) → SweptFor sweeps n answer → IsSweptTurn sweeps n look
+
+-- the looks with one more, which came to this answer
+pub record Again (source : Source) (p : ℕ) (first : Bundle) (looks : List WatchTurn) (a c : WatchState) (h : Serving) (was has : ℕ) (answer : Looking) : Type 0 where
   pub look : WatchTurn
+  pub of : IsTurnOf answer look
   pub watched : HasWatched source p first (looks ++ look ∷ []) a c h was has
 
 -- a further look behind which nothing else serves
-same_serves : {source : Source} {p : ℕ} {first : Bundle} {looks : List WatchTurn} {a b c : WatchState} {g h : Serving} {was had has : ℕ} (look : WatchTurn)
-    → HasWatched source p first looks a b g was had → published_by look ≡ [] → h ≡ g → AddsWatch b c (watch_marks look) → IsLook source p (bundles_of first looks) look → RoseJust (look_starved look) had has
-    → Again source p first looks a c h was has
-same_serves {source} {p} {first} {looks} {a} {b} {c} {g} {h} {was} {had} {has} look w none same adds is rose =
+same_serves : {source : Source} {p : ℕ} {first : Bundle} {looks : List WatchTurn} {a b c : WatchState} {g h : Serving} {was had has : ℕ} (answer : Looking) (look : WatchTurn)
+    → IsTurnOf answer look → HasWatched source p first looks a b g was had → published_by look ≡ [] → h ≡ g → AddsWatch b c (watch_marks look) → IsLook source p (bundles_of first looks) look
+    → RoseJust (look_starved look) had has
+    → Again source p first looks a c h was has answer
+same_serves {source} {p} {first} {looks} {a} {b} {c} {g} {h} {was} {had} {has} answer look of w none same adds is rose =
     let nothing : bundles_of first looks ++ published_by look ≡ bundles_of first looks =
     ap (λ (l : List Bundle). bundles_of first looks ++ l) none ∙ append-nil (bundles_of first looks) in
     record {
       look = look;
+      of = of;
       watched = extends look w.earlier w adds is
           (ap length nothing ∙ w.count ∙ ap (λ (x : Serving). x.published) (sym same))
           (nothing ∙ w.last ∙ ap (λ (x : Serving). w.earlier ++ x.plans.bundle ∷ []) (sym same))
@@ -148,18 +196,19 @@ same_serves {source} {p} {first} {looks} {a} {b} {c} {g} {h} {was} {had} {has} l
 -- a look that published nothing
 kept : {source : Source} {p : ℕ} {first : Bundle} {looks : List WatchTurn} {a b : WatchState} {g : Serving} {was had : ℕ} (answer : Looking) (mid c : WatchState) (h : Serving) (has : ℕ)
     → HasWatched source p first looks a b g was had → Waits g b mid → (over : LooksOver source g h mid c answer) → published_by (looked (times_of g.plans.blocks) over.reads over.gives answer over.flag) ≡ [] → h ≡ g → has ≡ had
-    → Again source p first looks a c h was has
+    → Again source p first looks a c h was has answer
 kept {g = g} answer mid c h has w waits over none same none_starved =
-    same_serves (looked (times_of g.plans.blocks) over.reads over.gives answer over.flag) w none same (watch-adds-then waits over.told)
+    same_serves answer (looked (times_of g.plans.blocks) over.reads over.gives answer over.flag) (λ sweeps n swept. swept) w none same (watch-adds-then waits over.told)
     (over.gathers, looked_of over.gives answer w over.again over.answers) (record { least = omega (arith, none_starved); most = omega (arith, none_starved) })
 
 -- a look that published
 published_look : {source : Source} {p : ℕ} {first : Bundle} {looks : List WatchTurn} {a b : WatchState} {g : Serving} {was had : ℕ} (serial : ℕ) (mid c : WatchState) (h : Serving) (has : ℕ) (reads : List OneRead) (gives : Result Bundle GatherFault) (flag : Bool)
     → HasWatched source p first looks a b g was had → Waits g b mid → reloads g.plans.blocks ≡ true → GathersFrom source reads gives → AddsWatch mid c (look_marks reads (looking.Published serial) flag)
     → AnswersLook (standing_of g.plans g.published) gives (looking.Published serial) → ServesGathered g h gives → has ≡ had
-    → Again source p first looks a c h was has
+    → Again source p first looks a c h was has (looking.Published serial)
 published_look {source} {p} {first} {looks} {a} {b} {g} {was} {had} serial mid c h has reads (Ok bundle) flag w waits again gathers told answers replaces none_starved = record {
   look = looked (times_of g.plans.blocks) reads (Ok bundle) (looking.Published serial) flag;
+  of = λ sweeps n swept. swept;
   watched = extends (looked (times_of g.plans.blocks) reads (Ok bundle) (looking.Published serial) flag) (bundles_of first looks) w (watch-adds-then waits told)
       (gathers, looked_of (Ok bundle) (looking.Published serial) w again answers)
       (let r = replaces.published in let n = w.count in omega (arith, length-more (bundles_of first looks) bundle, r, n))
@@ -174,9 +223,9 @@ published_look serial mid c h has reads (Err fault) flag w waits again gathers t
 -- a look that met want of memory
 starved_look : {source : Source} {p : ℕ} {first : Bundle} {looks : List WatchTurn} {a b : WatchState} {g : Serving} {was had : ℕ} (mid c : WatchState) (h : Serving) (has : ℕ)
     → HasWatched source p first looks a b g was had → Waits g b mid → Starves source g h mid c → has ≡ raised had
-    → Again source p first looks a c h was has
+    → Again source p first looks a c h was has looking.NoMemory
 starved_look {source} {p} {first} {looks} {a} {b} {g} {was} {had} mid c h has w waits starves want =
-    same_serves (starved (times_of g.plans.blocks) starves.gathered.tells.reads starves.gathered.gives) w refl starves.same (watch-adds-then waits starves.gathered.tells.told) (
+    same_serves looking.NoMemory (starved (times_of g.plans.blocks) starves.gathered.tells.reads starves.gathered.gives) (λ sweeps n swept. swept) w refl starves.same (watch-adds-then waits starves.gathered.tells.told) (
       starves.gathered.tells.gathers,
       record {
         before = w.earlier;
@@ -192,7 +241,7 @@ starved_look {source} {p} {first} {looks} {a} {b} {g} {was} {had} mid c h has w 
 
 by_answer : {source : Source} {p : ℕ} {first : Bundle} {looks : List WatchTurn} {a b : WatchState} {g : Serving} {was had : ℕ} (answer : Looking) (mid c : WatchState) (h : Serving) (has : ℕ)
     → HasWatched source p first looks a b g was had → Waits g b mid → LooksOnce source g h mid c answer → answer ≢ looking.NoReload
-    → has ≡ starved_by answer had → Again source p first looks a c h was has
+    → has ≡ starved_by answer had → Again source p first looks a c h was has answer
 by_answer looking.NoReload mid c h has w waits looks made rose = absurd (made refl)
 by_answer (looking.ReadFailed name) mid c h has w waits looks made rose = kept (looking.ReadFailed name) mid c h has w waits looks refl looks.behind rose
 by_answer looking.Same mid c h has w waits looks made rose = kept looking.Same mid c h has w waits looks refl looks.behind rose
@@ -208,12 +257,20 @@ by_answer looking.NoMemory mid c h has w waits looks made rose = starved_look mi
 pub record Watched (source : Source) (start now : WatcherState) : Type 0 where
   pub looks : List WatchTurn
   pub so : HasWatched source start.serving.plans.default_port start.serving.plans.bundle looks start.watch now.watch now.serving start.starved now.starved
+  pub swept : AreSwept now.sweeps (start.serving.plans.bundle ∷ []) looks
 
 -- a further look, by what the watcher's step came to
 pub looks_on : (source : Source) (start before after : WatcherState) → Watched source start before → TakesLook source before after None → Watched source start after
 looks_on source start before after w again =
     let more = by_answer again.answer again.waited after.watch after.serving after.starved w.so again.looked again.looks again.made again.starved_is in
-    record { looks = w.looks ++ more.look ∷ []; so = more.watched }
+    let first = start.serving.plans.bundle in
+    let here : IsSweptTurn after.sweeps (length (bundles_of first w.looks)) more.look =
+    subst (λ (n : ℕ). IsSweptTurn after.sweeps n more.look) (sym w.so.count) (more.of after.sweeps before.serving.published again.swept) in
+    record {
+      looks = w.looks ++ more.look ∷ [];
+      so = more.watched;
+      swept = swept-push after.sweeps (first ∷ []) w.looks more.look (swept_more before.sweeps after.sweeps (first ∷ []) w.looks again.sweeps w.swept) here;
+    }
 
 same_journal : (journal : Option (List WatchMark)) → OnSome journal (journal ≡ watch_added journal [])
 same_journal None = tt
@@ -227,6 +284,7 @@ pub starts : (source : Source) (start : WatcherState) → ArePlans start.serving
     → Watched source start start
 starts source start is one long ends = record {
   looks = [];
+  swept = tt;
   so = record {
     told = watch-adds-nothing start.watch;
     are = tt;

@@ -9,6 +9,7 @@ use Rattle.chain_build.specs.declared.chain.Chain.{Chain}
 use Rattle.chain_build.specs.{ArePlans, chain_identity, chain_log}
 use Rattle.reload_watch.specs.declared.watcher.Watcher.{Watcher}
 use Rattle.reload_watch.specs.Filled.{EndsWith}
+use Rattle.reload_watch.specs.Placing.{IsPlaced}
 
 -- the chains that came home were let go, and there is room for those of four generations
 pub record IsCleared {W : Type 0} (watcher : Watcher W) : Type 0 where
@@ -27,6 +28,7 @@ pub record IsKeeping {W : Type 0} (table : PinTable Chain) (watcher : Watcher W)
   pub joined : (plan_of watcher.publisher).joined ≡ []
   pub count : length (plan_of watcher.publisher).past.filled
       ≡ count_of (plan_of watcher.publisher)
+  pub placed : IsPlaced (plan_of watcher.publisher)
   pub within : count_of (plan_of watcher.publisher) ≤ MOST_SERIALS
   pub current : EndsWith (plan_of watcher.publisher).past.filled (arc_value watcher.current)
   pub are : ArePlans (arc_value watcher.current)

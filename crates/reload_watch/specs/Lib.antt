@@ -3,9 +3,11 @@ pub mod Keeping
 pub mod Look
 pub mod Messages
 pub mod Opening
+pub mod Placing
 pub mod Publishing
 pub mod Reloads
 pub mod States
+pub mod Sweeps
 pub mod Watcher
 pub mod WatchRun
 pub mod WatchTurn
@@ -15,9 +17,11 @@ pub use Rattle.reload_watch.specs.Keeping.{IsCleared, IsKeeping}
 pub use Rattle.reload_watch.specs.Look.{LooksOnce, SearchesFirst, starved_by}
 pub use Rattle.reload_watch.specs.Messages.{look_text}
 pub use Rattle.reload_watch.specs.Opening.{GathersThat, IsReading, ReadsFirst, ReadsPlans, Refuses}
+pub use Rattle.reload_watch.specs.Placing.{IsPlaced}
 pub use Rattle.reload_watch.specs.Reloads.{reloads, times_of}
 pub use Rattle.reload_watch.specs.States.{Serving, WatcherState, serving_of, source_data}
 pub use Rattle.reload_watch.specs.States.{watcher_state}
+pub use Rattle.reload_watch.specs.Sweeps.{HasSwept, SweptFor, SweptThree}
 pub use Rattle.reload_watch.specs.WatchRun.{EndsWatch, StopsLooking, TellsLooks, Watches}
-pub use Rattle.reload_watch.specs.WatchTurn.{AreLooks, all_starved, bundles_of}
+pub use Rattle.reload_watch.specs.WatchTurn.{AreLooks, AreSwept, all_starved, bundles_of}
 pub use Rattle.reload_watch.specs.WatchTurn.{published_by, watch_marks}

@@ -10,10 +10,11 @@ pub record KeepsPast (before after : Plan Chain) : Type 0 where
   pub workers : after.workers ≡ before.workers
   pub joined : after.joined ≡ before.joined
 
--- these chains were published, and no pass came back
+-- these chains were published, no slot was swept, and no pass came back
 pub record AddsGeneration (before : Plan Chain) (chains : List Chain) (after : Plan Chain)
     : Type 0 where
   pub count : count_of after ≡ count_of before + 1
   pub filled : after.past.filled ≡ before.past.filled ++ chains ∷ []
+  pub sweeps : after.sweeps ≡ before.sweeps
   pub workers : after.workers ≡ before.workers
   pub joined : after.joined ≡ before.joined

@@ -6,6 +6,7 @@ use Rattle.outside.specs.States.{WatchState}
 use Rattle.corefile_bundle.specs.Gathering.{Source}
 use Rattle.chain_build.specs.declared.chain.Chain.{Chain}
 use Rattle.chain_build.specs.{PlansData}
+use Rattle.pin_table.specs.declared.views.Sweep.{Sweep}
 use Rattle.pin_table.specs.{count_of, plan_of}
 use Rattle.reload_watch.specs.declared.source.Source as declared
 use Rattle.reload_watch.specs.declared.watcher.Watcher.{Watcher}
@@ -28,15 +29,18 @@ serving_of watcher = record {
   plans = arc_value watcher.current;
 }
 
--- a watcher: its watch, what it has published, and how many looks met want of memory
+-- a watcher: its watch, what it has published, the sweeps of its table's slots, the last one first,
+-- and how many looks met want of memory
 pub record WatcherState : Type 0 where
   pub watch : WatchState
   pub serving : Serving
+  pub sweeps : List Sweep
   pub starved : ℕ
 
 abbrev pub watcher_state : {W : Type 0} → (W → WatchState) → Watcher W → WatcherState
 watcher_state state watcher = record {
   watch = state watcher.watch;
   serving = serving_of watcher;
+  sweeps = (plan_of watcher.publisher).sweeps;
   starved = watcher.starved;
 }

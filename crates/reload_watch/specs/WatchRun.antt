@@ -15,7 +15,7 @@ use Rattle.reload_watch.specs.declared.turns.WatchEnd.TheVariants as ends
 use Rattle.reload_watch.specs.Filled.{AreFilledBy}
 use Rattle.reload_watch.specs.Reloads.{reloads}
 use Rattle.reload_watch.specs.States.{WatcherState}
-use Rattle.reload_watch.specs.WatchTurn.{WatchTurn, watch_marks, bundles_of, all_starved, AreLooks}
+use Rattle.reload_watch.specs.WatchTurn.{WatchTurn, watch_marks, bundles_of, all_starved, AreLooks, AreSwept}
 
 -- the last bundle that was published is not to be looked at again
 pub record StopsLooking (default_port : ℕ) (bundles : List Bundle) : Type 0 where
@@ -47,7 +47,7 @@ pub record TellsLooks (source : Source) (default_port : ℕ) (first : Bundle)
   pub ends : EndsWatch default_port (bundles_of first looks) ending
 
 -- looks until there are no more, behind the one generation that was published: what the watch told,
--- and which bundles the published chains serve
+-- the sweeps of each look that found no free slot, and which bundles the published chains serve
 pub record Watches (source : Source) (before after : WatcherState) (result : WatchEnd)
     : Type 0 where
   pub looks : List WatchTurn
@@ -58,6 +58,7 @@ pub record Watches (source : Source) (before after : WatcherState) (result : Wat
   pub told : AddsWatch before.watch after.watch (flat_map watch_marks looks ++ ending)
   pub are : AreLooks source before.serving.plans.default_port (before.serving.plans.bundle ∷ [])
       looks
+  pub swept : AreSwept after.sweeps (before.serving.plans.bundle ∷ []) looks
   pub ends : EndsWatch before.serving.plans.default_port bundles ending
   pub filled : AreFilledBy bundles before.serving.plans.default_port after.serving.filled
   pub count : length bundles ≡ after.serving.published

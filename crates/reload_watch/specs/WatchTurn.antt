@@ -12,13 +12,15 @@ use Rattle.corefile_bundle.specs.Gathering.{GathersFrom, OneRead, Source, marks_
 use Rattle.reload_watch.specs.declared.looking.Looking.{Looking}
 use Rattle.reload_watch.specs.declared.looking.Looking.TheVariants as looking
 use Rattle.chain_meaning.specs.Accepting.{IsAccepted}
+use Rattle.pin_table.specs.declared.views.Sweep.{Sweep}
 use Rattle.plain_plugins.specs.declared.reload.ReloadTimes.{ReloadTimes}
 use Rattle.reload_watch.specs.Look.{AnswersLook, look_marks}
 use Rattle.reload_watch.specs.Reloads.{reloads, times_of}
+use Rattle.reload_watch.specs.Sweeps.{SweptFor}
 
 -- a look, with the times by which it was waited for, its reads and what they came to, its answer,
--- and whether its note went out; or a look that met want of memory, with its times, the reads before
--- that, and what they came to
+-- and whether its note went out; or a look that met want of memory, with its times, the reads
+-- before that, and what they came to
 pub data WatchTurn : Type 0 where
   looked : ReloadTimes → List OneRead → Result Bundle GatherFault → Looking → Bool → WatchTurn
   starved : ReloadTimes → List OneRead → Result Bundle GatherFault → WatchTurn
@@ -90,3 +92,16 @@ AreLooks source default_port bundles [] = Unit {0}
 AreLooks source default_port bundles (turn ∷ turns) =
     IsLook source default_port bundles turn
     × AreLooks source default_port (bundles ++ published_by turn) turns
+
+-- the sweeps of a turn that found no free slot, behind so many published generations
+abbrev pub IsSweptTurn : List Sweep → ℕ → WatchTurn → Type 0
+IsSweptTurn sweeps published (looked times reads gives answer flag) =
+    SweptFor sweeps published answer
+IsSweptTurn sweeps published (starved times reads gives) = Unit {0}
+
+-- those of turns one after another, behind these published bundles
+abbrev pub AreSwept : List Sweep → List Bundle → List WatchTurn → Type 0
+AreSwept sweeps bundles [] = Unit {0}
+AreSwept sweeps bundles (turn ∷ turns) =
+    IsSweptTurn sweeps (length bundles) turn
+    × AreSwept sweeps (bundles ++ published_by turn) turns

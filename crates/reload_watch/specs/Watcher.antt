@@ -12,8 +12,10 @@ use Rattle.reload_watch.specs.declared.turns.WatchEnd.TheVariants as ends
 use Rattle.reload_watch.specs.Look.{LooksOnce, starved_by}
 use Rattle.reload_watch.specs.Reloads.{reloads, times_of}
 use Rattle.reload_watch.specs.States.{WatcherState}
+use Rattle.reload_watch.specs.Sweeps.{KeepsSweeps, SweptFor}
 
--- a look was made, and counted where it met want of memory
+-- a look was made, with the sweeps by which it found no free slot, and counted where it met want of
+-- memory
 pub record LooksAgain (source : Source) (before after : WatcherState) : Type 0 where
   pub waited : WatchState
   pub looked : AddsWatch before.watch waited (Look (times_of before.serving.plans.blocks).interval
@@ -22,10 +24,13 @@ pub record LooksAgain (source : Source) (before after : WatcherState) : Type 0 w
   pub looks : LooksOnce source before.serving after.serving waited after.watch answer
   pub made : answer ≢ looking.NoReload
   pub starved_is : after.starved ≡ starved_by answer before.starved
+  pub swept : SweptFor after.sweeps before.serving.published answer
+  pub sweeps : KeepsSweeps before.sweeps after.sweeps
 
--- no look was made: what serves and what was counted stay
+-- no look was made: what serves, what was swept and what was counted stay
 pub record MakesNoLook (before after : WatcherState) : Type 0 where
   pub serving : after.serving ≡ before.serving
+  pub sweeps : after.sweeps ≡ before.sweeps
   pub starved : after.starved ≡ before.starved
 
 -- the watch has ended

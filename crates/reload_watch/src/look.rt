@@ -6,6 +6,7 @@ ghost use Rattle.pin_table.specs.{SamePublisher, plan_of};
 ghost use Rattle.reload_watch.specs.Keeping.{IsKeeping};
 ghost use Rattle.reload_watch.specs.Look.{LooksOnce, SearchesFirst, starved_by};
 ghost use Rattle.reload_watch.specs.States.{serving_of, source_data};
+ghost use Rattle.reload_watch.specs.Sweeps.{KeepsSweeps};
 
 use crate::found::{Found, find};
 use crate::looking::Looking;
@@ -36,6 +37,8 @@ pub fn look_once<W: Watch>(
         (serving_of watcher.new) (W.state watcher.old.watch) (W.state watcher.new.watch) result }
     ensures searches { SearchesFirst (plan_of watcher.old.publisher)
         (plan_of watcher.new.publisher) result }
+    ensures sweeps { KeepsSweeps (plan_of watcher.old.publisher).sweeps
+        (plan_of watcher.new.publisher).sweeps }
     ensures starved { watcher.new.starved ≡ starved_by result watcher.old.starved }
     ensures stays { WatchStays (W.state watcher.old.watch) (W.state watcher.new.watch) }
     ensures read { (name : List ℕ) → result ≡ Looking.ReadFailed name
@@ -63,6 +66,8 @@ fn look<W: Watch>(
         (serving_of watcher.new) (W.state watcher.old.watch) (W.state watcher.new.watch) result }
     ensures searches { SearchesFirst (plan_of watcher.old.publisher)
         (plan_of watcher.new.publisher) result }
+    ensures sweeps { KeepsSweeps (plan_of watcher.old.publisher).sweeps
+        (plan_of watcher.new.publisher).sweeps }
     ensures starved { watcher.new.starved ≡ watcher.old.starved }
     ensures stays { WatchStays (W.state watcher.old.watch) (W.state watcher.new.watch) }
     ensures read { (name : List ℕ) → result ≡ Looking.ReadFailed name

@@ -8,8 +8,10 @@ ghost use Rattle.pin_table.specs.{IsPublisherOf, SamePublisher, count_of, plan_o
 ghost use Rattle.std.specs.Arc.{arc_value};
 ghost use Rattle.reload_watch.specs.Keeping.{IsKeeping};
 ghost use Rattle.reload_watch.specs.Look.{NotesLine, NotesLook, PublishesNext, SearchesFirst};
+ghost use Rattle.reload_watch.specs.Placing.{IsPlaced};
 ghost use Rattle.reload_watch.specs.Publishing.{AddsGeneration, KeepsPast};
 ghost use Rattle.reload_watch.specs.States.{serving_of};
+ghost use Rattle.reload_watch.specs.Sweeps.{KeepsSweeps};
 
 use crate::looking::Looking;
 use crate::watcher::Watcher;
@@ -60,6 +62,8 @@ pub(crate) fn publish_next<W: Watch>(
         (W.state watcher.old.watch) (W.state watcher.new.watch) plans result }
     ensures searches { SearchesFirst (plan_of watcher.old.publisher)
         (plan_of watcher.new.publisher) result }
+    ensures sweeps { KeepsSweeps (plan_of watcher.old.publisher).sweeps
+        (plan_of watcher.new.publisher).sweeps }
     ensures starved { watcher.new.starved ≡ watcher.old.starved }
     ensures stays { WatchStays (W.state watcher.old.watch) (W.state watcher.new.watch) }
 {
@@ -100,11 +104,14 @@ fn free_slot(
 ) -> FreeSlot
     requires own { IsPublisherOf table.now publisher.old }
     requires none { (home.old.items ≡ []) × (vec_len home.old ≡ 0) }
+    requires placed { IsPlaced (plan_of publisher.old) }
     requires room { 3 * (plan_of publisher.old).workers ≤ vec_capacity home.old }
     ensures own { SamePublisher publisher.old publisher.new }
     ensures keeps { KeepsPast (plan_of publisher.old) (plan_of publisher.new) }
+    ensures placed { IsPlaced (plan_of publisher.new) }
     ensures freed { (came : List Chain)
         × IsFreed (plan_of publisher.old) [] result came (plan_of publisher.new) }
+    ensures sweeps { KeepsSweeps (plan_of publisher.old).sweeps (plan_of publisher.new).sweeps }
     ensures found { IsFound result (plan_of publisher.new) }
     ensures none { (home.new.items ≡ []) × (vec_len home.new ≡ 0) }
     ensures room { vec_capacity home.new ≡ vec_capacity home.old }
@@ -123,8 +130,10 @@ fn publish(table: &PinTable<Chain>, publisher: &mut Publisher<Chain>, slot: u32,
     requires tagged { let serial = count_of (plan_of publisher.old) in
         AreNew chain_identity chain_log serial 0 chains.items }
     requires filled { AreFilled chain_identity chain_log 0 (plan_of publisher.old).past.filled }
+    requires placed { IsPlaced (plan_of publisher.old) }
     ensures own { SamePublisher publisher.old publisher.new }
     ensures filled { AreFilled chain_identity chain_log 0 (plan_of publisher.new).past.filled }
+    ensures placed { IsPlaced (plan_of publisher.new) }
     ensures published { AddsGeneration (plan_of publisher.old) chains.items
         (plan_of publisher.new) }
 {

@@ -24,8 +24,9 @@ act_all-requires-clause-ready g c = λ κs b.
     let o = c.args.opened in
     let task : Task = record { table = o.table; source = source_data c.args.setup.source; most = c.args.setup.most } in
     let starts = c.push_workers.new.roles.items in
-    subst (All (IsReady task)) (sym c.push_reserved.ensures.items)
-    (All-push (IsReady task) starts (Watch o.watcher) (all_ready task 0 o.sides.items starts (c.requires.some, c.requires.most) c.push_workers.ensures.start) c.requires.opened.watcher)
+    let side = g.S.Side.state in
+    subst (All (IsReady side task)) (sym c.push_reserved.ensures.items)
+    (All-push (IsReady side task) starts (Watch o.watcher) (all_ready side task 0 o.sides.items starts (c.requires.some, c.requires.most) c.requires.opened.fresh c.push_workers.ensures.start) c.requires.opened.watcher)
 
 pub unreachable-requires : goal.unreachable-requires
 unreachable-requires g c =

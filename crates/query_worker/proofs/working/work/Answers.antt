@@ -7,7 +7,7 @@ pub loop-init : goal.loop-init
 loop-init g c = record {
   can_next = search rules;
   finite = search rules;
-  goes = first_turn (worker_state g.S.Side.state c.args.worker.now) c.requires.ready.idle c.requires.ready.unused c.requires.ready.published c.requires.most.0;
+  goes = first_turn (worker_state g.S.Side.state c.args.worker.now) c.requires.ready.idle c.requires.ready.unused c.requires.ready.settled c.requires.ready.published c.requires.most.0;
   same = search rules;
   rests = search rules;
 }

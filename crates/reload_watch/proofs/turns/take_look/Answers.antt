@@ -1,0 +1,16 @@
+use Rattle.std.proofs.Common.{rules}
+use Rattle.pin_table.specs.{plan_of}
+use Rattle.reload_watch.proofs.Sweeping.{swept_by}
+use Rattle.reload_watch.proofs.turns.take_look.Goals as goal
+
+pub returns-in-Look-clause-takes : goal.returns-in-Look-clause-takes
+returns-in-Look-clause-takes g c = record {
+  waited = g.W.PatternMaker.state c.look.new.self;
+  looked = search rules;
+  answer = c.look_once.result;
+  looks = search rules;
+  made = search rules;
+  starved_is = search rules;
+  swept = swept_by (plan_of c.args.watcher.now.publisher) (plan_of c.look_once.new.watcher.publisher) c.look_once.result c.requires.keeping.placed c.look_once.ensures.searches;
+  sweeps = c.look_once.ensures.sweeps;
+}

@@ -1,0 +1,16 @@
+-- In which slots the generations stand that the table still has. This server's own rule.
+use Rattle.std.specs.Prelude.{◌≡◌, ◌<◌, ℕ, false, length, slice_index_or}
+use Rattle.pin_core.specs.declared.slots.TheConstants.{SLOTS}
+use Rattle.pin_core.specs.Slots.{is_free}
+use Rattle.pin_table.specs.declared.views.Plan.{Plan}
+use Rattle.pin_table.specs.{count_of, plan_slot}
+use Rattle.pin_table.specs.Known.{serial_at}
+use Rattle.chain_build.specs.declared.chain.Chain.{Chain}
+
+-- a slot that isn't free is the one in which its serial was published, so no two have one serial
+pub record IsPlaced (plan : Plan Chain) : Type 0 where
+  pub each_serial : length plan.past.serials ≡ SLOTS
+  pub each_slot : length plan.slots ≡ SLOTS
+  pub placed : (slot : ℕ) → slot < SLOTS → is_free (plan_slot plan slot).phase ≡ false
+      → (serial_at plan.past.serials slot < count_of plan)
+      × (slice_index_or plan.past.published (serial_at plan.past.serials slot) SLOTS ≡ slot)

@@ -47,6 +47,20 @@ impl<'a> Case<'a> {
         Ok((first, second, only_field(third)?))
     }
 
+    /// The arguments of a call that has four.
+    pub fn four_arguments(&self) -> Result<(&'a str, &'a str, &'a str, &'a str), CaseFault> {
+        let Some((first, others)) = self.fields.split_once(' ') else {
+            return Err(CaseFault::Bad);
+        };
+        let Some((second, others)) = others.split_once(' ') else {
+            return Err(CaseFault::Bad);
+        };
+        let Some((third, fourth)) = others.split_once(' ') else {
+            return Err(CaseFault::Bad);
+        };
+        Ok((first, second, third, only_field(fourth)?))
+    }
+
     /// The arguments of a call that has any number of them, with spaces between them.
     pub fn fields(&self) -> &'a str {
         self.fields

@@ -50,8 +50,8 @@ pub fn wanted(alloc: Global, case: &Case<'_>) -> Result<String, CaseFault> {
     Ok(answer)
 }
 
-// The variables of a field: `NAME:VALUE` with commas between them, or `-`.
-fn read_environment(alloc: Global, field: &str) -> Result<Pairs, CaseFault> {
+/// The variables of a field: `NAME:VALUE` with commas between them, or `-`.
+pub fn read_environment(alloc: Global, field: &str) -> Result<Pairs, CaseFault> {
     let mut pairs = Pairs::new(alloc);
     if field == "-" {
         return Ok(pairs);

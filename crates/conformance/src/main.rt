@@ -1,52 +1,85 @@
 //! Reads cases from standard input, one a line, `CALL ARGUMENTS = ANSWER`, makes each call, and
-//! prints each line with the answer that it got. So what disagrees shows as a line that differs.
+//! prints each line with the answer that it got; the lines from `case` to `end` are a whole run,
+//! whose outcome it prints. So what disagrees shows as a line that differs.
 #![tactic(auto)]
 
 mod addresses;
 mod blocks;
 mod case;
+mod checks;
 mod commands;
 mod corefile;
 mod fault;
 mod fields;
+mod marks;
 mod messages;
 mod names;
 mod records;
+mod reports;
+mod runs;
 mod zones;
 
 use case::Case;
 use fault::CaseFault;
+use runs::RunCase;
 use std::alloc::Global;
 use std::io::{BufRead, BufReader, BufWriter, Write};
+use std::sync::Wait;
+use std::thread::Threads;
 use std::{io, str};
-
-/// Calls of cases that this server does not have yet.
-const NOT_BUILT: [&str; 2] = ["check", "lookup"];
 
 fn main(rt: HostRuntime) -> io::Result<()> {
     let alloc = rt.alloc();
     let mut lines = BufReader::new(alloc, rt.reader())?;
     let mut out = BufWriter::new(alloc, io::writer(&rt))?;
     let mut line = Vec::new(alloc);
-    let mut not_built: u64 = 0;
+    let mut case = None;
     for _ in 0..u64::MAX {
         line.clear();
         if lines.read_until(b'\n', &mut line)? == 0 {
             break;
         }
-        if is_not_built(&line) {
-            not_built = not_built.saturating_add(1);
-        } else {
-            print(alloc, &mut out, &line)?;
-        }
+        case = take_line(&rt, alloc, &mut out, case, &line)?;
     }
-    writeln!(out, "not built yet: {not_built}")?;
     out.flush()
 }
 
+// Takes in a line, and prints what it asks for: of a run the outcome, once its last line has come.
+fn take_line<R: Threads + Wait + Sync, W: Write>(
+    rt: &R,
+    alloc: Global,
+    out: &mut W,
+    case: Option<RunCase>,
+    line: &[u8],
+) -> io::Result<Option<RunCase>> {
+    // Behind ` = ` of a case there may be nothing, so its line is taken as it is.
+    let whole = str::from_utf8(line).unwrap_or("");
+    let text = whole.trim_end();
+    if let Some(seed) = text.strip_prefix("case ") {
+        writeln!(out, "case {seed}")?;
+        return Ok(Some(RunCase::new(alloc)));
+    }
+    let Some(mut case) = case else {
+        print(alloc, out, whole)?;
+        return Ok(None);
+    };
+    if text == "end" {
+        reports::print(rt, alloc, out, case)?;
+        return Ok(None);
+    }
+    match case.take(alloc, text) {
+        Ok(()) => Ok(Some(case)),
+        Err(CaseFault::Bad) => {
+            writeln!(out, "bad case")?;
+            Ok(None)
+        }
+        Err(CaseFault::NoMemory) => Err(io::ErrorKind::OutOfMemory.into()),
+    }
+}
+
 // Prints a line with its answer, or that it is no case.
-fn print<W: Write>(alloc: Global, out: &mut W, line: &[u8]) -> io::Result<()> {
-    let Some(case) = str::from_utf8(line).ok().and_then(Case::read) else {
+fn print<W: Write>(alloc: Global, out: &mut W, line: &str) -> io::Result<()> {
+    let Some(case) = Case::read(line) else {
         return writeln!(out, "bad case");
     };
     match answer(alloc, &case) {
@@ -70,6 +103,7 @@ fn answer(alloc: Global, case: &Case<'_>) -> Result<String, CaseFault> {
         "addrtext" => addresses::print(alloc, case),
         "net" => addresses::net(alloc, case),
         "query" => messages::query(alloc, case),
+        "asked" => messages::asked(alloc, case),
         "reply" => messages::reply(alloc, case),
         "cut" => messages::truncated(alloc, case),
         "words" => corefile::words(alloc, case),
@@ -78,15 +112,11 @@ fn answer(alloc: Global, case: &Case<'_>) -> Result<String, CaseFault> {
         "pick" => blocks::picked(alloc, case),
         "record" => records::read(alloc, case),
         "zone" => zones::read(alloc, case),
+        "lookup" => zones::answer(alloc, case),
+        "check" => checks::check(alloc, case),
         "kind" => records::read_type(alloc, case),
         "kindtext" => records::print_type(alloc, case),
         "wants" => corefile::wanted(alloc, case),
         _ => Err(CaseFault::Bad),
     }
-}
-
-// Whether a line asks for a call that isn't built yet.
-fn is_not_built(line: &[u8]) -> bool {
-    let call = line.split(|byte| *byte == b' ').next().unwrap_or(b"");
-    NOT_BUILT.iter().any(|name| name.as_bytes() == call)
 }

@@ -1,11 +1,11 @@
-//! Messages: `query BYTES`, `reply BYTES`, `cut BYTES LIMIT`.
+//! Messages: `query BYTES`, `asked BYTES`, `reply BYTES`, `cut BYTES LIMIT`.
 
 use crate::case::Case;
 use crate::fault::CaseFault;
 use crate::fields::{bytes_field, read_bytes};
 use dns_data::Message;
 use dns_data::limit::{MESSAGE_BYTES, UDP_BYTES};
-use dns_wire::{QueryFault, WireFault, read_query, read_reply, write_message};
+use dns_wire::{QueryFault, WireFault, read_asked, read_query, read_reply, write_message};
 use std::alloc::Global;
 
 /// What a query is refused for, or `ok` and its message, spelt anew.
@@ -13,6 +13,15 @@ pub fn query(alloc: Global, case: &Case<'_>) -> Result<String, CaseFault> {
     let bytes = read_bytes(alloc, case.argument()?)?;
     match read_query(alloc, &bytes) {
         Ok(message) => spelt(alloc, &message),
+        Err(fault) => refused(alloc, fault),
+    }
+}
+
+/// What a query is refused for, or `ok`: read as a server reads it, whose records it doesn't keep.
+pub fn asked(alloc: Global, case: &Case<'_>) -> Result<String, CaseFault> {
+    let bytes = read_bytes(alloc, case.argument()?)?;
+    match read_asked(alloc, &bytes) {
+        Ok(_) => Ok(String::from_str(alloc, "ok")?),
         Err(fault) => refused(alloc, fault),
     }
 }

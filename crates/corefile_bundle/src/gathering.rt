@@ -1,4 +1,5 @@
-ghost use Rattle.std.specs.Prelude.{◌≡◌, ◌≤◌, ◌<◌, ◌+◌, ℕ, List, Err, IfOk, IsTrue, ◌↔◌, true, option_map};
+ghost use Rattle.std.specs.Prelude.{◌≡◌, ◌≤◌, ◌<◌, ◌+◌, ℕ, List, Err, IfOk, IsTrue, ◌↔◌, true};
+ghost use Rattle.std.specs.Prelude.{option_map};
 ghost use Rattle.dns_data.specs.declared.limit.TheConstants as limits;
 ghost use Rattle.outside.specs.{Rose, WatchStays};
 ghost use Rattle.corefile_blocks.specs.{IsReadable};

@@ -1,7 +1,8 @@
 ghost use Rattle.std.specs.Prelude.{◌≡◌, ◌≤◌, ◌++◌, length, OnOk};
 ghost use Rattle.std.specs.Str.{IsUtf8};
 ghost use Rattle.corefile_words.specs.Lines.{before};
-ghost use Rattle.corefile_words.specs.Words.{is_blank, ends_word, plain_word, quoted_word, ReadsLine};
+ghost use Rattle.corefile_words.specs.Words.{is_blank, ends_word, plain_word, quoted_word};
+ghost use Rattle.corefile_words.specs.Words.{ReadsLine};
 
 use crate::quoted::{quoted_size, unescaped};
 use crate::variable::filled;

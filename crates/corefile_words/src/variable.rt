@@ -1,7 +1,9 @@
-ghost use Rattle.std.specs.Prelude.{◌≡◌, ◌<◌, ◌≤◌, ◌+◌, length, slice_index, IfOk, IfSome, option_copied};
+ghost use Rattle.std.specs.Prelude.{◌≡◌, ◌<◌, ◌≤◌, ◌+◌, length, slice_index, IfOk, IfSome};
+ghost use Rattle.std.specs.Prelude.{option_copied};
 ghost use Rattle.std.specs.Str.{IsUtf8};
 ghost use Rattle.corefile_words.specs.Lines.{before};
-ghost use Rattle.corefile_words.specs.Variables.{IsClosedAt, is_other, name_in, variable_at, value_of, filled};
+ghost use Rattle.corefile_words.specs.Variables.{IsClosedAt, is_other, name_in, variable_at};
+ghost use Rattle.corefile_words.specs.Variables.{value_of, filled};
 
 use crate::Pair;
 use dns_data::{NoMemory, Text};

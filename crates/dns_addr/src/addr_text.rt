@@ -1,6 +1,7 @@
 ghost use Rattle.std.specs.Prelude.{Some, ◌≡◌, ◌<◌, ◌^◌, ◌++◌, false, string_bytes, IfOk, OnOk};
 ghost use Rattle.std.specs.Fmt.{digits};
-ghost use Rattle.dns_addr.specs.AddrText.{IsAddr, addr_of, addr_text, groups_text, v4_text, v6_groups, v6_groups_text};
+ghost use Rattle.dns_addr.specs.AddrText.{IsAddr, addr_of, addr_text, groups_text, v4_text};
+ghost use Rattle.dns_addr.specs.AddrText.{v6_groups, v6_groups_text};
 
 use crate::Addr;
 use crate::runs::{first_run, longest};

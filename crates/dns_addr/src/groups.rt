@@ -1,4 +1,5 @@
-ghost use Rattle.std.specs.Prelude.{◌≡◌, ◌<◌, ◌+◌, ◌-◌, [], ◌∷◌, ◌++◌, length, replicate, OnSome, IfNone};
+ghost use Rattle.std.specs.Prelude.{◌≡◌, ◌<◌, ◌+◌, ◌-◌, [], ◌∷◌, ◌++◌, length, replicate, OnSome};
+ghost use Rattle.std.specs.Prelude.{IfNone};
 ghost use Rattle.dns_addr.specs.AddrText.{v6_number};
 
 use std::marker::Model;

@@ -1,5 +1,6 @@
 ghost use Rattle.std.specs.Prelude.{◌≡◌, ◌<◌, IfSome};
-ghost use Rattle.dns_addr.specs.AddrText.{eight_groups, group_of, groups_of, hex_digit, side_groups, v4_if, v6_of};
+ghost use Rattle.dns_addr.specs.AddrText.{eight_groups, group_of, groups_of, hex_digit};
+ghost use Rattle.dns_addr.specs.AddrText.{side_groups, v4_if, v6_of};
 
 use crate::cut::{colons_at, cut_once};
 use crate::groups::Groups;

@@ -1,5 +1,8 @@
-ghost use Rattle.std.specs.Prelude.{◌≡◌, ℕ, ◌+◌, ◌<◌, ◌≤◌, List, [], ◌∷◌, ◌++◌, length, slice_get, slice_index, take, OnOk, OnErr, IfOk, IsTrue, IsFalse, ◌↔◌, drop};
-ghost use Rattle.dns_data.specs.Name.{IsLabel, IsName, IsWire, IsWithin, wire_length, spelled, labels_of, lowered, same_labels};
+ghost use Rattle.std.specs.Prelude.{◌≡◌, ℕ, ◌+◌, ◌<◌, ◌≤◌, List, [], ◌∷◌, ◌++◌, length, slice_get};
+ghost use Rattle.std.specs.Prelude.{slice_index, take, OnOk, OnErr, IfOk, IsTrue, IsFalse, ◌↔◌};
+ghost use Rattle.std.specs.Prelude.{drop};
+ghost use Rattle.dns_data.specs.Name.{IsLabel, IsName, IsWire, IsWithin, wire_length, spelled};
+ghost use Rattle.dns_data.specs.Name.{labels_of, lowered, same_labels};
 ghost use Rattle.dns_data.specs.declared.limit.TheConstants as limits;
 
 use crate::ascii::same_letters;

@@ -1,6 +1,8 @@
-ghost use Rattle.std.specs.Prelude.{◌≡◌, ◌≤◌, ◌+◌, ◌↔◌, [], ◌∷◌, ◌++◌, true, length, IfSome, IfOk, OnOk, IsTrue};
+ghost use Rattle.std.specs.Prelude.{◌≡◌, ◌≤◌, ◌+◌, ◌↔◌, [], ◌∷◌, ◌++◌, true, length, IfSome, IfOk};
+ghost use Rattle.std.specs.Prelude.{OnOk, IsTrue};
 ghost use Rattle.std.specs.Char.{is_ascii_digit};
-ghost use Rattle.dns_data.specs.NameText.{ReadsName, Completes, Fits, byte_at, escaped, is_dot, numbered};
+ghost use Rattle.dns_data.specs.NameText.{ReadsName, Completes, Fits, byte_at, escaped, is_dot};
+ghost use Rattle.dns_data.specs.NameText.{numbered};
 
 use crate::limit::{LABEL_BYTES, NAME_BYTES};
 use crate::{Name, NoMemory};

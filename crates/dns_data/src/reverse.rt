@@ -1,9 +1,11 @@
-ghost use Rattle.std.specs.Prelude.{◌≡◌, ◌<◌, ◌≤◌, ◌+◌, ◌^◌, [], ◌∷◌, ◌++◌, false, map, nat_eq, OnOk, IfOk, IfSome};
+ghost use Rattle.std.specs.Prelude.{◌≡◌, ◌<◌, ◌≤◌, ◌+◌, ◌^◌, [], ◌∷◌, ◌++◌, false, map, nat_eq};
+ghost use Rattle.std.specs.Prelude.{OnOk, IfOk, IfSome};
 ghost use Rattle.std.specs.Fmt.{decimal, digit_glyph};
 ghost use Rattle.std.specs.Char.{to_ascii_lowercase};
 ghost use Rattle.std.specs.Cmp.Lexicographic.{pointwise};
 ghost use Rattle.dns_data.specs.Name.{lowered, spelled, wire_length};
-ghost use Rattle.dns_data.specs.ReverseNames.{StandsFor, nibble_of, nibbles_back, reverse_of, reversed_of, v4_reverse, v4_reversed, v6_reverse};
+ghost use Rattle.dns_data.specs.ReverseNames.{StandsFor, nibble_of, nibbles_back, reverse_of};
+ghost use Rattle.dns_data.specs.ReverseNames.{reversed_of, v4_reverse, v4_reversed, v6_reverse};
 
 use crate::ascii::same_letters;
 use crate::{Addr, Labels, Name, NoMemory};

@@ -1,4 +1,5 @@
-ghost use Rattle.std.specs.Prelude.{◌≡◌, ◌↔◌, ◌<◌, ℕ, List, [], ◌++◌, length, slice_index, string_bytes, IfOk, IsTrue, OnErr, OnOk};
+ghost use Rattle.std.specs.Prelude.{◌≡◌, ◌↔◌, ◌<◌, ℕ, List, [], ◌++◌, length, slice_index};
+ghost use Rattle.std.specs.Prelude.{string_bytes, IfOk, IsTrue, OnErr, OnOk};
 ghost use Rattle.std.specs.Char.{encode_utf8};
 
 use crate::{Copies, NoMemory};

@@ -1,5 +1,6 @@
 //! The bytes of a name in wire format, which stand in the value itself where it is short.
-ghost use Rattle.std.specs.Prelude.{◌≡◌, ◌+◌, ◌≤◌, [], ◌∷◌, ◌++◌, length, map, IfOk, IsOk, OnOk, OnErr, IsTrue, IsFalse};
+ghost use Rattle.std.specs.Prelude.{◌≡◌, ◌+◌, ◌≤◌, [], ◌∷◌, ◌++◌, length, map, IfOk, IsOk, OnOk};
+ghost use Rattle.std.specs.Prelude.{OnErr, IsTrue, IsFalse};
 ghost use Rattle.std.specs.Char.{to_ascii_lowercase};
 
 use crate::NoMemory;

@@ -1,7 +1,8 @@
 ghost use Rattle.std.specs.Prelude.{◌≡◌, ◌<◌, ◌^◌, [], length, IfOk};
 ghost use Rattle.std.specs.List.{list_any};
 ghost use Rattle.zone_file.specs.Zones.{Agrees};
-ghost use Rattle.file_plugin.specs.Reading.{ReadsText, ReadsWords, body_why, has_zone, some_has, told_at};
+ghost use Rattle.file_plugin.specs.Reading.{ReadsText, ReadsWords, body_why, has_zone, some_has};
+ghost use Rattle.file_plugin.specs.Reading.{told_at};
 ghost use Rattle.file_plugin.specs.Zones.{zones_from};
 
 use crate::fault::FileFault;

@@ -2,7 +2,8 @@ ghost use Rattle.std.specs.Prelude.{◌≡◌, ◌≤◌, not};
 ghost use Rattle.outside.specs.Marks.{went};
 ghost use Rattle.outside.specs.Script.{is_to_fail};
 ghost use Rattle.outside_mem.specs.Calls.{one_more, counted};
-ghost use Rattle.outside_mem.specs.Faults.{faults_with, ask_faults_with, silences_with, read_faults_with, is_starved};
+ghost use Rattle.outside_mem.specs.Faults.{faults_with, ask_faults_with, silences_with};
+ghost use Rattle.outside_mem.specs.Faults.{read_faults_with, is_starved};
 
 use crate::calls::Calls;
 use outside::{Outcome, ReadOut, Wrote};

@@ -1,7 +1,8 @@
 ghost use Rattle.std.specs.Prelude.{◌≡◌, IfOk, find, nat_eq, option_map, slice_get, take};
 ghost use Rattle.std.specs.Cmp.Lexicographic.{pointwise};
 ghost use Rattle.outside.specs.WatchMarks.{file_in, found_in};
-ghost use Rattle.outside_mem.specs.WatchFeed.{watch_script_of, out_of, IsUnusedWatchFeed, GivesLook, GivesRead};
+ghost use Rattle.outside_mem.specs.WatchFeed.{watch_script_of, out_of, IsUnusedWatchFeed};
+ghost use Rattle.outside_mem.specs.WatchFeed.{GivesLook, GivesRead};
 
 use crate::calls::Calls;
 use dns_data::{Bytes, FileText, NoMemory, Text};

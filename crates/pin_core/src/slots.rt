@@ -1,6 +1,8 @@
 //! A slot, a worker's pins, and what one step makes of each.
 ghost use Rattle.std.specs.Prelude.{◌≡◌, ◌+◌, ◌<◌, ◌≤◌, ◌^◌, length};
-ghost use Rattle.pin_core.specs.Slots.{is_all, lacks, is_filled, is_current, is_drainable, due, filled_slot, published_slot, replaced_slot, pinned_slot, drained_slot};
+ghost use Rattle.pin_core.specs.Slots.{is_all, lacks, is_filled, is_current, is_drainable, due};
+ghost use Rattle.pin_core.specs.Slots.{filled_slot, published_slot, replaced_slot, pinned_slot};
+ghost use Rattle.pin_core.specs.Slots.{drained_slot};
 
 /// How many generations there may be at once: the current one, those still pinned, and the next.
 pub const SLOTS: usize = 4;

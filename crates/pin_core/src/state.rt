@@ -1,7 +1,9 @@
 //! The machine: its state, its reads and its steps.
-ghost use Rattle.std.specs.Prelude.{◌≡◌, ◌+◌, ◌<◌, ◌≤◌, ◌^◌, ◌↔◌, IfOk, IfSome, IsNone, All, map, position};
+ghost use Rattle.std.specs.Prelude.{◌≡◌, ◌+◌, ◌<◌, ◌≤◌, ◌^◌, ◌↔◌, IfOk, IfSome, IsNone, All, map};
+ghost use Rattle.std.specs.Prelude.{position};
 ghost use Rattle.pin_core.specs.Slots.{is_current, replaced_slot, due};
-ghost use Rattle.pin_core.specs.Machine.{IsSound, start, current, after, fill, publish, pin, unpin, sweep, drain};
+ghost use Rattle.pin_core.specs.Machine.{IsSound, start, current, after, fill, publish, pin, unpin};
+ghost use Rattle.pin_core.specs.Machine.{sweep, drain};
 
 use crate::slots::{MOST_PINS, MOST_SERIALS, Phase, PinWorker, SLOTS, Slot, WORKERS};
 use crate::steps::{PinReply, PinStep};

@@ -3,7 +3,8 @@ ghost use Rattle.std.specs.Prelude.{◌≡◌, ◌+◌, ◌<◌, [], ◌∷◌, 
 ghost use Rattle.pin_table.specs.Known.{place};
 ghost use Rattle.pin_table.specs.Steps.{plan_in, count_of, named_plan, filled_seat};
 ghost use Rattle.pin_table.specs.Tags.{AreNew, AreFilled};
-ghost use Rattle.pin_table.specs.Handles.{id_of, plan_of, IsPublisherOf, SamePublisher, seen_of, IsToldOf};
+ghost use Rattle.pin_table.specs.Handles.{id_of, plan_of, IsPublisherOf, SamePublisher, seen_of};
+ghost use Rattle.pin_table.specs.Handles.{IsToldOf};
 ghost use Rattle.pin_table.specs.Publishing.{IsFreeSlot, CanFill, IsReady, fill_to, IsPublished};
 ghost use Rattle.pin_table.specs.declared.views.View.TheVariants.{OfPublisher};
 

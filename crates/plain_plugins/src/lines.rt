@@ -1,6 +1,7 @@
 ghost use Rattle.std.specs.Prelude.{◌≡◌, ◌++◌, codes, string_bytes, IfOk, OnOk};
 ghost use Rattle.std.specs.Fmt.{decimal};
-ghost use Rattle.plain_plugins.specs.Notes.{asked_text, cause_text, code_text, error_line, log_line};
+ghost use Rattle.plain_plugins.specs.Notes.{asked_text, cause_text, code_text, error_line};
+ghost use Rattle.plain_plugins.specs.Notes.{log_line};
 ghost use Rattle.plain_plugins.specs.Notes.{outcome_text, transport_text};
 
 use dns_data::{NoMemory, Query, Text, Transport};

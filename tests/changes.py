@@ -3,13 +3,14 @@ sees an older one than it saw before. Each asks again only behind its reply, and
 of two workers' replies that order is seen here, and is proved nowhere. `changes.py 200` is a soak of as many."""
 import os
 import re
+import subprocess
 import sys
 import tempfile
 import threading
 import time
 
 sys.path.insert(0, os.path.join(os.path.dirname(os.path.abspath(__file__)), "lib"))
-from program import Client, Rows, Served, needs_program  # noqa: E402
+from program import PROGRAM, Client, Rows, Served, needs_program  # noqa: E402
 
 CHANGES = 8
 CLIENTS = 6
@@ -145,10 +146,46 @@ def changed(rows, changes):
             print(f"# {asked} queries, {lost} lost; {last} KiB resident", flush=True)
 
 
+def locked(rows):
+    """A file that loses its rights: the look is refused and told, the old version serves, and with the rights the new one does."""
+    with tempfile.TemporaryDirectory() as folder:
+        os.chmod(folder, 0o755)
+        path = os.path.join(folder, "zone")
+        with open(path, "wb") as file:
+            file.write(zone(1))
+        os.chmod(path, 0o644)
+        # Root reads whatever the rights say.
+        plain = {"user": 65534, "group": 65534} if os.geteuid() == 0 else {}
+        try:
+            subprocess.run([PROGRAM], capture_output=True, timeout=60, **plain)
+        except OSError:
+            print("skipped: a file without rights, since another user can't start the program")
+            return
+        with Served(".:{port} {\n\treload 2s 1s\n\tfile " + path + " example.org\n}\n", mode=0o755, **plain) as server:
+            rows.row("it serves without the rights of root", server.is_serving(QUERY))
+            with Client(server.port) as client:
+                os.chmod(path, 0)
+                with open(path + ".new", "wb") as file:
+                    file.write(zone(2))
+                os.chmod(path + ".new", 0)
+                os.replace(path + ".new", path)
+                line = server.process.stderr.readline().decode()
+                while line and not line.startswith("reload"):
+                    line = server.process.stderr.readline().decode()
+                rows.equal("a file without rights is told", line, f"reload cannot read {path}\n")
+                rows.equal("the version before serves", VERSION.findall(client.ask(QUERY) or b""), [b"000001"])
+                os.chmod(path, 0o644)
+                end = time.monotonic() + 3 * LOOK
+                while time.monotonic() < end and VERSION.findall(client.ask(QUERY) or b"") != [b"000002"]:
+                    time.sleep(0.05)
+                rows.equal("with its rights the new one does", VERSION.findall(client.ask(QUERY) or b""), [b"000002"])
+
+
 def main():
     needs_program()
     rows = Rows()
     changed(rows, int(sys.argv[1]) if len(sys.argv) > 1 else CHANGES)
+    locked(rows)
     rows.end()
 
 

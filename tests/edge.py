@@ -46,7 +46,7 @@ def no_regular_files(rows):
             got = run("serve", "--conf", name)
             want = told(3, f"cannot read {name}", f"read {name}: not a regular file")
             rows.equal(f"{title} is no Corefile", got, want)
-            rows.row(f"{title} is refused at once", time.monotonic() - began < 2)
+            rows.row(f"{title} is refused at once", time.monotonic() - began < 10)
         path = corefile(room, f". {{\n\timport {pipe}\n}}\n")
         rows.equal("nor is a pipe a file to import", run("serve", "--conf", path),
                    told(3, f"cannot read {pipe}", f"read {pipe}: not a regular file"))
@@ -213,7 +213,7 @@ def failing_receives(rows):
         print("skipped: strace can't trace here")
         return
     rows.equal("64 failing receives end the run", (ran.returncode, ran.stdout, failed), (6, "a worker could not receive\n", 64))
-    rows.row("over some seconds", 5 < took < 30, took)
+    rows.row("over some seconds", 5 < took < 55, took)
 
 
 def asked_at(family, client, server, port):

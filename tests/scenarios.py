@@ -127,7 +127,7 @@ def take_query(run, rows, line, words, body):
         address = words[words.index("from") + 1]
         words = words[:words.index("from")]
     if words[-1] == "port2":
-        port, words = words.pop(), words[:-1]
+        port, words = words[-1], words[:-1]
     if ":" in address and not has_ipv6():
         print(f"skipped {line}: there is no IPv6 on loopback")
         return

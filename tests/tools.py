@@ -15,6 +15,18 @@ CASES = [
     ("one that serves", ".:{port} {\n    reload\n    whoami\n}\n", 0, ["{file}: accepted"]),
     ("one without a block", "# nothing\n", 0, ["{file}: accepted"]),
     ("an unknown directive", ".:{port} {\n    whoamy\n}\n", 1, ["{file}:2: unknown directive", "        whoamy"]),
+    (
+        "hosts that lets nothing go on", ".:{port} {\n    hosts {file}\n    whoami\n}\n", 0,
+        ["{file}: accepted", "{file}:2: warning: a name that hosts doesn't list gets SERVFAIL and never reaches whoami: fallthrough lets it go on"],
+    ),
+    (
+        "hosts with an address for its file", ".:{port} {\n    hosts 10.0.0.1 a.test {\n        fallthrough\n    }\n    whoami\n}\n", 0,
+        ["{file}: accepted", "{file}:2: warning: 10.0.0.1 is read as the name of a file: an address stands in the body"],
+    ),
+    (
+        "hosts without its file", ".:{port} {\n    hosts /none/h {\n        fallthrough\n    }\n}\n", 0,
+        ["{file}: accepted", "{file}:2: warning: there is no /none/h, which counts as empty"],
+    ),
     ("an open quote", '.:{port} {\n    whoami\n}\n"a\n', 1, ["{file}:4: open quote", '    "a']),
 ]
 
@@ -32,7 +44,8 @@ def main():
             print("skipped: no network of its own can be made here")
             return
         for title, text, status, lines in CASES:
-            path = corefile(room, text.replace("{port}", str(free_port())))
+            text = text.replace("{port}", str(free_port())).replace("{file}", os.path.join(room, "Corefile"))
+            path = corefile(room, text)
             got = checked(path)
             rows.equal(f"check-corefile: {title}", got, (status, [line.replace("{file}", path) for line in lines]))
         got = checked(os.path.join(room, "none"))

@@ -62,17 +62,22 @@ def status_of(*words):
 
 
 class Served:
-    """A server for a Corefile, which ends with the `with` block. `{port}` in the text is a free port."""
+    """A server for a Corefile, which ends with the `with` block. `{port}` in the text is a free port.
 
-    def __init__(self, text, *words):
-        self.text, self.words = text, words
+    Its folder has these rights, and the process is what `subprocess.Popen` makes of the other names, as another user.
+    """
+
+    def __init__(self, text, *words, mode=0o700, **process):
+        self.text, self.words, self.mode, self.named = text, words, mode, process
 
     def __enter__(self):
         self.room = tempfile.TemporaryDirectory()
+        os.chmod(self.room.name, self.mode)
         self.port = free_port()
         self.path = corefile(self.room.name, self.text.replace("{port}", str(self.port)))
         self.process = subprocess.Popen(
-            [PROGRAM, "serve", "--conf", self.path, *self.words], stdout=subprocess.PIPE, stderr=subprocess.PIPE
+            [PROGRAM, "serve", "--conf", self.path, *self.words],
+            stdout=subprocess.PIPE, stderr=subprocess.PIPE, **self.named,
         )
         return self
 

@@ -45,6 +45,17 @@ DB = "\n".join([
     *(f"h{k} A 10.9.{k // 256}.{k % 256}" for k in range(1000)), "",
 ])
 
+HOSTS = ".:%d {\n\thosts FOLDER/hosts\n}\n"
+MANY_HOSTS = ".:%d {\n\thosts FOLDER/many\n}\n"
+
+
+def hosts(count):
+    """A hosts file of so many names, eight with an address."""
+    return "".join(f"10.9.{k // 2048}.{k // 8 % 256} " + " ".join(f"h{j}.example.org" for j in range(k, k + 8)) + "\n" for k in range(0, count, 8))
+
+
+FILES = {"db": DB, "hosts": hosts(1000), "many": hosts(40000)}
+
 CASES = [
     ("whoami, 2 labels", WHOAMI, query(TWO)),
     ("whoami, 2 labels, OPT with DO", WHOAMI, query(TWO, opt=OPT)),
@@ -55,6 +66,9 @@ CASES = [
     ("the same by a wildcard", ZONE, query(WILD)),
     ("the same: NXDOMAIN with SOA", ZONE, query(ABSENT)),
     ("the same: a referral with its address", ZONE, query(BELOW)),
+    ("a hosts file of 1,000 names: A", HOSTS, query(HOST)),
+    ("the same of 40,000 names", MANY_HOSTS, query(HOST)),
+    ("the same: a name that isn't listed, SERVFAIL", MANY_HOSTS, query(ABSENT)),
     ("a response, which gets no reply", WHOAMI, query(TWO)[:2] + b"\x81" + query(TWO)[3:]),
 ]
 
@@ -67,8 +81,9 @@ def count(text, message, queries, folder, answered):
     conf = os.path.join(folder, "Corefile")
     with open(conf, "w") as file:
         file.write(text.replace("FOLDER", folder) % port)
-    with open(os.path.join(folder, "db"), "w") as file:
-        file.write(DB)
+    for path, lines in FILES.items():
+        with open(os.path.join(folder, path), "w") as file:
+            file.write(lines)
     out = os.path.join(folder, "callgrind.out")
     server = subprocess.Popen(
         ["valgrind", "--tool=callgrind", f"--callgrind-out-file={out}", PROGRAM, "serve", "--conf", conf, "--queries", str(queries)],

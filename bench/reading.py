@@ -203,7 +203,7 @@ def instructions(query, times, folder):
         ran = subprocess.run(
             ["valgrind", "--tool=callgrind", f"--callgrind-out-file={out}", PROGRAM], stdin=file, capture_output=True, text=True, check=True
         )
-    answer = ran.stdout.splitlines()[-2].split(" = ")[1]
+    answer = ran.stdout.splitlines()[-1].split(" = ")[1]
     return int(re.search(r"Collected : (\d+)", ran.stderr).group(1)), answer
 
 

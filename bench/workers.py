@@ -8,7 +8,6 @@ compiler, and strace for the system calls. Nothing here is a test.
 import os
 import re
 import shutil
-import socket
 import subprocess
 import sys
 import tempfile
@@ -16,6 +15,7 @@ import time
 
 TOP = os.path.dirname(os.path.dirname(os.path.abspath(__file__)))
 sys.path.insert(0, os.path.join(TOP, "tests", "lib"))
+from load import built, spent  # noqa: E402
 from program import PROGRAM, Served  # noqa: E402
 
 ASKED = 400_000
@@ -59,21 +59,6 @@ int main(int n, char **a) {
 """
 
 
-def built(folder):
-    source = os.path.join(folder, "asks.c")
-    with open(source, "w") as file:
-        file.write(CLIENT.replace("QUERY", ",".join(str(byte) for byte in QUERY)))
-    subprocess.run([shutil.which("cc") or "clang", "-O2", "-o", os.path.join(folder, "asks"), source], check=True)
-    return os.path.join(folder, "asks")
-
-
-def spent(pid):
-    """User and system time of a process so far, in seconds."""
-    with open(f"/proc/{pid}/stat") as file:
-        fields = file.read().rsplit(")", 1)[1].split()
-    return [int(ticks) / os.sysconf("SC_CLK_TCK") for ticks in fields[11:13]]
-
-
 def measured(asks, workers):
     with Served(".:{port} {\n\twhoami\n}\n", "--workers", str(workers)) as server:
         if not server.is_serving(QUERY):
@@ -109,7 +94,7 @@ def main():
     if not os.access(PROGRAM, os.X_OK):
         sys.exit("there is no built program (make build)")
     with tempfile.TemporaryDirectory() as folder:
-        asks = built(folder)
+        asks = built(folder, "asks", CLIENT.replace("QUERY", ",".join(str(byte) for byte in QUERY)))
         one = None
         for workers in (1, 2, 4, 1):
             user, system, got, lost, took = measured(asks, workers)

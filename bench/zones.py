@@ -5,15 +5,13 @@ and of 72,000 records.
 It copies the crates below zone_tree into a folder of its own, adds the program that stands here, proves and builds that, and
 takes the difference of two runs of each case. Wants rt and valgrind. The first run takes some minutes.
 """
-import os
-import re
 import shutil
-import subprocess
 import sys
 import tempfile
 
-TOP = os.path.dirname(os.path.dirname(os.path.abspath(__file__)))
-CRATES = ["dns_lists", "dns_addr", "dns_data", "name_table", "zone_lookup", "zone_tree"]
+from counted import built, cost
+
+CRATES = ["dns_lists", "dns_addr", "dns_data", "equal_bytes", "name_table", "zone_lookup", "zone_tree"]
 CASES = ["hit", "wildcard", "nxdomain", "referral"]
 FEW, MANY = 2_000, 22_000
 
@@ -158,40 +156,16 @@ fn main(rt: HostRuntime) -> io::Result<()> {
 '''
 
 
-def build(folder):
-    """The built program, in a repository of its own."""
-    os.makedirs(os.path.join(folder, "crates", "zone_bench", "src"))
-    for crate in CRATES:
-        shutil.copytree(os.path.join(TOP, "crates", crate), os.path.join(folder, "crates", crate), ignore=shutil.ignore_patterns("out"))
-    with open(os.path.join(TOP, "crates.txt")) as file:
-        lines = [line for line in file if line.split(":")[0] in CRATES]
-    with open(os.path.join(folder, "crates.txt"), "w") as file:
-        file.writelines(lines + ["zone_bench: zone_tree zone_lookup dns_data\n"])
-    with open(os.path.join(folder, "crates", "zone_bench", "src", "main.rt"), "w") as file:
-        file.write(PROGRAM)
-    crate = os.path.join(folder, "crates", "zone_bench")
-    subprocess.run(["rt", "fmt"], cwd=crate, check=True, stdout=subprocess.DEVNULL)
-    subprocess.run(["rt", "run", "--", "10", "hit", "10"], cwd=crate, check=True, stdout=subprocess.DEVNULL)
-    return os.path.join(crate, "out", "zone_bench")
-
-
-def cost(program, folder, names, case, times):
-    """Instructions of one run."""
-    out = os.path.join(folder, "callgrind.out")
-    words = ["valgrind", "--tool=callgrind", f"--callgrind-out-file={out}", program, str(names), case, str(times)]
-    done = subprocess.run(words, check=True, capture_output=True, text=True)
-    return int(re.search(r"Collected : (\d+)", done.stderr).group(1))
-
-
 def main():
     folder = tempfile.mkdtemp(prefix="zones-")
     try:
-        program = sys.argv[1] if len(sys.argv) == 2 else build(folder)
+        needs = ["zone_tree", "zone_lookup", "dns_data"]
+        program = built(folder, "zone_bench", CRATES, needs, PROGRAM, ["10", "hit", "10"])
         for case in CASES:
-            each = [(cost(program, folder, names, case, MANY) - cost(program, folder, names, case, FEW)) // (MANY - FEW)
+            each = [(cost(folder, program, names, case, MANY)[0] - cost(folder, program, names, case, FEW)[0]) // (MANY - FEW)
                     for names in (1_000, 72_000)]
             print(f"{case}: {each[0]} at 1,000 names, {each[1]} at 72,000", flush=True)
-        made = [cost(program, folder, names, "none", 0) - cost(program, folder, names, "list", 0) for names in (36_000, 72_000)]
+        made = [cost(folder, program, names, "none", 0)[0] - cost(folder, program, names, "list", 0)[0] for names in (36_000, 72_000)]
         print(f"making: {made[0]} for 36,000 records, {made[1]} for 72,000: {made[1] / made[0]:.3f} times")
     finally:
         shutil.rmtree(folder, ignore_errors=True)

@@ -1,0 +1,33 @@
+"""What the benches share that count the instructions of a program of their own over a few crates."""
+import os
+import re
+import shutil
+import subprocess
+
+TOP = os.path.dirname(os.path.dirname(os.path.abspath(__file__)))
+
+
+def built(folder, name, crates, needs, source, words):
+    """The program NAME of a source that needs some of these crates, each behind those below it, proved and built in a repository of
+    its own, and run once by these words."""
+    crate = os.path.join(folder, "crates", name)
+    os.makedirs(os.path.join(crate, "src"))
+    for below in crates:
+        shutil.copytree(os.path.join(TOP, "crates", below), os.path.join(folder, "crates", below), ignore=shutil.ignore_patterns("out"))
+    with open(os.path.join(TOP, "crates.txt")) as file:
+        lines = [line for line in file if line.split(":")[0] in crates]
+    with open(os.path.join(folder, "crates.txt"), "w") as file:
+        file.writelines([*lines, f"{name}: {' '.join(needs)}\n"])
+    with open(os.path.join(crate, "src", "main.rt"), "w") as file:
+        file.write(source)
+    subprocess.run(["rt", "fmt"], cwd=crate, check=True, stdout=subprocess.DEVNULL)
+    subprocess.run(["rt", "run", "--", *words], cwd=crate, check=True, stdout=subprocess.DEVNULL)
+    return os.path.join(crate, "out", name)
+
+
+def cost(folder, program, *words):
+    """User instructions of one run by these words, and what it printed."""
+    out = os.path.join(folder, "callgrind.out")
+    asked = ["valgrind", "--tool=callgrind", f"--callgrind-out-file={out}", program, *map(str, words)]
+    done = subprocess.run(asked, check=True, capture_output=True, text=True)
+    return int(re.search(r"Collected : (\d+)", done.stderr).group(1)), done.stdout

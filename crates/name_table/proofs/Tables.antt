@@ -1,16 +1,16 @@
 -- Tables of names: what their buckets hold.
-use Rattle.std.proofs.Common.{◌≡◌, ◌↔◌, ℕ, zero, suc, ◌+◌, ◌<◌, ◌≤◌, List, [], ◌∷◌, ◌++◌, length, drop, take, map, get_or, ◌-◌, ◌*◌, ◌/◌, ◌%◌, ◌^◌, cond, Option, Some, None, refl, inl, inr, sym, ap, subst, ◌∙◌, arith, add-one}
-use Rattle.std.specs.Prelude.{slice_get, slice_set, ◌⊎◌, IfNone, IfSome, slice_index, slice_range, nat_lt}
+use Rattle.std.proofs.Common.{◌≡◌, ◌↔◌, ℕ, zero, suc, ◌+◌, ◌<◌, ◌≤◌, List, [], ◌∷◌, ◌++◌, length, drop, take, map, get_or, set, ◌-◌, ◌*◌, ◌/◌, ◌%◌, ◌^◌, cond, Bool, true, false, Option, Some, None, refl, inl, inr, sym, ap, subst, ◌∙◌, arith, add-one}
+use Rattle.std.specs.Prelude.{slice_get, slice_set, slice_index_or, ◌⊎◌, IfNone, IfSome, slice_index, slice_range, nat_lt}
 use Rattle.std.specs.Option.{option_map}
 use Rattle.std.proofs.lemmas.Option.{slice_get_past, slice_get_within, slice_get-get_or, get_or_from_slice_get}
-use Rattle.std.proofs.lemmas.List.{length-set, drop_all, length-map, take-map, drop-map}
+use Rattle.std.proofs.lemmas.List.{get_or-set_same, length-set, drop_all, length-map, take-map, drop-map}
 use Rattle.std.specs.Int.{w64, from_le_bytes}
 use Rattle.std.specs.Char.{to_ascii_lowercase}
 use Rattle.std.proofs.lemmas.Bool.{cases_lt}
 use Rattle.dns_data.specs.Name.{IsName, spelled, lowered}
 use Rattle.dns_data.specs.NameLaws.{same_case}
 use Rattle.name_table.specs.Hash.{small, word_at, mixed, words_to, bytes_to, sum_of, hash_of, place_of}
-use Rattle.name_table.specs.Table.{AreWithin, Holds, IsNamed, IsNumberOf, IsLongest, IsTable, IsKept, IsEntryOf, NoneAmong, IsMissing, PassedTo, entry_of}
+use Rattle.name_table.specs.Table.{AreMarked, Holds, IsNamed, IsNumberOf, IsLongest, IsTable, IsKept, IsEntryOf, NoneAmong, IsMissing, PassedTo, entry_of}
 use Rattle.std.specs.Int.Bits.{bit_or}
 use Rattle.std.proofs.lemmas.Nat.{or_block}
 use Rattle.std.proofs.lemmas.Bool.{agree_below_at}
@@ -354,22 +354,33 @@ length_lowered (label ∷ name) =
     let low = map to_ascii_lowercase label in
     omega (arith, length-append low (spelled (lowered name)), length-append label (spelled name), length-map label to_ascii_lowercase, length_lowered name)
 
--- a name that has more bytes than any isn't there
-too_long : (most : ℕ) (o : Option (List (List ℕ))) (key : List (List ℕ)) → ((name : List (List ℕ)) → o ≡ Some name → length (spelled name) ≤ most) → option_map lowered o ≡ Some (lowered key) → length (spelled key) ≤ most
-too_long most None key h e = absurd cc
-too_long most (Some name) key h e =
+-- a name is as long as one that is the same
+marked_too : (lengths : List Bool) (o : Option (List (List ℕ))) (key : List (List ℕ)) → ((name : List (List ℕ)) → o ≡ Some name → slice_index_or lengths (length (spelled name)) false ≡ true) → option_map lowered o ≡ Some (lowered key) → slice_index_or lengths (length (spelled key)) false ≡ true
+marked_too lengths None key h e = absurd cc
+marked_too lengths (Some name) key h e =
     let same : lowered name ≡ lowered key = cc in
     let both : length (spelled (lowered name)) ≡ length (spelled (lowered key)) = ap (λ (n : List (List ℕ)). length (spelled n)) same in
-    omega (arith, h name refl, both, length_lowered name, length_lowered key)
+    let long : length (spelled key) ≡ length (spelled name) = omega (arith, both, length_lowered name, length_lowered key) in
+    ap (λ at. slice_index_or lengths at false) long ∙ h name refl
 
-pub none_longer : (names : List (List (List ℕ))) (most : ℕ) (key : List (List ℕ)) (wire : List ℕ) → AreWithin names most → wire ≡ spelled key → most < length wire → IsMissing names key
-none_longer names most key wire within is long i n = let short = too_long most (slice_get names i) key (within i) n in let same = ap length is in absurd (omega (arith, short, same, long))
+pub none_so_long : (names : List (List (List ℕ))) (lengths : List Bool) (key : List (List ℕ)) (wire : List ℕ) → AreMarked names lengths → wire ≡ spelled key → slice_index_or lengths (length wire) false ≡ false → IsMissing names key
+none_so_long names lengths key wire marked is none i n =
+    let yes = marked_too lengths (slice_get names i) key (marked i) n in
+    let no = ap (λ (w : List ℕ). slice_index_or lengths (length w) false) (sym is) ∙ none in
+    let clash : true ≡ false = sym yes ∙ no in
+    absurd cc
 
-pub within_more : (names : List (List (List ℕ))) (before after : ℕ) → AreWithin names before → before ≤ after → AreWithin names after
-within_more names before after within le i name at = omega (arith, within i name at, le)
+set_mark : (lengths : List Bool) (at other : ℕ) → slice_index_or lengths other false ≡ true → slice_index_or (set lengths at true) other false ≡ true
+set_mark [] at other e = absurd cc
+set_mark (mark ∷ lengths) zero zero e = refl
+set_mark (mark ∷ lengths) zero (suc other) e = e
+set_mark (mark ∷ lengths) (suc at) zero e = e
+set_mark (mark ∷ lengths) (suc at) (suc other) e = set_mark lengths at other e
 
-pub within_push : (names : List (List (List ℕ))) (name : List (List ℕ)) (most : ℕ) → AreWithin names most → length (spelled name) ≤ most → AreWithin (names ++ name ∷ []) most
-within_push names name most within le i other at = elim (either names name other i at) [
-  | inl old ↦ within i other old
-  | inr new ↦ let same = ap (λ (n : List (List ℕ)). length (spelled n)) new.1 in omega (arith, le, same)
+pub mark_push : (names : List (List (List ℕ))) (name : List (List ℕ)) (lengths : List Bool) (at : ℕ) → AreMarked names lengths → at ≡ length (spelled name) → at < length lengths → AreMarked (names ++ name ∷ []) (set lengths at true)
+mark_push names name lengths at marked is inside i other stands = elim (either names name other i stands) [
+  | inl old ↦ set_mark lengths at (length (spelled other)) (marked i other old)
+  | inr new ↦
+      let same : length (spelled other) ≡ at = ap (λ (n : List (List ℕ)). length (spelled n)) (sym new.1) ∙ sym is in
+      ap (λ here. slice_index_or (set lengths at true) here false) same ∙ get_or-set_same lengths at true false inside
 ]

@@ -1,5 +1,6 @@
 -- A table of names: a list of names, and buckets of their numbers. This server's own rule.
-use Rattle.std.specs.Prelude.{◌≡◌, ℕ, ◌<◌, ◌≤◌, ◌^◌, List, length, drop, Some, slice_get}
+use Rattle.std.specs.Prelude.{◌≡◌, ℕ, ◌<◌, ◌≤◌, ◌^◌, Bool, true, false, List, length, drop}
+use Rattle.std.specs.Prelude.{Some, slice_get, slice_index_or}
 use Rattle.std.specs.Option.{option_map}
 use Rattle.dns_data.specs.Name.{IsName, spelled, lowered}
 use Rattle.name_table.specs.Hash.{hash_of, place_of}
@@ -50,10 +51,10 @@ pub record IsTable (names : List (List (List ℕ))) (buckets : List (List Entry)
   pub distinct : (i j : ℕ) (key : List (List ℕ)) → IsNamed names i key → IsNamed names j key
       → i ≡ j
 
--- no name has more bytes in wire format
-abbrev pub AreWithin : List (List (List ℕ)) → ℕ → Type 0
-AreWithin names most = (i : ℕ) (name : List (List ℕ)) → slice_get names i ≡ Some name
-    → length (spelled name) ≤ most
+-- for each name the number of its bytes in wire format is marked
+abbrev pub AreMarked : List (List (List ℕ)) → List Bool → Type 0
+AreMarked names lengths = (i : ℕ) (name : List (List ℕ)) → slice_get names i ≡ Some name
+    → slice_index_or lengths (length (spelled name)) false ≡ true
 
 -- the entry has this hash, and its number is the name's
 pub record IsEntryOf (names : List (List (List ℕ))) (entry : Entry) (key : List (List ℕ))

@@ -12,26 +12,29 @@ use dns_data::{Labels, Name, NoMemory};
 use std::alloc::Global;
 use std::marker::Model;
 
+// A name has at most 254 bytes in wire format, the zero byte aside.
+const LENGTHS: usize = 256;
+
 /// Names, no two of which are the same, ASCII case aside. Contracts see their list: the number of
 /// a name is its place there.
 #[derive(Debug, Drop)]
 pub struct NameTable {
     names: Vec<Name>,
     buckets: Vec<Bucket>,
-    /// No name has more bytes in wire format.
-    most: usize,
+    /// For each number of bytes in wire format, whether a name has so many.
+    lengths: [bool; LENGTHS],
 }
 
 impl Model for NameTable {
     ghost use Rattle.std.specs.Prelude.{ℕ, List};
-    ghost use Rattle.name_table.specs.Table.{AreWithin, IsTable};
+    ghost use Rattle.name_table.specs.Table.{AreMarked, IsTable};
 
     ghost Value = { List (List (List ℕ)) };
 
     ghost view = { λ t. t.names.items };
 
     ghost invariant = { λ t. IsTable t.names.items t.buckets.items
-        × AreWithin t.names.items t.most };
+        × AreMarked t.names.items t.lengths };
 }
 
 /// A suffix that a table has: how many labels of the whole name stand above it, and its number.
@@ -55,7 +58,7 @@ impl NameTable {
         Ok(NameTable {
             names: Vec::new(alloc),
             buckets,
-            most: 0,
+            lengths: [false; LENGTHS],
         })
     }
 
@@ -73,12 +76,12 @@ impl NameTable {
         ensures err { OnErr result (self.new ≡ self.old) }
     {
         let wire = name.as_wire();
-        let hash = hash_of(wire);
-        self.most = self.most.max(wire.len());
+        let (hash, bytes) = (hash_of(wire), wire.len());
         let place = place_of(hash, self.buckets.len());
         let number = self.names.len();
         self.buckets[place].push(Entry { hash, number })?;
         self.names.push(name)?;
+        self.lengths[bytes] = true;
         Ok(())
     }
 
@@ -89,7 +92,7 @@ impl NameTable {
         ensures none { IfNone result (IsMissing self.now key.now) }
     {
         let wire = key.as_wire();
-        if self.most < wire.len() {
+        if !self.lengths[wire.len()] {
             return None;
         }
         self.find_hashed(key, hash_of(wire))

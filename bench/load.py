@@ -1,7 +1,87 @@
 """What the benches share that put load on a running server: programs in C, and the CPU time of a process."""
 import os
 import shutil
+import struct
 import subprocess
+
+# Threads that keep so many queries under way on each of so many sockets over UDP, sent and received by bursts, so that a server
+# has the next query before it has answered the last one: PORT THREADS SOCKETS WINDOW QUERIES FILE. The file has the queries, each
+# behind its length. Prints how many were sent and how many replies came.
+ASKS = r"""
+#define _GNU_SOURCE
+#include <arpa/inet.h>
+#include <poll.h>
+#include <pthread.h>
+#include <stdio.h>
+#include <stdlib.h>
+#include <string.h>
+#include <sys/socket.h>
+#include <unistd.h>
+enum { MOST = 64, QUERIES = 4096 };
+static struct iovec queries[QUERIES];
+static int count, port, sockets, window;
+static long asked;
+struct client { pthread_t thread; long sent, got, next; };
+static void put(struct client *c, int fd, long more, struct mmsghdr *out) {
+    while (more > 0) {
+        int many = more < MOST ? more : MOST;
+        for (int k = 0; k < many; k++) out[k].msg_hdr.msg_iov = &queries[(c->next + k) % count];
+        int now = sendmmsg(fd, out, many, 0);
+        if (now <= 0) break;
+        c->sent += now; c->next += now; more -= now;
+    }
+}
+static void *client(void *one) {
+    struct client *c = one;
+    struct pollfd p[64];
+    unsigned char replies[MOST][512];
+    struct iovec from[MOST];
+    struct mmsghdr out[MOST], in[MOST];
+    memset(out, 0, sizeof out); memset(in, 0, sizeof in);
+    for (int k = 0; k < MOST; k++) {
+        out[k].msg_hdr.msg_iovlen = 1;
+        from[k].iov_base = replies[k]; from[k].iov_len = 512;
+        in[k].msg_hdr.msg_iov = &from[k]; in[k].msg_hdr.msg_iovlen = 1;
+    }
+    struct sockaddr_in at = {.sin_family = AF_INET, .sin_port = htons(port), .sin_addr.s_addr = htonl(INADDR_LOOPBACK)};
+    for (int i = 0; i < sockets; i++) {
+        p[i].fd = socket(AF_INET, SOCK_DGRAM, 0); p[i].events = POLLIN;
+        if (connect(p[i].fd, (struct sockaddr *)&at, sizeof at)) exit(1);
+        put(c, p[i].fd, window, out);
+    }
+    while (c->got < asked) {
+        int some = 0;
+        for (int i = 0; i < sockets; i++) {
+            int now = recvmmsg(p[i].fd, in, MOST, MSG_DONTWAIT, NULL);
+            if (now <= 0) continue;
+            some = 1; c->got += now;
+            put(c, p[i].fd, now < asked - c->sent ? now : asked - c->sent, out);
+        }
+        if (!some && poll(p, sockets, 1000) == 0) break;
+    }
+    return NULL;
+}
+int main(int n, char **a) {
+    FILE *file = fopen(a[6], "rb");
+    unsigned char size[2];
+    while (file && count < QUERIES && fread(size, 1, 2, file) == 2) {
+        queries[count].iov_len = 256 * size[0] + size[1];
+        queries[count].iov_base = malloc(queries[count].iov_len);
+        if (fread(queries[count].iov_base, 1, queries[count].iov_len, file) != queries[count].iov_len) return 1;
+        count++;
+    }
+    if (count == 0) return 1;
+    struct client c[16] = {0};
+    int threads = atoi(a[2]);
+    port = atoi(a[1]); sockets = atoi(a[3]); window = atoi(a[4]); asked = atol(a[5]) / threads;
+    for (int t = 0; t < threads; t++) c[t].next = t * 997;
+    for (int t = 0; t < threads; t++) pthread_create(&c[t].thread, NULL, client, &c[t]);
+    long sent = 0, got = 0;
+    for (int t = 0; t < threads; t++) { pthread_join(c[t].thread, NULL); sent += c[t].sent; got += c[t].got; }
+    printf("%ld %ld\n", sent, got);
+    return 0;
+}
+"""
 
 
 def built(folder, name, source):
@@ -9,7 +89,7 @@ def built(folder, name, source):
     path = os.path.join(folder, name)
     with open(path + ".c", "w") as file:
         file.write(source)
-    subprocess.run([shutil.which("cc") or "clang", "-O2", "-o", path, path + ".c"], check=True)
+    subprocess.run([shutil.which("cc") or "clang", "-O2", "-pthread", "-o", path, path + ".c"], check=True)
     return path
 
 
@@ -24,3 +104,30 @@ def resident(pid):
     """The resident memory of a process, in KiB."""
     with open(f"/proc/{pid}/status") as file:
         return next(int(line.split()[1]) for line in file if line.startswith("VmRSS"))
+
+
+def queries_file(folder, queries):
+    """A file of queries for `ASKS`."""
+    path = os.path.join(folder, "queries")
+    with open(path, "wb") as file:
+        for query in queries:
+            file.write(struct.pack(">H", len(query)) + query)
+    return path
+
+
+def spent_by_all(pid):
+    """User and system time of a process and of those below it, in seconds."""
+    parents = {}
+    for entry in os.listdir("/proc"):
+        if entry.isdigit():
+            try:
+                with open(f"/proc/{entry}/stat") as file:
+                    parents[int(entry)] = int(file.read().rsplit(")", 1)[1].split()[1])
+            except OSError:
+                pass
+    family, more = {pid}, {pid}
+    while more:
+        more = {child for child, parent in parents.items() if parent in more} - family
+        family |= more
+    times = [spent(member) for member in family]
+    return [sum(each) for each in zip(*times)]

@@ -4,58 +4,18 @@ Where a server answers otherwise for a reason that is known, the reason has a fu
 of them is a row that failed. NSD and Knot are skipped with a word where they aren't installed.
 """
 import os
-import shutil
-import socket
-import subprocess
 import sys
 import tempfile
-import time
 from collections import Counter
 
 sys.path.insert(0, os.path.join(os.path.dirname(os.path.abspath(__file__)), "lib"))
 from made_zones import MadeZone  # noqa: E402
 from message import query_bytes, reply_lines  # noqa: E402
-from program import PROGRAM, Rows, free_port, needs_program  # noqa: E402
+from program import Rows, needs_program  # noqa: E402
+from servers import KNOT, NSD, dnschain, knot, nsd, write  # noqa: E402
 
-START_SECONDS = 60
 # A block has at most 64 directives, so the zones stand below two names.
 ZONES, GROUPS, QUESTIONS = 100, 2, 20
-NSD = shutil.which("nsd") or ("/usr/sbin/nsd" if os.path.exists("/usr/sbin/nsd") else None)
-KNOT = shutil.which("knotd") or ("/usr/sbin/knotd" if os.path.exists("/usr/sbin/knotd") else None)
-NSD_CONF = """server:
-  ip-address: 127.0.0.1@{port}
-  username: ""
-  zonesdir: "{room}"
-  database: ""
-  logfile: "{room}/nsd.log"
-  pidfile: "{room}/nsd.pid"
-  xfrdfile: "{room}/xfrd.state"
-  xfrdir: "{room}"
-  zonelistfile: "{room}/zone.list"
-  server-count: 1
-  minimal-responses: no
-  round-robin: no
-  rrl-ratelimit: 0
-remote-control:
-  control-enable: no
-"""
-KNOT_CONF = """server:
-  listen: 127.0.0.1@{port}
-  rundir: "{room}"
-  udp-workers: 1
-  tcp-workers: 1
-  background-workers: 1
-database:
-  storage: "{room}/knot"
-log:
-  - target: "{room}/knot.log"
-    any: warning
-template:
-  - id: default
-    storage: "{room}"
-    semantic-checks: soft
-zone:
-"""
 
 
 def in_small_letters(record):
@@ -129,75 +89,18 @@ SHARED = [an_alias_leads_below_a_cut, aliases_in_a_circle, one_type_for_any]
 KNOWN = {"NSD": [an_alias_leads_out_of_the_zone, *SHARED], "Knot": [no_ns_beside_an_answer, *SHARED]}
 
 
-class Server:
-    """A server of the zones on a port of its own."""
-
-    def __init__(self, name, words, port, room):
-        self.name, self.port = name, port
-        self.errors = open(os.path.join(room, name + ".stderr"), "wb")
-        self.process = subprocess.Popen(words, stdout=subprocess.DEVNULL, stderr=self.errors)
-        self.socket = socket.socket(socket.AF_INET, socket.SOCK_DGRAM)
-        self.socket.connect(("127.0.0.1", port))
-
-    def ask(self, query, seconds=2.0):
-        self.socket.settimeout(seconds)
-        try:
-            self.socket.send(query)
-            while True:
-                reply = self.socket.recv(65535)
-                if reply[:2] == query[:2]:
-                    return reply
-        except (TimeoutError, ConnectionRefusedError):
-            return None
-
-    def is_serving(self, query):
-        end = time.monotonic() + START_SECONDS
-        while time.monotonic() < end and self.process.poll() is None:
-            reply = self.ask(query, 0.2)
-            if reply is not None and reply[3] & 15 == 0:
-                return True
-            time.sleep(0.05)
-        return False
-
-    def end(self):
-        self.socket.close()
-        if self.process.poll() is None:
-            self.process.terminate()
-        try:
-            self.process.wait(START_SECONDS)
-        except subprocess.TimeoutExpired:
-            self.process.kill()
-            self.process.wait(START_SECONDS)
-        self.errors.close()
-
-
-def write(room, name, text):
-    path = os.path.join(room, name)
-    with open(path, "w") as file:
-        file.write(text)
-    return path
-
-
 def started(room, zones):
     """The servers that are there, this program first."""
-    port = free_port()
     blocks = ""
     for group in range(GROUPS):
         files = "".join(f"\tfile {room}/{zone.origin}zone {zone.origin}\n" for zone in zones[group::GROUPS])
-        blocks += f"g{group}.test:{port} {{\n{files}}}\n"
-    conf = write(room, "Corefile", blocks)
-    yield Server("dnschain", [PROGRAM, "serve", "--conf", conf], port, room)
+        blocks += f"g{group}.test:{{port}} {{\n{files}}}\n"
+    yield dnschain(room, blocks)
+    of_files = [(zone.origin, f"{room}/{zone.origin}zone") for zone in zones]
     if NSD:
-        port = free_port()
-        zone_lines = "".join(f'zone:\n  name: "{zone.origin}"\n  zonefile: "{room}/{zone.origin}zone"\n' for zone in zones)
-        conf = write(room, "nsd.conf", NSD_CONF.format(port=port, room=room) + zone_lines)
-        yield Server("NSD", [NSD, "-d", "-c", conf], port, room)
+        yield nsd(room, of_files)
     if KNOT:
-        port = free_port()
-        os.mkdir(os.path.join(room, "knot"))
-        zone_lines = "".join(f'  - domain: "{zone.origin}"\n    file: "{room}/{zone.origin}zone"\n' for zone in zones)
-        conf = write(room, "knot.conf", KNOT_CONF.format(port=port, room=room) + zone_lines)
-        yield Server("Knot", [KNOT, "-c", conf], port, room)
+        yield knot(room, of_files)
 
 
 def compare(rows, ours, server, asked):

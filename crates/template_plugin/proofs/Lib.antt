@@ -1,0 +1,6 @@
+mod Before
+mod Cutting
+mod Judged
+mod Saying
+mod Searched
+mod Codes

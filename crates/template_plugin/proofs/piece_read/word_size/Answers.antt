@@ -1,0 +1,15 @@
+use Rattle.std.proofs.Common.{rules, tests}
+use Rattle.std.proofs.lemmas.Iterator.{YieldsList-from_slice}
+use Rattle.std.proofs.lemmas.Iterator.Search.{position_from_yields_List}
+use Rattle.template_plugin.specs.Pieces.{is_space}
+use Rattle.template_plugin.proofs.Before.{size_before, before-le}
+use Rattle.template_plugin.proofs.piece_read.word_size.Goals as goal
+
+pub returns-clause-value : goal.returns-clause-value
+returns-clause-value c =
+    let text = c.args.text.now in
+    let at = position_from_yields_List is_space _ _ c.position.result c.position.ensures.ran (YieldsList-from_slice text cc) (λ x b q k. search (rules, tests)) in
+    size_before is_space text c.position.result c.unwrap_or.result at c.unwrap_or.ensures
+
+pub returns-clause-inside : goal.returns-clause-inside
+returns-clause-inside c = rw (returns-clause-value c) (before-le is_space c.args.text.now)

@@ -1,0 +1,24 @@
+//! The plugin `template`: records that are made of a query by patterns and texts.
+#![tactic(auto)]
+
+mod answering;
+mod compile;
+mod filling;
+mod lines;
+mod options;
+mod part;
+mod piece;
+mod piece_read;
+mod plan;
+mod reading;
+mod say;
+mod searching;
+#[cfg(test)]
+mod tests;
+mod words;
+
+pub use options::{Earlier, Opens, Seen};
+pub use part::{Part, Sections};
+pub use piece::{Piece, Place};
+pub use plan::TemplatePlan;
+pub use say::{TemplateRoom, TemplateSay, decide};

@@ -1,0 +1,20 @@
+use dns_data::{Bytes, Seq};
+
+/// A piece of a text as it is filled in, with groups by their numbers.
+#[derive(Debug, Drop)]
+pub enum Part {
+    Bytes(Bytes),
+    Name,
+    Zone,
+    Type,
+    Remote,
+    Group(usize),
+}
+
+/// The texts of the three sections of an answer.
+#[derive(Debug, Drop)]
+pub struct Sections {
+    pub answer: Seq<Seq<Part>>,
+    pub authority: Seq<Seq<Part>>,
+    pub additional: Seq<Seq<Part>>,
+}

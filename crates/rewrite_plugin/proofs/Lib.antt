@@ -1,0 +1,6 @@
+mod Faults
+mod Finding
+mod Making
+mod Patterns
+mod Told
+mod Skips

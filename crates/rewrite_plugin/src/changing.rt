@@ -1,0 +1,171 @@
+ghost use Rattle.std.specs.Prelude.{◌≡◌, [], is_some, length, take, IfOk, OnOk};
+ghost use Rattle.rewrite_plugin.specs.declared.rule.Rule.TheVariants as rule;
+ghost use Rattle.rewrite_plugin.specs.Rewrite.{applied_by, changed_by, goes_on_by, written_of};
+ghost use Rattle.rewrite_plugin.specs.Rules.{applied, matcher_patterns, searched, step_behind};
+ghost use Rattle.rewrite_plugin.specs.Rules.{stepped, unchanged};
+
+use crate::finder::Finder;
+use crate::plan::RewritePlan;
+use crate::plan_data::{Changed, Step};
+use crate::renaming::{is_matched, renamed, searched};
+use crate::room::RewriteRoom;
+use crate::rule::{Renaming, Rule};
+use dns_data::{Copies, Name, NoMemory, Query, Text};
+use std::alloc::Global;
+use std::mem;
+
+/// Applies the rules of a block to a query, in the order of the text.
+#[tactic(auto, unfolding(crate::specs::Rewrite::changed_by))]
+pub fn change(
+    alloc: Global,
+    plans: &[RewritePlan],
+    query: &Query,
+    room: &mut RewriteRoom,
+    changed: &mut Changed,
+) -> Result<(), NoMemory>
+    ensures { OnOk result (changed.new ≡ changed_by plans.now query.now) }
+{
+    start(query, changed)?;
+    let mut text = searched(alloc, &query.name)?;
+    let mut number = 0;
+    let mut rest = plans;
+    while let Some((plan, behind)) = rest.split_first() {
+        if apply(alloc, plan, number, &mut text, room, changed)? {
+            if !goes_on(plan) {
+                return Ok(());
+            }
+        }
+        number += 1;
+        rest = behind;
+    }
+    Ok(())
+}
+
+// The query, to which nothing was applied.
+fn start(query: &Query, changed: &mut Changed) -> Result<(), NoMemory>
+    ensures { OnOk result (changed.new ≡ unchanged query.now) }
+{
+    changed.steps.clear();
+    changed.query.name.set(&query.name)?;
+    changed.query.kind = query.kind;
+    changed.query.dnssec = query.dnssec;
+    changed.query.cd = query.cd;
+    changed.query.rd = query.rd;
+    changed.query.edns = query.edns;
+    changed.query.client = query.client;
+    changed.query.port = query.port;
+    changed.query.by = query.by;
+    changed.query.local = query.local;
+    Ok(())
+}
+
+// Whether the next rule is tried behind this one.
+fn goes_on(plan: &RewritePlan) -> bool
+    ensures { result ≡ goes_on_by (written_of plan.now) }
+{
+    plan.written.goes_on
+}
+
+// Applies a rule, whose number this is; false where it doesn't match.
+fn apply(
+    alloc: Global,
+    plan: &RewritePlan,
+    number: usize,
+    text: &mut Text,
+    room: &mut RewriteRoom,
+    changed: &mut Changed,
+) -> Result<bool, NoMemory>
+    requires { text.old ≡ searched changed.old.query.name }
+    ensures applied { IfOk result
+        (λ done. done ≡ is_some (applied_by changed.old.query (written_of plan.now))) }
+    ensures behind { OnOk result (changed.new ≡ step_behind number changed.old
+        (applied_by changed.old.query (written_of plan.now))) }
+    ensures text { OnOk result (text.new ≡ searched changed.new.query.name) }
+{
+    let finders = plan.finders.as_slice();
+    match &plan.written.rule {
+        Rule::Name(renaming) => apply_name(alloc, renaming, finders, number, text, room, changed),
+        Rule::Type(from, to) => apply_type(alloc, *from, *to, number, changed),
+        Rule::Ttl(from, _) => {
+            if !is_matched(from, finders, text.as_str(), room)? {
+                return Ok(false);
+            }
+            note(alloc, number, changed)?;
+            Ok(true)
+        }
+    }
+}
+
+fn apply_name(
+    alloc: Global,
+    renaming: &Renaming,
+    finders: &[Finder],
+    number: usize,
+    text: &mut Text,
+    room: &mut RewriteRoom,
+    changed: &mut Changed,
+) -> Result<bool, NoMemory>
+    requires text { text.old ≡ searched changed.old.query.name }
+    requires finders { take (length (matcher_patterns renaming.now.from)) finders.now
+        ≡ matcher_patterns renaming.now.from }
+    ensures applied { IfOk result
+        (λ done. done ≡ is_some (applied (rule.Name renaming.now) changed.old.query)) }
+    ensures behind { OnOk result (changed.new ≡ step_behind number changed.old
+        (applied (rule.Name renaming.now) changed.old.query)) }
+    ensures text { OnOk result (text.new ≡ searched changed.new.query.name) }
+{
+    match renamed(
+        alloc,
+        &renaming.from,
+        &renaming.to,
+        finders,
+        text.as_str(),
+        room,
+    )? {
+        None => Ok(false),
+        Some(name) => {
+            let after = name.copy(alloc)?;
+            *text = searched(alloc, &name)?;
+            let before = mem::replace(&mut changed.query.name, name);
+            changed.steps.push(Step {
+                rule: number,
+                before,
+                after,
+            })?;
+            Ok(true)
+        }
+    }
+}
+
+fn apply_type(
+    alloc: Global,
+    from: u16,
+    to: u16,
+    number: usize,
+    changed: &mut Changed,
+) -> Result<bool, NoMemory>
+    ensures applied { IfOk result
+        (λ done. done ≡ is_some (applied (rule.Type from to) changed.old.query)) }
+    ensures behind { OnOk result (changed.new ≡ step_behind number changed.old
+        (applied (rule.Type from to) changed.old.query)) }
+{
+    if changed.query.kind != from {
+        return Ok(false);
+    }
+    note(alloc, number, changed)?;
+    changed.query.kind = to;
+    Ok(true)
+}
+
+// Notes a rule that leaves the name.
+fn note(alloc: Global, number: usize, changed: &mut Changed) -> Result<(), NoMemory>
+    ensures { OnOk result (changed.new ≡ stepped number changed.old changed.old.query) }
+{
+    let before = changed.query.name.copy(alloc)?;
+    let after = changed.query.name.copy(alloc)?;
+    changed.steps.push(Step {
+        rule: number,
+        before,
+        after,
+    })
+}

@@ -1,0 +1,126 @@
+ghost use Rattle.std.specs.Prelude.{◌≡◌, ◌<◌, ◌++◌, ℕ, [], is_some, slice_index, IfOk, IfSome};
+ghost use Rattle.std.specs.Prelude.{OnOk};
+ghost use Rattle.pattern.specs.Texts.{finding_of};
+ghost use Rattle.rewrite_plugin.specs.Judging.{IsMadeOf, MakesAll, maker_behind};
+ghost use Rattle.rewrite_plugin.specs.Made.{Keeps};
+ghost use Rattle.rewrite_plugin.specs.Texts.{filled};
+
+use crate::text::append_filled;
+use crate::words::PatternAt;
+use dns_data::{Bytes, Copies, Limit, NoMemory, Seq, Text, limit};
+use outside::{Made, PatternMaker};
+use pattern::{Pattern, Scratch};
+use plugin_api::{DirectiveFault, DirectiveWhy};
+use std::alloc::Global;
+use std::marker::Model;
+
+/// A pattern that is made, which contracts see as its text.
+#[derive(Debug, Drop)]
+pub struct Finder {
+    text: Text,
+    pattern: Pattern,
+}
+
+impl Model for Finder {
+    ghost use Rattle.std.specs.Prelude.{ℕ, List};
+    ghost use Rattle.pattern.specs.TextsLaws.{IsOfText};
+
+    ghost Value = { List ℕ };
+
+    ghost view = { λ f. f.text };
+
+    ghost invariant = { λ f. IsOfText f.pattern f.text };
+}
+
+impl Finder {
+    /// Whether the pattern is found in a text. The scratch keeps its groups.
+    pub(crate) fn search(&self, scratch: &mut Scratch, text: &str) -> Result<bool, NoMemory>
+        ensures found { IfOk result (λ found. found ≡ is_some (finding_of self.now text.now)) }
+        ensures keeps { OnOk result
+            (IfSome (finding_of self.now text.now) (Keeps text.now scratch.new)) }
+    {
+        are_bytes(text.as_bytes());
+        match self.pattern.find(scratch, text, true)? {
+            Some(_) => Ok(true),
+            None => Ok(false),
+        }
+    }
+
+    /// Adds what a text becomes in which the pattern is found; false where it isn't.
+    pub(crate) fn fill(
+        &self,
+        scratch: &mut Scratch,
+        text: &str,
+        to: &[u8],
+        out: &mut Bytes,
+    ) -> Result<bool, NoMemory>
+        ensures found { IfOk result (λ found. found ≡ is_some (finding_of self.now text.now)) }
+        ensures filled { OnOk result (IfSome (finding_of self.now text.now)
+            (λ found. out.new ≡ out.old ++ filled found.span text.now to.now)) }
+    {
+        if !self.search(scratch, text)? {
+            return Ok(false);
+        }
+        append_filled(scratch, text, to, out)?;
+        Ok(true)
+    }
+}
+
+// Tells the caller what the type says of each item.
+fn are_bytes(items: &[u8])
+    ensures { (k : ℕ) → slice_index items.now k < 256 }
+{}
+
+/// Makes patterns behind so many of the configuration, or tells the first fault.
+pub(crate) fn make_all<M: PatternMaker>(
+    alloc: Global,
+    before: usize,
+    patterns: &[PatternAt],
+    maker: &mut M,
+) -> Result<Seq<Finder>, DirectiveFault>
+    ensures value { MakesAll before patterns.now result }
+    ensures maker { M.state maker.new ≡ maker_behind result (M.state maker.old) }
+{
+    let mut made = Seq::new(alloc);
+    let mut number = before;
+    let mut rest = patterns;
+    while let Some((pattern, behind)) = rest.split_first() {
+        if limit::PATTERNS <= number {
+            return Err(DirectiveFault::TooMany {
+                what: Limit::Patterns,
+                number: limit::PATTERNS as u64 + 1,
+            });
+        }
+        match make_finder(alloc, pattern, maker) {
+            Err(fault) => return Err(fault),
+            Ok(finder) => made.push(finder)?,
+        }
+        number += 1;
+        rest = behind;
+    }
+    Ok(made)
+}
+
+// Makes a pattern.
+fn make_finder<M: PatternMaker>(
+    alloc: Global,
+    found: &PatternAt,
+    maker: &mut M,
+) -> Result<Finder, DirectiveFault>
+    ensures value { IsMadeOf found.now result }
+    ensures maker { M.state maker.new ≡ maker_behind result (M.state maker.old) }
+{
+    let text = found.text.copy(alloc)?;
+    match maker.make(alloc, &found.text) {
+        Made::Pattern(pattern) => Ok(Finder { text, pattern }),
+        Made::NotPattern => Err(DirectiveFault::Why {
+            line: found.line,
+            why: DirectiveWhy::Pattern,
+        }),
+        Made::Refused => Err(DirectiveFault::Why {
+            line: found.line,
+            why: DirectiveWhy::PatternSize,
+        }),
+        Made::NoMemory => Err(DirectiveFault::NoMemory),
+    }
+}

@@ -1,0 +1,59 @@
+ghost use Rattle.std.specs.Prelude.{◌≡◌};
+ghost use Rattle.rewrite_plugin.specs.Judging.{ReadsRewrite, maker_behind};
+
+use crate::finder::{Finder, make_all};
+use crate::reading::read_written;
+use crate::rule::Written;
+use dns_data::{Copies, Directive, Seq};
+use outside::PatternMaker;
+use plugin_api::DirectiveFault;
+use std::alloc::Global;
+use std::marker::Model;
+
+/// A directive `rewrite`, with what was made of its words once. Contracts see the directive.
+#[derive(Debug, Drop)]
+pub struct RewritePlan {
+    directive: Directive,
+    pub(crate) written: Written,
+    pub(crate) finders: Seq<Finder>,
+}
+
+impl Model for RewritePlan {
+    ghost use Rattle.dns_data.specs.declared.directive.Directive.{Directive};
+    ghost use Rattle.rewrite_plugin.specs.Made.{IsMade};
+
+    ghost Value = { Directive };
+
+    ghost view = { λ p. p.directive };
+
+    ghost invariant = { λ p. IsMade p.directive p.written p.finders };
+}
+
+impl RewritePlan {
+    /// Reads a directive behind so many patterns of the configuration, or says what is wrong with
+    /// it.
+    pub fn read<M: PatternMaker>(
+        alloc: Global,
+        directive: &Directive,
+        patterns: usize,
+        maker: &mut M,
+    ) -> Result<RewritePlan, DirectiveFault>
+        ensures value { ReadsRewrite patterns directive.now result }
+        ensures maker { M.state maker.new ≡ maker_behind result (M.state maker.old) }
+    {
+        let own = directive.copy(alloc)?;
+        let mut found = Seq::new(alloc);
+        let read = read_written(alloc, directive, &mut found)?;
+        match make_all(alloc, patterns, found.as_slice(), maker) {
+            Err(fault) => Err(fault),
+            Ok(finders) => match read {
+                Err(fault) => Err(fault),
+                Ok(written) => Ok(RewritePlan {
+                    directive: own,
+                    written,
+                    finders,
+                }),
+            },
+        }
+    }
+}

@@ -1,0 +1,176 @@
+ghost use Rattle.std.specs.Prelude.{◌≡◌, ◌++◌, ◌-◌, [], true, length, take, drop, IfOk, OnOk};
+ghost use Rattle.dns_data.specs.{name_of};
+ghost use Rattle.plugin_api.specs.{is_word};
+ghost use Rattle.rewrite_plugin.specs.declared.rule.Matcher.TheVariants as matcher;
+ghost use Rattle.rewrite_plugin.specs.Rules.{is_matched, matcher_patterns, renamed_text, searched};
+ghost use Rattle.rewrite_plugin.specs.Rules.{turned};
+ghost use Rattle.rewrite_plugin.specs.Texts.{begins, ends, has_part, replaced};
+
+use crate::finder::Finder;
+use crate::room::RewriteRoom;
+use crate::rule::Matcher;
+use crate::text::{append_replaced, begins, ends, has_part};
+use dns_data::{Bytes, Name, NameFault, NoMemory, Text};
+use pattern::Scratch;
+use std::alloc::Global;
+
+/// The text of a name that rules look at: in small letters, with its last dot.
+pub(crate) fn searched(alloc: Global, name: &Name) -> Result<Text, NoMemory>
+    ensures { IfOk result (λ text. text ≡ searched name.now) }
+{
+    name.lower(alloc)?.text(alloc)
+}
+
+/// The name that a text becomes; None where it doesn't match, or the result is no name. The pattern
+/// that is sought, if any, stands first.
+#[tactic(auto, unfolding(crate::specs::Rules::renamed_text))]
+pub(crate) fn renamed(
+    alloc: Global,
+    from: &Matcher,
+    to: &Bytes,
+    finders: &[Finder],
+    text: &str,
+    room: &mut RewriteRoom,
+) -> Result<Option<Name>, NoMemory>
+    requires { take (length (matcher_patterns from.now)) finders.now ≡ matcher_patterns from.now }
+    ensures { IfOk result (λ name. name ≡ renamed_text from.now to.now text.now) }
+{
+    room.out.clear();
+    if !turn(from, to, finders, text, &mut room.scratch, &mut room.out)? {
+        return Ok(None);
+    }
+    read_name(alloc, room.out.as_slice())
+}
+
+/// The name that a text becomes by a pattern; None where it isn't found, or the result is no name.
+#[tactic(auto, unfolding(crate::specs::Rules::renamed_text))]
+pub(crate) fn renamed_by(
+    alloc: Global,
+    finder: &Finder,
+    to: &Bytes,
+    text: &str,
+    room: &mut RewriteRoom,
+) -> Result<Option<Name>, NoMemory>
+    ensures made { IfOk result
+        (λ name. name ≡ renamed_text (matcher.Regex finder.now) to.now text.now) }
+    ensures spare { room.new.spare ≡ room.old.spare }
+{
+    room.out.clear();
+    if !finder.fill(&mut room.scratch, text, to.as_slice(), &mut room.out)? {
+        return Ok(None);
+    }
+    read_name(alloc, room.out.as_slice())
+}
+
+// The name that a text spells below the root.
+fn read_name(alloc: Global, text: &[u8]) -> Result<Option<Name>, NoMemory>
+    ensures { IfOk result (λ name. name ≡ name_of text.now []) }
+{
+    match Name::read(alloc, text, &Name::root(alloc)) {
+        Ok(name) => Ok(Some(name)),
+        Err(NameFault::Bad) => Ok(None),
+        Err(NameFault::NoMemory) => Err(NoMemory),
+    }
+}
+
+// Adds what a text becomes in which it stands; false where it doesn't.
+fn turn(
+    from: &Matcher,
+    to: &Bytes,
+    finders: &[Finder],
+    text: &str,
+    scratch: &mut Scratch,
+    out: &mut Bytes,
+) -> Result<bool, NoMemory>
+    requires { take (length (matcher_patterns from.now)) finders.now ≡ matcher_patterns from.now }
+    ensures matched { IfOk result (λ matched. matched ≡ is_matched from.now text.now) }
+    ensures turned { OnOk result (is_matched from.now text.now ≡ true
+        → out.new ≡ out.old ++ turned from.now to.now text.now) }
+{
+    let bytes = text.as_bytes();
+    match from {
+        Matcher::Exact(from) => turn_exact(from.as_slice(), to, bytes, out),
+        Matcher::Prefix(from) => turn_prefix(from.as_slice(), to, bytes, out),
+        Matcher::Suffix(from) => turn_suffix(from.as_slice(), to, bytes, out),
+        Matcher::Substring(from) => turn_substring(from.as_slice(), to, bytes, out),
+        Matcher::Regex(_) => match finders.split_first() {
+            Some((finder, _)) => finder.fill(scratch, text, to.as_slice(), out),
+            // There is one: the patterns of a directive are made when it is read.
+            None => Err(NoMemory),
+        },
+    }
+}
+
+fn turn_exact(from: &[u8], to: &Bytes, text: &[u8], out: &mut Bytes) -> Result<bool, NoMemory>
+    ensures matched { IfOk result (λ matched. matched ≡ is_word text.now from.now) }
+    ensures turned { OnOk result (is_word text.now from.now ≡ true
+        → out.new ≡ out.old ++ to.now) }
+{
+    if text != from {
+        return Ok(false);
+    }
+    out.append(to.as_slice())?;
+    Ok(true)
+}
+
+fn turn_prefix(from: &[u8], to: &Bytes, text: &[u8], out: &mut Bytes) -> Result<bool, NoMemory>
+    ensures matched { IfOk result (λ matched. matched ≡ begins from.now text.now) }
+    ensures turned { OnOk result (begins from.now text.now ≡ true
+        → out.new ≡ out.old ++ (to.now ++ drop (length from.now) text.now)) }
+{
+    if !begins(from, text) {
+        return Ok(false);
+    }
+    out.append(to.as_slice())?;
+    out.append(&text[from.len()..])?;
+    Ok(true)
+}
+
+fn turn_suffix(from: &[u8], to: &Bytes, text: &[u8], out: &mut Bytes) -> Result<bool, NoMemory>
+    ensures matched { IfOk result (λ matched. matched ≡ ends from.now text.now) }
+    ensures turned { OnOk result (ends from.now text.now ≡ true
+        → out.new ≡ out.old ++ (take (length text.now - length from.now) text.now ++ to.now)) }
+{
+    if !ends(from, text) {
+        return Ok(false);
+    }
+    out.append(&text[..text.len() - from.len()])?;
+    out.append(to.as_slice())?;
+    Ok(true)
+}
+
+fn turn_substring(from: &[u8], to: &Bytes, text: &[u8], out: &mut Bytes) -> Result<bool, NoMemory>
+    ensures matched { IfOk result (λ matched. matched ≡ has_part from.now text.now) }
+    ensures turned { OnOk result (has_part from.now text.now ≡ true
+        → out.new ≡ out.old ++ replaced from.now to.now text.now) }
+{
+    if !has_part(from, text) {
+        return Ok(false);
+    }
+    append_replaced(from, to.as_slice(), text, out)?;
+    Ok(true)
+}
+
+/// Whether what is sought stands in a text. The pattern that is sought, if any, stands first.
+pub(crate) fn is_matched(
+    from: &Matcher,
+    finders: &[Finder],
+    text: &str,
+    room: &mut RewriteRoom,
+) -> Result<bool, NoMemory>
+    requires { take (length (matcher_patterns from.now)) finders.now ≡ matcher_patterns from.now }
+    ensures { IfOk result (λ matched. matched ≡ is_matched from.now text.now) }
+{
+    let bytes = text.as_bytes();
+    match from {
+        Matcher::Exact(from) => Ok(bytes == from.as_slice()),
+        Matcher::Prefix(from) => Ok(begins(from.as_slice(), bytes)),
+        Matcher::Suffix(from) => Ok(ends(from.as_slice(), bytes)),
+        Matcher::Substring(from) => Ok(has_part(from.as_slice(), bytes)),
+        Matcher::Regex(_) => match finders.split_first() {
+            Some((finder, _)) => finder.search(&mut room.scratch, text),
+            // There is one: the patterns of a directive are made when it is read.
+            None => Err(NoMemory),
+        },
+    }
+}

@@ -49,69 +49,114 @@ fn refuses_at_the_first_fault(rt: HostRuntime) -> Result<(), Fail> {
     Ok(())
 }
 
+// The name behind the rules, and owner and TTL of the answer's record.
+#[derive(Clone, Copy)]
+struct Want {
+    asked: &'static str,
+    owner: &'static str,
+    seconds: u32,
+}
+
+const TTL: &str = "ttl suffix test 7";
+
+const OLD: &str = r"name regex ^(.+)\.old\.test\.$ {1}.new.test";
+
+const ON: &str = r"continue name regex ^(.+)\.old\.test\.$ {1}.new.test";
+
+const PUBLIC: &str = "name suffix .pub.test .int.test answer auto";
+
 #[test]
 fn rules_are_tried_in_order(rt: HostRuntime) -> Result<(), Fail> {
-    let ttl = "ttl suffix test 7";
-    let old = r"name regex ^(.+)\.old\.test\.$ {1}.new.test";
-    let on = r"continue name regex ^(.+)\.old\.test\.$ {1}.new.test";
-    let public = "name suffix .pub.test .int.test answer auto";
-    for (first, second, name, asked, owner, seconds) in [
-        (old, ttl, "a.old.test.", "a.new.test.", "a.new.test.", 60),
-        (on, ttl, "a.old.test.", "a.new.test.", "a.new.test.", 7),
-        (old, ttl, "a.net.", "a.net.", "a.net.", 60),
+    for (rules, name, want) in [
         (
-            public,
-            ttl,
-            "Web.Pub.test.",
-            "web.int.test.",
-            "Web.Pub.test.",
-            60,
+            [OLD, TTL],
+            "a.old.test.",
+            want("a.new.test.", "a.new.test.", 60),
         ),
         (
-            "name prefix x y..",
-            "name substring a bb",
+            [ON, TTL],
+            "a.old.test.",
+            want("a.new.test.", "a.new.test.", 7),
+        ),
+        ([OLD, TTL], "a.net.", want("a.net.", "a.net.", 60)),
+        (
+            [PUBLIC, TTL],
+            "Web.Pub.test.",
+            want("web.int.test.", "Web.Pub.test.", 60),
+        ),
+        (
+            ["name prefix x y..", "name substring a bb"],
             "xaca.",
-            "xbbcbb.",
-            "xbbcbb.",
-            60,
+            want("xbbcbb.", "xbbcbb.", 60),
         ),
     ] {
-        let mut plans = Seq::new(rt.alloc());
-        plans.push(plan(rt.alloc(), first)?)?;
-        plans.push(plan(rt.alloc(), second)?)?;
-        let (changed, slot) = answered(rt.alloc(), &plans, name, Rdata::A(0x0a00_0005))?;
-        assert!(rt;
-            changed.query.name.equals(&name_of(rt.alloc(), asked)?),
-            "{name}"
-        );
-        let wanted = name_of(rt.alloc(), owner)?;
-        for made in slot.answer.as_slice() {
-            assert!(rt; made.owner.equals(&wanted) && made.ttl == seconds, "{name}");
-        }
-        for made in slot.authority.as_slice() {
-            assert!(rt; made.ttl == 60, "{name}");
-        }
+        assert!(rt; gives(rt.alloc(), &rules, name, want)?, "{name}");
     }
     Ok(())
 }
 
+fn want(asked: &'static str, owner: &'static str, seconds: u32) -> Want {
+    Want {
+        asked,
+        owner,
+        seconds,
+    }
+}
+
+fn gives(alloc: Global, rules: &[&str], name: &str, want: Want) -> Result<bool, Fail> {
+    let mut plans = Seq::new(alloc);
+    for rule in rules {
+        plans.push(plan(alloc, rule)?)?;
+    }
+    let (changed, slot) = answered(alloc, &plans, name, Rdata::A(0x0a00_0005))?;
+    Ok(is_wanted(alloc, &changed, &slot, want)?)
+}
+
+fn is_wanted(alloc: Global, changed: &Changed, slot: &Slot, want: Want) -> Result<bool, NameFault> {
+    let asked = name_of(alloc, want.asked)?;
+    let owner = name_of(alloc, want.owner)?;
+    Ok(
+        changed.query.name.equals(&asked)
+            && is_one(slot.answer.as_slice(), &owner, want.seconds)
+            && is_one(slot.authority.as_slice(), &owner, 60)
+            && is_one(slot.additional.as_slice(), &owner, 60),
+    )
+}
+
+fn is_one(records: &[Record], owner: &Name, seconds: u32) -> bool {
+    match records {
+        [record] => record.owner.equals(owner) && record.ttl == seconds,
+        _ => false,
+    }
+}
+
 #[test]
 fn names_in_data_are_renamed(rt: HostRuntime) -> Result<(), Fail> {
-    let text = r"name a.test b.test answer value (.*)\.int\.$ {1}.pub";
-    let mut plans = Seq::new(rt.alloc());
-    plans.push(plan(rt.alloc(), text)?)?;
     for (target, want) in [("WEB.int.", "web.pub."), ("WEB.ext.", "WEB.ext.")] {
-        let data = Rdata::Cname(name_of(rt.alloc(), target)?);
-        let (_, slot) = answered(rt.alloc(), &plans, "a.test.", data)?;
-        let wanted = name_of(rt.alloc(), want)?;
-        for made in slot.additional.as_slice() {
-            match &made.rdata {
-                Rdata::Cname(name) => assert!(rt; name.equals(&wanted), "{target}"),
-                _ => assert!(rt; false, "{target}"),
-            }
-        }
+        assert!(rt; points_to(rt.alloc(), target, want)?, "{target}");
     }
     Ok(())
+}
+
+// Whether an alias of a target becomes one of another name.
+fn points_to(alloc: Global, target: &str, want: &str) -> Result<bool, Fail> {
+    let text = r"name a.test b.test answer value (.*)\.int\.$ {1}.pub";
+    let mut plans = Seq::new(alloc);
+    plans.push(plan(alloc, text)?)?;
+    let data = Rdata::Cname(name_of(alloc, target)?);
+    let (_, slot) = answered(alloc, &plans, "a.test.", data)?;
+    let wanted = name_of(alloc, want)?;
+    match slot.additional.as_slice() {
+        [record] => Ok(is_alias_of(record, &wanted)),
+        _ => Ok(false),
+    }
+}
+
+fn is_alias_of(record: &Record, wanted: &Name) -> bool {
+    match &record.rdata {
+        Rdata::Cname(name) => name.equals(wanted),
+        _ => false,
+    }
 }
 
 // What the rules make of a query, and of an answer that has one record of its name in each section.

@@ -80,10 +80,17 @@ placed_more c (d ∷ before) ds p = placed_more c before ds (placed_by (rank_of 
 pub placed-push : (c : Context) (before : List Directive) (d : Directive) (p : Places) → placed c (before ++ d ∷ []) p ≡ placed_by (rank_of d.name) c d (placed c before p)
 placed-push c before d p = placed_more c before (d ∷ []) p
 
--- the compiled steps of what was read of a block are its chain
+-- the steps of what was read of a block are its chain
+pub places-steps : (files : List FileText) (block : Block) (places : Places) → places ≡ placed (context_of files block) block.directives no_places
+    → front_in places ++ back_in places ≡ steps_of files block
+unfolding steps_of
+places-steps files block places is =
+    let read = is ∙ all (context_of files block) block.directives no_places in
+    λ i. ap front_in read i ++ ap back_in read i
+
+-- and so are the compiled ones
 pub steps-placed : (files : List FileText) (block : Block) (front : List FrontStep) (back : List BackAnswerer) (places : Places) → places ≡ placed (context_of files block) block.directives no_places
     → map front_of front ≡ front_in places → map back_of back ≡ back_in places → whole front back ≡ steps_of files block
-unfolding steps_of
 steps-placed files block front back places is f b =
-    let read = is ∙ all (context_of files block) block.directives no_places in
-    λ i. (f ∙ ap front_in read) i ++ (b ∙ ap back_in read) i
+    let compiled : whole front back ≡ front_in places ++ back_in places = λ i. f i ++ b i in
+    compiled ∙ places-steps files block places is

@@ -14,7 +14,7 @@ use std::alloc::Global;
 
 /// A header alone, for a query that wasn't read.
 #[tactic(auto, unfolding(chain_meaning::specs::Serving::header_reply))]
-pub(crate) fn header_reply(alloc: Global, head: Head, rcode: u8) -> Result<Bytes, NoMemory>
+pub fn header_reply(alloc: Global, head: Head, rcode: u8) -> Result<Bytes, NoMemory>
     requires { head.opcode < limits.CODE_END }
     ensures { IfOk result (λ bytes. bytes ≡ header_reply head.id head.opcode head.rd rcode) }
 {
@@ -24,7 +24,7 @@ pub(crate) fn header_reply(alloc: Global, head: Head, rcode: u8) -> Result<Bytes
 }
 
 /// As many bytes as a reply may have.
-pub(crate) fn limit_of(by: Transport, opt: Option<Opt>) -> u32
+pub fn limit_of(by: Transport, opt: Option<Opt>) -> u32
     ensures value { result ≡ limit_of by opt }
     ensures range { (limits.UDP_BYTES ≤ result) × (result ≤ limits.MESSAGE_BYTES) }
 {
@@ -38,7 +38,7 @@ pub(crate) fn limit_of(by: Transport, opt: Option<Opt>) -> u32
 }
 
 /// Whether the query has no OPT record or one of version 0.
-pub(crate) fn is_known_version(opt: Option<Opt>) -> bool
+pub fn is_known_version(opt: Option<Opt>) -> bool
     ensures { result ≡ is_known_version opt }
 {
     match opt {
@@ -48,7 +48,7 @@ pub(crate) fn is_known_version(opt: Option<Opt>) -> bool
 }
 
 /// The upper bits of the RCODE that a query gets.
-pub(crate) fn upper_code(opt: Option<Opt>) -> u8
+pub fn upper_code(opt: Option<Opt>) -> u8
     ensures { result ≡ upper_code opt }
 {
     if is_known_version(opt) {
@@ -58,7 +58,7 @@ pub(crate) fn upper_code(opt: Option<Opt>) -> u8
 }
 
 /// The OPT record of a reply, where the query had one.
-pub(crate) fn opt_reply(ext: u8, opt: Option<Opt>) -> Option<Opt>
+pub fn opt_reply(ext: u8, opt: Option<Opt>) -> Option<Opt>
     ensures { result ≡ opt_reply ext opt }
 {
     match opt {
@@ -73,7 +73,7 @@ pub(crate) fn opt_reply(ext: u8, opt: Option<Opt>) -> Option<Opt>
 }
 
 /// The query that a chain is asked. The name is moved and not copied.
-pub(crate) fn query_of(datagram: &Datagram, asked: Asked) -> Query
+pub fn query_of(datagram: &Datagram, asked: Asked) -> Query
     ensures { result ≡ query_of datagram.now asked }
 {
     let (cd, rd) = (asked.cd, asked.rd);
@@ -102,7 +102,7 @@ pub(crate) fn query_of(datagram: &Datagram, asked: Asked) -> Query
 
 /// The message that answers a query of this id, class and OPT record.
 #[inline]
-pub(crate) fn reply_message<'a>(
+pub fn reply_message<'a>(
     id: u16,
     class: u16,
     opt: Option<Opt>,

@@ -16,6 +16,9 @@ mod plans;
 mod room;
 mod serving;
 
+pub use asking::{
+    header_reply, is_known_version, limit_of, opt_reply, query_of, reply_message, upper_code,
+};
 pub use back::{BackAnswerer, run_back};
 pub use chain::{Chain, build};
 pub use checking::check;

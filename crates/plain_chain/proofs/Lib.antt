@@ -1,0 +1,4 @@
+pub mod Rules
+pub mod Tails
+pub mod Chosen
+pub mod Steps

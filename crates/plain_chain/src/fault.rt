@@ -1,0 +1,22 @@
+use dns_data::NoMemory;
+
+/// Why a datagram has no meaning.
+#[derive(Clone, Copy, Debug, PartialEq, Eq)]
+pub enum PlainFault {
+    /// The bundle is not accepted.
+    Refused,
+    /// The marks end too early, or one is another than what is taken there.
+    Short,
+    NoMemory,
+}
+
+impl From<NoMemory> for PlainFault {
+    ghost use Rattle.std.specs.Prelude.{◌≡◌};
+    ghost use Rattle.plain_chain.specs.declared.fault.PlainFault.TheVariants.{NoMemory as OutOfMemory};
+
+    ghost from_gives = { λ _ fault. fault ≡ OutOfMemory };
+
+    fn from(_: NoMemory) -> PlainFault {
+        PlainFault::NoMemory
+    }
+}

@@ -1,0 +1,44 @@
+ghost use Rattle.dns_data.specs.declared.limit.TheConstants as limits;
+ghost use Rattle.std.specs.Prelude.{◌≡◌, ◌<◌};
+ghost use Rattle.outside.specs.Meanings.{Done};
+ghost use Rattle.chain_meaning.specs.Mean.{nothing};
+ghost use Rattle.chain_meaning.specs.declared.decision.Decision.TheVariants as decision;
+ghost use Rattle.plain_chain.specs.Meant.{meaning_of};
+
+use chain_meaning::Decision;
+use dns_data::{Answer, Records};
+use outside::Mark;
+use std::alloc::Global;
+
+/// What a list of marks means: a decision and the marks that are left; that the marks end too
+/// early; or that one is another than what is taken there.
+#[derive(Debug, Drop)]
+pub(crate) enum Meant<'a> {
+    Done(Decision, &'a [Mark]),
+    More,
+    Off,
+}
+
+/// This RCODE without records, and no mark is taken.
+pub(crate) fn bare<'a>(alloc: Global, rcode: u8, marks: &'a [Mark]) -> Meant<'a>
+    requires { rcode < limits.CODE_END }
+    ensures { meaning_of result ≡ Done (decision.Reply (nothing rcode)) marks.now }
+{
+    Meant::Done(bare_reply(alloc, rcode), marks)
+}
+
+/// A reply with this RCODE and no records.
+pub(crate) fn bare_reply(alloc: Global, rcode: u8) -> Decision
+    requires { rcode < limits.CODE_END }
+    ensures { result ≡ decision.Reply (nothing rcode) }
+{
+    Decision::Reply(Answer {
+        rcode,
+        aa: false,
+        ra: false,
+        tc: false,
+        answer: Records::new(alloc),
+        authority: Records::new(alloc),
+        additional: Records::new(alloc),
+    })
+}

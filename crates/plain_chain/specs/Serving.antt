@@ -1,6 +1,6 @@
--- What a datagram means under a bundle by a list of marks: a reply or none, and how many of the marks
--- are taken; or that the marks end too early, or are others than those that are taken. This server's
--- own rule.
+-- What a datagram means under a bundle by a list of marks: a reply or none, and how many of the
+-- marks are taken; or that the marks end too early, or are others than those that are taken. This
+-- server's own rule.
 use Rattle.std.specs.Prelude.{◌≡◌, ◌≤◌, ◌<◌, ◌⊎◌, ℕ, Bool, true, false, List, length, drop, Option}
 use Rattle.std.specs.Prelude.{Some, None, Result, Ok, Err}
 use Rattle.dns_data.specs.Message.{AnswerData}

@@ -12,9 +12,9 @@ pub enum PlainFault {
 
 impl From<NoMemory> for PlainFault {
     ghost use Rattle.std.specs.Prelude.{◌≡◌};
-    ghost use Rattle.plain_chain.specs.declared.fault.PlainFault.TheVariants.{NoMemory as OutOfMemory};
+    ghost use Rattle.plain_chain.specs.declared.fault.PlainFault.TheVariants as variants;
 
-    ghost from_gives = { λ _ fault. fault ≡ OutOfMemory };
+    ghost from_gives = { λ _ fault. fault ≡ variants.NoMemory };
 
     fn from(_: NoMemory) -> PlainFault {
         PlainFault::NoMemory

@@ -104,6 +104,7 @@ fn say_by(
 ) -> Result<TemplateSay, NameFault> {
     let query = asked(alloc, name)?;
     let mut room = TemplateRoom::new(alloc);
+    slot.clear();
     Ok(decide(alloc, &[plan], &query, &mut room, slot)?)
 }
 

@@ -9,55 +9,35 @@ use std::alloc::Global;
 use std::test::Fail;
 
 #[test]
-fn refuses_at_the_first_fault(rt: HostRuntime) -> Result<(), Fail> {
-    for (args, body, line, why) in [
-        ("continue", "", 2, DirectiveWhy::Args),
-        ("class IN CH", "", 2, DirectiveWhy::Option),
-        ("name regex ( x answer foo", "", 2, DirectiveWhy::Pattern),
-        ("name a b answer name (", "", 2, DirectiveWhy::Pattern),
+fn refuses_at_the_first_word_that_does_not_fit(rt: HostRuntime) -> Result<(), Fail> {
+    for (args, why) in [
+        ("class IN CH", DirectiveWhy::Option),
+        ("name regex ( x answer foo", DirectiveWhy::Pattern),
+        ("type A B", DirectiveWhy::Kind),
+        ("ttl a.test 2147483648", DirectiveWhy::Number),
+    ] {
+        let fault = read(rt.alloc(), args, "")?.err();
+        assert_eq!(rt; fault, Some(DirectiveFault::Why { line: 2, why }), "{args}");
+    }
+    Ok(())
+}
+
+#[test]
+fn refuses_at_the_first_line_that_does_not_fit(rt: HostRuntime) -> Result<(), Fail> {
+    for (body, line, why) in [
+        ("answer auto", 3, DirectiveWhy::Args),
+        ("name a b answer auto|name c d", 4, DirectiveWhy::Args),
         (
-            "name regex (?:a{1000}){1000} x",
-            "",
-            2,
-            DirectiveWhy::PatternSize,
-        ),
-        ("name a b answer foo", "", 2, DirectiveWhy::Option),
-        ("type A B", "", 2, DirectiveWhy::Kind),
-        ("ttl a.test 2147483648", "", 2, DirectiveWhy::Number),
-        ("name a b", "answer auto", 2, DirectiveWhy::Args),
-        ("stop", "answer auto", 3, DirectiveWhy::Args),
-        (
-            "stop",
-            "name a b answer auto|name c d",
-            4,
-            DirectiveWhy::Args,
-        ),
-        (
-            "",
             "name a b|answer name ( x|answer foo",
             4,
             DirectiveWhy::Pattern,
         ),
     ] {
-        let fault = read(rt.alloc(), args, body)?.err();
-        assert_eq!(rt;
-            fault,
-            Some(DirectiveFault::Why { line, why }),
-            "{args}|{body}"
-        );
+        let fault = read(rt.alloc(), "stop", body)?.err();
+        assert_eq!(rt; fault, Some(DirectiveFault::Why { line, why }), "{body}");
     }
     Ok(())
 }
-
-// The name behind the rules, and owner and TTL of the answer's record.
-#[derive(Clone, Copy)]
-struct Want {
-    asked: &'static str,
-    owner: &'static str,
-    seconds: u32,
-}
-
-const TTL: &str = "ttl suffix test 7";
 
 const OLD: &str = r"name regex ^(.+)\.old\.test\.$ {1}.new.test";
 
@@ -65,62 +45,49 @@ const ON: &str = r"continue name regex ^(.+)\.old\.test\.$ {1}.new.test";
 
 const PUBLIC: &str = "name suffix .pub.test .int.test answer auto";
 
+// A rule, a name, the name behind the rule and the one behind it that sets a TTL, and the owner and
+// TTL of the answer's record.
 #[test]
 fn rules_are_tried_in_order(rt: HostRuntime) -> Result<(), Fail> {
-    for (rules, name, want) in [
+    for (rule, name, asked, owner, seconds) in [
+        (OLD, "a.old.test.", "a.new.test.", "a.new.test.", 60),
+        (ON, "a.old.test.", "a.new.test.", "a.new.test.", 7),
         (
-            [OLD, TTL],
-            "a.old.test.",
-            want("a.new.test.", "a.new.test.", 60),
-        ),
-        (
-            [ON, TTL],
-            "a.old.test.",
-            want("a.new.test.", "a.new.test.", 7),
-        ),
-        ([OLD, TTL], "a.net.", want("a.net.", "a.net.", 60)),
-        (
-            [PUBLIC, TTL],
+            PUBLIC,
             "Web.Pub.test.",
-            want("web.int.test.", "Web.Pub.test.", 60),
+            "web.int.test.",
+            "Web.Pub.test.",
+            60,
         ),
-        (
-            ["name prefix x y..", "name substring a bb"],
-            "xaca.",
-            want("xbbcbb.", "xbbcbb.", 60),
-        ),
+        ("name substring a bb", "xaca.", "xbbcbb.", "xbbcbb.", 60),
     ] {
-        assert!(rt; gives(rt.alloc(), &rules, name, want)?, "{name}");
+        let (changed, slot) = behind(rt.alloc(), rule, name)?;
+        assert!(rt; has_name(rt.alloc(), &changed, asked)?, "{name}");
+        assert!(rt; has_records(rt.alloc(), &slot, owner, seconds)?, "{name}");
     }
     Ok(())
 }
 
-fn want(asked: &'static str, owner: &'static str, seconds: u32) -> Want {
-    Want {
-        asked,
-        owner,
-        seconds,
-    }
-}
-
-fn gives(alloc: Global, rules: &[&str], name: &str, want: Want) -> Result<bool, Fail> {
+fn behind(alloc: Global, rule: &str, name: &str) -> Result<(Changed, Slot), Fail> {
     let mut plans = Seq::new(alloc);
-    for rule in rules {
-        plans.push(plan(alloc, rule)?)?;
-    }
-    let (changed, slot) = answered(alloc, &plans, name, Rdata::A(0x0a00_0005))?;
-    Ok(is_wanted(alloc, &changed, &slot, want)?)
+    plans.push(plan(alloc, rule)?)?;
+    plans.push(plan(alloc, "ttl suffix test 7")?)?;
+    let changed = changed_by(alloc, plans.as_slice(), name)?;
+    let made = address(alloc, &changed.query.name)?;
+    let slot = restored(alloc, plans.as_slice(), &changed, &made)?;
+    Ok((changed, slot))
 }
 
-fn is_wanted(alloc: Global, changed: &Changed, slot: &Slot, want: Want) -> Result<bool, NameFault> {
-    let asked = name_of(alloc, want.asked)?;
-    let owner = name_of(alloc, want.owner)?;
-    Ok(
-        changed.query.name.equals(&asked)
-            && is_one(slot.answer.as_slice(), &owner, want.seconds)
-            && is_one(slot.authority.as_slice(), &owner, 60)
-            && is_one(slot.additional.as_slice(), &owner, 60),
-    )
+fn has_name(alloc: Global, changed: &Changed, asked: &str) -> Result<bool, NameFault> {
+    Ok(changed.query.name.equals(&name_of(alloc, asked)?))
+}
+
+fn has_records(alloc: Global, slot: &Slot, owner: &str, seconds: u32) -> Result<bool, NameFault> {
+    let owner = name_of(alloc, owner)?;
+    if !is_one(slot.answer.as_slice(), &owner, seconds) {
+        return Ok(false);
+    }
+    Ok(is_one(slot.additional.as_slice(), &owner, 60))
 }
 
 fn is_one(records: &[Record], owner: &Name, seconds: u32) -> bool {
@@ -143,8 +110,9 @@ fn points_to(alloc: Global, target: &str, want: &str) -> Result<bool, Fail> {
     let text = r"name a.test b.test answer value (.*)\.int\.$ {1}.pub";
     let mut plans = Seq::new(alloc);
     plans.push(plan(alloc, text)?)?;
-    let data = Rdata::Cname(name_of(alloc, target)?);
-    let (_, slot) = answered(alloc, &plans, "a.test.", data)?;
+    let changed = changed_by(alloc, plans.as_slice(), "a.test.")?;
+    let made = alias(alloc, &changed.query.name, target)?;
+    let slot = restored(alloc, plans.as_slice(), &changed, &made)?;
     let wanted = name_of(alloc, want)?;
     match slot.additional.as_slice() {
         [record] => Ok(is_alias_of(record, &wanted)),
@@ -159,24 +127,38 @@ fn is_alias_of(record: &Record, wanted: &Name) -> bool {
     }
 }
 
-// What the rules make of a query, and of an answer that has one record of its name in each section.
-fn answered(
+// What the rules that were applied make of an answer that has a record in two sections.
+fn restored(
     alloc: Global,
-    plans: &Seq<RewritePlan>,
-    name: &str,
-    data: Rdata,
-) -> Result<(Changed, Slot), Fail> {
+    plans: &[RewritePlan],
+    changed: &Changed,
+    made: &Record,
+) -> Result<Slot, NoMemory> {
+    let mut slot = Slot::new(alloc);
+    slot.answer.push(alloc, made)?;
+    slot.additional.push(alloc, made)?;
+    let mut room = RewriteRoom::new(alloc);
+    restore(alloc, plans, changed, &mut room, &mut slot)?;
+    Ok(slot)
+}
+
+fn changed_by(alloc: Global, plans: &[RewritePlan], name: &str) -> Result<Changed, NameFault> {
     let query = asked(alloc, name)?;
     let mut room = RewriteRoom::new(alloc);
     let mut changed = Changed::new(alloc);
-    change(alloc, plans.as_slice(), &query, &mut room, &mut changed)?;
-    let mut slot = Slot::new(alloc);
-    let made = Record::new(changed.query.name.copy(alloc)?, class::IN, 60, data);
-    slot.answer.push(alloc, &made)?;
-    slot.authority.push(alloc, &made)?;
-    slot.additional.push(alloc, &made)?;
-    restore(alloc, plans.as_slice(), &changed, &mut room, &mut slot)?;
-    Ok((changed, slot))
+    change(alloc, plans, &query, &mut room, &mut changed)?;
+    Ok(changed)
+}
+
+fn address(alloc: Global, owner: &Name) -> Result<Record, NoMemory> {
+    let owner = owner.copy(alloc)?;
+    Ok(Record::new(owner, class::IN, 60, Rdata::A(0x0a00_0005)))
+}
+
+fn alias(alloc: Global, owner: &Name, target: &str) -> Result<Record, NameFault> {
+    let owner = owner.copy(alloc)?;
+    let target = name_of(alloc, target)?;
+    Ok(Record::new(owner, class::IN, 60, Rdata::Cname(target)))
 }
 
 fn plan(alloc: Global, args: &str) -> Result<RewritePlan, Fail> {

@@ -9,7 +9,7 @@ import shutil
 import sys
 import tempfile
 
-from counted import built, cost
+from counted import BELOW, WORD, built, cost
 
 CRATES = ["dns_lists", "dns_addr", "dns_data", "equal_bytes", "name_table", "plugin_api"]
 MOST = 400
@@ -23,13 +23,7 @@ use plugin_api::BlockIndex;
 use std::alloc::Global;
 use std::{env, io};
 
-fn below(alloc: Global, label: &[u8], origin: &Name) -> Result<Name, NoMemory> {
-    if label.len() == 0 || 63 < label.len() || 150 < origin.wire_len() {
-        return origin.copy(alloc);
-    }
-    origin.below(alloc, label)
-}
-
+''' + BELOW + r'''
 fn zone(alloc: Global, number: u64) -> Result<Name, NoMemory> {
     let org = below(alloc, b"org", &Name::root(alloc))?;
     let example = below(alloc, b"example", &org)?;
@@ -94,13 +88,7 @@ fn find_all(alloc: Global, blocks: &Blocks, case: &str, times: u64) -> Result<u6
     Ok(seen)
 }
 
-fn word(words: &[String], index: usize) -> &str {
-    match words.get(index) {
-        Some(word) => word.as_str(),
-        None => "",
-    }
-}
-
+''' + WORD + r'''
 fn run(alloc: Global, words: &[String]) -> Result<u64, NoMemory> {
     let case = word(words, 1);
     let count = word(words, 2).parse::<u64>().unwrap_or(64);

@@ -6,6 +6,22 @@ import subprocess
 
 TOP = os.path.dirname(os.path.dirname(os.path.abspath(__file__)))
 
+# Of these programs: a name below another one where it fits, and a word of the command line.
+BELOW = r'''fn below(alloc: Global, label: &[u8], origin: &Name) -> Result<Name, NoMemory> {
+    if label.len() == 0 || 63 < label.len() || 150 < origin.wire_len() {
+        return origin.copy(alloc);
+    }
+    origin.below(alloc, label)
+}
+'''
+WORD = r'''fn word(words: &[String], index: usize) -> &str {
+    match words.get(index) {
+        Some(word) => word.as_str(),
+        None => "",
+    }
+}
+'''
+
 
 def built(folder, name, crates, needs, source, words):
     """The program NAME of a source that needs some of these crates, each behind those below it, proved and built in a repository of

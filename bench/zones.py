@@ -9,7 +9,7 @@ import shutil
 import sys
 import tempfile
 
-from counted import built, cost
+from counted import BELOW, WORD, built, cost
 
 CRATES = ["dns_lists", "dns_addr", "dns_data", "equal_bytes", "name_table", "zone_lookup", "zone_tree"]
 CASES = ["hit", "wildcard", "nxdomain", "referral"]
@@ -24,13 +24,7 @@ use std::{env, io};
 use zone_lookup::lookup;
 use zone_tree::TreeZone;
 
-fn below(alloc: Global, label: &[u8], origin: &Name) -> Result<Name, NoMemory> {
-    if label.len() == 0 || 63 < label.len() || 150 < origin.wire_len() {
-        return origin.copy(alloc);
-    }
-    origin.below(alloc, label)
-}
-
+''' + BELOW + r'''
 fn at(alloc: Global, label: &str, origin: &Name) -> Result<Name, NoMemory> {
     below(alloc, label.as_bytes(), origin)
 }
@@ -134,13 +128,7 @@ fn run(alloc: Global, count: u64, case: &str, times: u64) -> Result<u64, NoMemor
     ask_all(alloc, zone, case, count, times)
 }
 
-fn word(words: &[String], index: usize) -> &str {
-    match words.get(index) {
-        Some(word) => word.as_str(),
-        None => "",
-    }
-}
-
+''' + WORD + r'''
 fn main(rt: HostRuntime) -> io::Result<()> {
     let mut words = Vec::new(rt.alloc());
     for word in env::args(&rt)? {

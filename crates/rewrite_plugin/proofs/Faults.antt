@@ -13,7 +13,7 @@ use Rattle.rewrite_plugin.specs.declared.rule.Answering.TheVariants as answering
 use Rattle.rewrite_plugin.specs.declared.rule.Matcher.{Matcher}
 use Rattle.rewrite_plugin.specs.declared.rule.Rule.{Rule}
 use Rattle.rewrite_plugin.specs.declared.rule.Rule.TheVariants as rule
-use Rattle.rewrite_plugin.specs.Judging.{refusals_behind}
+use Rattle.pattern_judging.specs.Tasks.{refusals_behind}
 use Rattle.rewrite_plugin.specs.Words.{Reading, answering_in, answers_in, behind_flow, body_in, end_map, ends_with, first_in, goes_on, in_front, is_empty, last_end, line_in, lines_in, matcher_of, one, reading_of, renaming_by, renaming_in, renaming_of, renaming_to, replacing_in, rule_in, rule_of, seconds_in, sought_in, ttl_by, ttl_of, ttl_to, type_end, type_of, type_to, with_answers, without_body, written}
 
 -- what is refused is no pattern

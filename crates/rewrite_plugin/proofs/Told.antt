@@ -1,25 +1,21 @@
 -- What reading a directive answers, by its words and by what became of its patterns.
-use Rattle.std.proofs.Common.{◌≡◌, ◌∙◌, ℕ, List, [], ◌∷◌, length, take, Option, Some, None, Ok, Err, refl, sym, ap, subst, arith, inl, inr}
-use Rattle.std.specs.Option.{option_or}
+use Rattle.std.proofs.Common.{◌≡◌, ◌∙◌, ℕ, ◌+◌, List, [], length, Option, Some, Result, Ok, Err, refl, sym, ap, subst, arith, inl, inr}
+use Rattle.std.proofs.lemmas.List.{append-nil}
 use Rattle.dns_data.specs.declared.directive.Directive.{Directive}
 use Rattle.outside.specs.{WatchState, with_refusals}
+use Rattle.pattern_judging.specs.Tasks.{IsWell, Refuses, Task, at_line, refusals_behind, sequel}
+use Rattle.pattern_judging.specs.TasksLaws.{fault-plain, fault_behind, refuses_first, well-plain, well_behind}
 use Rattle.plugin_api.specs.declared.fault.DirectiveFault.{DirectiveFault}
 use Rattle.plugin_api.specs.declared.fault.DirectiveFault.TheVariants as fault
 use Rattle.rewrite_plugin.specs.declared.rule.Written.{Written}
 use Rattle.rewrite_plugin.specs.declared.words.PatternAt.{PatternAt}
-use Rattle.rewrite_plugin.specs.Judging.{Comes, IsWell, ReadsRewrite, Refuses, judged, patterns_task, refusals_behind, rewrite_task}
-use Rattle.rewrite_plugin.specs.Reading.{fault_of, patterns_fault, patterns_of, texts_of}
+use Rattle.rewrite_plugin.specs.Judging.{ReadsRewrite, patterns_task, rewrite_task}
+use Rattle.rewrite_plugin.specs.Reading.{fault_of, patterns_of, rewrite_fault, texts_of}
 use Rattle.rewrite_plugin.specs.Made.{IsMade}
 use Rattle.rewrite_plugin.specs.Rewrite.{if_read, written_of}
 use Rattle.rewrite_plugin.specs.Words.{reading_of}
 use Rattle.rewrite_plugin.proofs.Patterns.{patterns_are}
 use Rattle.rewrite_plugin.proofs.Faults.{words_are_plain}
-
-or_none : (a b : Option DirectiveFault) → a ≡ None → option_or a b ≡ b
-or_none a b e = ap (λ o. option_or o b) e
-
-or_some : (a b : Option DirectiveFault) (x : DirectiveFault) → a ≡ Some x → option_or a b ≡ Some x
-or_some a b x e = ap (λ o. option_or o b) e
 
 -- a refusal is what reading answers
 answers_by : (number : ℕ) (d : Directive) (refused : DirectiveFault) → Refuses (rewrite_task number d) refused → ReadsRewrite number d (Err refused)
@@ -29,54 +25,42 @@ answers_by number d (fault.TooMany what n) (inr h) = h
 answers_by number d (fault.Why line why) (inl e) = absurd cc
 answers_by number d (fault.Why line why) (inr h) = h
 
+-- what stands behind the patterns of a directive, which has none
+abbrev end_task : ℕ → Directive → Task DirectiveFault
+end_task number d = record {
+  number = number + length (patterns_of d);
+  patterns = [];
+  fault = λ judgement. fault_of (reading_of d).end;
+}
+
+abbrev with_texts : ℕ → Directive → List (List ℕ) → Task DirectiveFault
+with_texts number d texts = record {
+  number = number;
+  patterns = texts;
+  fault = λ judgement. rewrite_fault judgement number d;
+}
+
 module _ (number : ℕ) (d : Directive) where
-  early : (refused : DirectiveFault) → Refuses (patterns_task number (reading_of d).patterns) refused → Refuses (rewrite_task number d) refused
-  early refused (inl e) = inl e
-  early refused (inr (inl h)) = inr (inl (record {
-    count = h.count;
-    inside = h.inside;
-    good = h.good;
-    is = λ why. or_some (patterns_fault (judged (rewrite_task number d) h.count why) number (reading_of d).patterns) (fault_of (reading_of d).end) refused (h.is why);
-  }))
-  early refused (inr (inr h)) = inr (inr (record {
-    count = h.count;
-    good = h.good;
-    text = h.text;
-    stands = h.stands;
-    line = h.line;
-    why = h.why;
-    so = h.so;
-    judgement = h.judgement;
-    is = or_some (patterns_fault (judged (rewrite_task number d) h.count h.why) number (reading_of d).patterns) (fault_of (reading_of d).end) refused h.is;
-  }))
+  abbrev front : Task DirectiveFault
+  front = patterns_task number (reading_of d).patterns
+
+  both : sequel front (end_task number d) ≡ rewrite_task number d
+  both = ap (with_texts number d) (append-nil (patterns_of d))
 
   -- a pattern is refused, or there are too many
-  pub stopped : (refused : DirectiveFault) → Refuses (patterns_task number (reading_of d).patterns) refused → ReadsRewrite number d (Err refused)
-  stopped refused h = answers_by number d refused (early refused h)
-
-  whole : (texts : List (List ℕ)) → take (length texts) texts ≡ texts
-  whole [] = refl
-  whole (t ∷ ts) = ap (λ (l : List (List ℕ)). t ∷ l) (whole ts)
-
-  late : (refused : DirectiveFault) → IsWell (patterns_task number (reading_of d).patterns) → (reading_of d).end ≡ Err refused → Comes (rewrite_task number d) refused
-  late refused well e = record {
-    count = length (patterns_of d);
-    inside = omega arith;
-    good = rw (whole (patterns_of d)) well.good;
-    is = λ why. or_none (patterns_fault (judged (rewrite_task number d) (length (patterns_of d)) why) number (reading_of d).patterns) (fault_of (reading_of d).end)
-        (well.free (judged (rewrite_task number d) (length (patterns_of d)) why) (omega arith)) ∙ ap fault_of e;
-  }
+  pub stopped : (refused : DirectiveFault) → Refuses front refused → ReadsRewrite number d (Err refused)
+  stopped refused h = answers_by number d refused (subst (λ (t : Task DirectiveFault). Refuses t refused) both (refuses_first front (end_task number d) refused h))
 
   -- the words are refused behind patterns that are all made
-  pub faulty : (refused : DirectiveFault) → IsWell (patterns_task number (reading_of d).patterns) → (reading_of d).end ≡ Err refused → ReadsRewrite number d (Err refused)
-  faulty refused well e = answers_by number d refused (inr (inl (late refused well e)))
+  pub faulty : (refused : DirectiveFault) → IsWell front → (reading_of d).end ≡ Err refused → ReadsRewrite number d (Err refused)
+  faulty refused well e =
+      let last = fault-plain at_line (end_task number d) refused (λ judgement. ap fault_of e) in
+      answers_by number d refused
+      (subst (λ (t : Task DirectiveFault). Refuses t refused) both (inr (fault_behind at_line front (end_task number d) (omega arith) well refused last)))
 
   -- nothing is refused
-  pub good : (w : Written) → IsWell (patterns_task number (reading_of d).patterns) → (reading_of d).end ≡ Ok w → IsWell (rewrite_task number d)
-  good w well e = record {
-    good = well.good;
-    free = λ j h. or_none (patterns_fault j number (reading_of d).patterns) (fault_of (reading_of d).end) (well.free j h) ∙ ap fault_of e;
-  }
+  pub good : (w : Written) → IsWell front → (reading_of d).end ≡ Ok w → IsWell (rewrite_task number d)
+  good w well e = subst IsWell both (well_behind at_line front (end_task number d) (omega arith) well (well-plain (end_task number d) refl (λ judgement. ap fault_of e)))
 
 -- a maker isn't asked for a fault of words
 pub maker_stays : (d : Directive) (refused : DirectiveFault) (state : WatchState) → (reading_of d).end ≡ Err refused → state ≡ with_refusals state (refusals_behind refused state.refusals)
@@ -97,3 +81,12 @@ good_at number d found w e well h = good number d w (subst (λ (l : List Pattern
 pub is_made : (d : Directive) (found : List PatternAt) (w : Written) (finders : List (List ℕ)) → found ≡ (reading_of d).patterns → finders ≡ texts_of found → (reading_of d).end ≡ Ok w → IsMade d w finders
 unfolding written_of
 is_made d found w finders e f h = record { read = ap if_read h; patterns = f ∙ ap texts_of e ∙ patterns_are d w h }
+
+-- so it has as many patterns
+read_by : (r : Result Written DirectiveFault) (w : Written) → if_read r ≡ Some w → r ≡ Ok w
+read_by (Ok v) w e = cc
+read_by (Err f) w e = absurd cc
+
+pub as_many : (d : Directive) (w : Written) (finders : List (List ℕ)) → IsMade d w finders → length finders ≡ length (patterns_of d)
+unfolding written_of
+as_many d w finders made = ap length (made.patterns ∙ sym (patterns_are d w (read_by (reading_of d).end w made.read)))

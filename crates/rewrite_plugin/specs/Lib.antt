@@ -7,6 +7,7 @@ pub mod Judging
 pub mod Rewrite
 pub mod Made
 -- what public clauses cite
-pub use Rattle.rewrite_plugin.specs.Judging.{ReadsRewrite, maker_behind}
-pub use Rattle.rewrite_plugin.specs.Reading.{rewrite_fault}
+pub use Rattle.pattern_judging.specs.{maker_behind}
+pub use Rattle.rewrite_plugin.specs.Judging.{ReadsRewrite, rewrite_task}
+pub use Rattle.rewrite_plugin.specs.Reading.{patterns_of, rewrite_fault}
 pub use Rattle.rewrite_plugin.specs.Rewrite.{changed_by, restored}

@@ -1,30 +1,19 @@
 -- The first fault of a directive `rewrite`. Whether a pattern is one, or is too large to compile,
 -- is judged by the maker of patterns. This server's own rule, in the manner of CoreDNS.
-use Rattle.std.specs.Prelude.{ℕ, ◌+◌, nat_le, nat_lt, List, [], ◌∷◌, map}
-use Rattle.std.specs.Prelude.{Option, Some, None, Result, Ok, Err, if◌then◌else◌}
+use Rattle.std.specs.Prelude.{ℕ, ◌+◌, List, [], ◌∷◌, map, Option, Some, None, Result, Ok, Err}
 use Rattle.std.specs.Option.{option_or}
 use Rattle.dns_data.specs.declared.directive.Directive.{Directive}
-use Rattle.dns_data.specs.declared.limit.Limit.TheVariants as limit
-use Rattle.dns_data.specs.declared.limit.TheConstants as limits
+use Rattle.pattern_judging.specs.{Judgement, pattern_fault}
 use Rattle.plugin_api.specs.declared.fault.DirectiveFault.{DirectiveFault}
-use Rattle.plugin_api.specs.declared.fault.DirectiveFault.TheVariants as fault
-use Rattle.plugin_api.specs.declared.fault.DirectiveWhy.{DirectiveWhy}
 use Rattle.rewrite_plugin.specs.declared.words.PatternAt.{PatternAt}
 use Rattle.rewrite_plugin.specs.Words.{Reading, reading_of}
-
--- what became of the patterns of a configuration: so many are made, and the next one, if there is
--- any, is refused so
-pub record Judgement : Type 0 where
-  pub made : ℕ
-  pub why : DirectiveWhy
 
 -- the fault of the first of patterns that is refused, behind so many of the configuration
 abbrev pub patterns_fault : Judgement → ℕ → List PatternAt → Option DirectiveFault
 patterns_fault judged number [] = None
 patterns_fault judged number (pattern ∷ patterns) =
-    if nat_le limits.PATTERNS number then Some (fault.TooMany limit.Patterns (limits.PATTERNS + 1))
-    else if nat_lt number judged.made then patterns_fault judged (number + 1) patterns
-    else Some (fault.Why pattern.line judged.why)
+    option_or (pattern_fault judged pattern.line number)
+    (patterns_fault judged (number + 1) patterns)
 
 -- the fault of words, where they have one
 abbrev pub fault_of : {A : Type 0} → Result A DirectiveFault → Option DirectiveFault

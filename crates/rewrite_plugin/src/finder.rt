@@ -1,7 +1,8 @@
 ghost use Rattle.std.specs.Prelude.{◌≡◌, ◌<◌, ◌++◌, ℕ, [], is_some, slice_index, IfOk, IfSome};
 ghost use Rattle.std.specs.Prelude.{OnOk};
 ghost use Rattle.pattern.specs.Texts.{finding_of};
-ghost use Rattle.rewrite_plugin.specs.Judging.{IsMadeOf, MakesAll, maker_behind};
+ghost use Rattle.pattern_judging.specs.{maker_behind};
+ghost use Rattle.rewrite_plugin.specs.Judging.{IsMadeOf, MakesAll};
 ghost use Rattle.rewrite_plugin.specs.Made.{Keeps};
 ghost use Rattle.rewrite_plugin.specs.Texts.{filled};
 

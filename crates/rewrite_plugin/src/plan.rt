@@ -1,5 +1,7 @@
-ghost use Rattle.std.specs.Prelude.{◌≡◌};
-ghost use Rattle.rewrite_plugin.specs.Judging.{ReadsRewrite, maker_behind};
+ghost use Rattle.std.specs.Prelude.{◌≡◌, length};
+ghost use Rattle.pattern_judging.specs.{maker_behind};
+ghost use Rattle.rewrite_plugin.specs.Judging.{ReadsRewrite};
+ghost use Rattle.rewrite_plugin.specs.Reading.{patterns_of};
 
 use crate::finder::{Finder, make_all};
 use crate::reading::read_written;
@@ -55,5 +57,12 @@ impl RewritePlan {
                 }),
             },
         }
+    }
+
+    /// How many patterns it has.
+    pub fn pattern_count(&self) -> usize
+        ensures { result ≡ length (patterns_of self.now) }
+    {
+        self.finders.len()
     }
 }

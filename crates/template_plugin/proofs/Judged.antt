@@ -1,26 +1,22 @@
 -- Patterns that are made one after another, and the first fault.
-use Rattle.std.proofs.Common.{◌≡◌, ◌∙◌, ◌<◌, ◌≤◌, ◌⊎◌, ℕ, suc, ◌+◌, Bool, true, false, List, [], ◌∷◌, ◌++◌, length, take, Option, Some, None, Err, refl, sym, ap, subst, arith, inl, inr, append_assoc, nat_le, nat_lt}
-use Rattle.std.specs.Prelude.{slice_get, if◌then◌else◌}
+use Rattle.std.proofs.Common.{◌≡◌, ◌∙◌, ◌<◌, ◌≤◌, ℕ, suc, ◌+◌, Bool, true, false, List, [], ◌∷◌, ◌++◌, length, Some, None, Err, refl, sym, ap, arith, inl, inr, append_assoc}
+use Rattle.std.specs.Prelude.{if◌then◌else◌}
 use Rattle.std.specs.List.{AllByRecursion}
-use Rattle.std.specs.Option.{option_or}
-use Rattle.std.proofs.Math.Seq.{take-append-add}
-use Rattle.std.proofs.lemmas.Bool.Decides.{nat_tests}
-use Rattle.std.proofs.lemmas.List.{append-nil, get_or-append-add, get_or_append_left, length-append, take-append-le}
-use Rattle.std.proofs.lemmas.Option.{get_or_from_slice_get, slice_get-get_or, slice_get_within}
+use Rattle.std.proofs.lemmas.List.{append-nil}
 use Rattle.dns_data.specs.declared.directive.Line.{Line}
 use Rattle.dns_data.specs.declared.limit.Limit.TheVariants as limit
 use Rattle.dns_data.specs.declared.limit.TheConstants as limits
 use Rattle.outside.specs.{IsPatternOf, IsPatternText, WatchState}
+use Rattle.pattern_judging.specs.Tasks.{IsWell, Judgement, Refuses, Task, at_line, pattern_task, sequel}
+use Rattle.pattern_judging.specs.TasksLaws.{carries-behind, fault-plain, free_behind, pattern_free, pattern_past, pattern_text, refuses_by, refuses_first}
 use Rattle.plugin_api.specs.{PlanData, fault_at}
 use Rattle.plugin_api.specs.declared.fault.DirectiveFault.{DirectiveFault}
 use Rattle.plugin_api.specs.declared.fault.DirectiveFault.TheVariants as fault
 use Rattle.plugin_api.specs.declared.fault.DirectiveWhy.{DirectiveWhy}
-use Rattle.regex.specs.Strings.{regex_names, regex_source}
 use Rattle.regex.specs.declared.string.regex.Regex.{Regex}
-use Rattle.regex_syntax.specs.Verdict.{Reads, default_config}
 use Rattle.template_plugin.specs.declared.options.Earlier.{Earlier}
-use Rattle.template_plugin.specs.Judging.{AreOf, IsFree, IsRefused, IsWell, Passes, ReadsTemplate, Refuses, Task, judged, lines_task, match_task, template_task, words_task}
-use Rattle.template_plugin.specs.Reading.{Judgement, behind_line, behind_patterns, is_match, opened, pattern_fault, seen_with, template_fault, words_why}
+use Rattle.template_plugin.specs.Judging.{AreOf, Passes, ReadsTemplate, lines_task, match_task, template_task, words_task}
+use Rattle.template_plugin.specs.Reading.{behind_line, behind_patterns, is_match, opened, seen_with, template_fault, words_why}
 use Rattle.template_plugin.specs.Words.{line_patterns, patterns_of}
 
 pub as_many : (texts : List (List ℕ)) (patterns : List Regex) → AreOf texts patterns → length patterns ≡ length texts
@@ -28,15 +24,6 @@ as_many [] [] h = refl
 as_many [] (p ∷ ps) h = absurd h
 as_many (t ∷ ts) [] h = absurd h
 as_many (t ∷ ts) (p ∷ ps) h = ap suc (as_many ts ps h.1)
-
--- what is made of a text was a pattern
-pub pattern_text : (text : List ℕ) (r : Regex) → IsPatternOf text r → IsPatternText text
-pattern_text text r of = (
-  r.pattern.program.hir,
-  regex_names r,
-  subst (λ t. Reads default_config t r.pattern.program.hir (regex_names r)) of.source
-      (subst (λ c. Reads c (regex_source r) r.pattern.program.hir (regex_names r)) of.config of.read),
-)
 
 pub good_of : (texts : List (List ℕ)) (patterns : List Regex) → AreOf texts patterns → AllByRecursion IsPatternText texts
 good_of [] [] h = tt
@@ -50,104 +37,14 @@ are_append [] us (p ∷ ps) qs h k = absurd h
 are_append (t ∷ ts) us [] qs h k = absurd h
 are_append (t ∷ ts) us (p ∷ ps) qs h k = (h.0, are_append ts us ps qs h.1 k)
 
-good_append : (ts us : List (List ℕ)) → AllByRecursion IsPatternText ts → AllByRecursion IsPatternText us → AllByRecursion IsPatternText (ts ++ us)
-good_append [] us h k = k
-good_append (t ∷ ts) us h k = (h.0, good_append ts us h.1 k)
+-- where all are made, all is well
+well_of : (task : Task DirectiveFault) (before after : List Regex) → Passes task before after → IsWell task
+well_of task before after p = record { good = good_of task.patterns p.made p.are; free = p.free }
 
-get_front : (ts us : List (List ℕ)) (n : ℕ) (x : List ℕ) → slice_get ts n ≡ Some x → slice_get (ts ++ us) n ≡ Some x
-get_front ts us n x e =
-    let inside = slice_get_within ts n x e in
-    slice_get-get_or (ts ++ us) n x (omega (arith, inside, length-append ts us))
-    ∙ ap Some (get_or_append_left ts us x n inside ∙ get_or_from_slice_get ts n x x e)
-
-get_behind : (ts us : List (List ℕ)) (n : ℕ) (x : List ℕ) → slice_get us n ≡ Some x → slice_get (ts ++ us) (length ts + n) ≡ Some x
-get_behind ts us n x e =
-    let inside = slice_get_within us n x e in
-    slice_get-get_or (ts ++ us) (length ts + n) x (omega (arith, inside, length-append ts us))
-    ∙ ap Some (get_or-append-add ts us n x ∙ get_or_from_slice_get us n x x e)
-
--- a task, and then another one
-abbrev pub sequel : Task → Task → Task
-sequel front back = record {
-  number = front.number;
-  patterns = front.patterns ++ back.patterns;
-  fault = λ judgement. option_or (front.fault judgement) (back.fault judgement);
-}
-
-or_none : (a b : Option DirectiveFault) → a ≡ None → option_or a b ≡ b
-or_none a b e = ap (λ o. option_or o b) e
-
-or_some : (a b : Option DirectiveFault) (x : DirectiveFault) → a ≡ Some x → option_or a b ≡ Some x
-or_some a b x e = ap (λ o. option_or o b) e
-
--- a fault of the first task is one of both
-pub early : (front back : Task) (refused : DirectiveFault) → Refuses front refused → Refuses (sequel front back) refused
-early front back refused (inl e) = inl e
-early front back refused (inr (inl h)) = inr (inl (record {
-  count = h.count;
-  inside = omega (arith, h.inside, length-append front.patterns back.patterns);
-  good = rw (take-append-le h.count front.patterns back.patterns h.inside) h.good;
-  is = λ why. or_some (front.fault (judged front h.count why)) (back.fault (judged front h.count why)) refused (h.is why);
-}))
-early front back refused (inr (inr h)) =
-    let inside = slice_get_within front.patterns h.count h.text h.stands in
-    inr (inr (record {
-      count = h.count;
-      good = rw (take-append-le h.count front.patterns back.patterns (omega (arith, inside))) h.good;
-      text = h.text;
-      stands = get_front front.patterns back.patterns h.count h.text h.stands;
-      line = h.line;
-      why = h.why;
-      so = h.so;
-      judgement = h.judgement;
-      is = or_some (front.fault (judged front h.count h.why)) (back.fault (judged front h.count h.why)) refused h.is;
-    }))
-
-abbrev so_many : ℕ → DirectiveWhy → Judgement
-so_many n why = record { made = n; why = why }
-
-module _ (front back : Task) (before middle : List Regex) (next : back.number ≡ front.number + length front.patterns) (f : Passes front before middle) where
-  later : (count : ℕ) (why : DirectiveWhy) → judged (sequel front back) (length front.patterns + count) why ≡ judged back count why
-  later count why = ap (λ (n : ℕ). so_many n why) (omega (arith, next))
-
-  first_free : (count : ℕ) (why : DirectiveWhy) → front.fault (judged (sequel front back) (length front.patterns + count) why) ≡ None
-  first_free count why = f.free (judged (sequel front back) (length front.patterns + count) why) (omega arith)
-
-  fault_later : (count : ℕ) (why : DirectiveWhy) (refused : DirectiveFault) → back.fault (judged back count why) ≡ Some refused
-      → (sequel front back).fault (judged (sequel front back) (length front.patterns + count) why) ≡ Some refused
-  fault_later count why refused e =
-      or_none (front.fault (judged (sequel front back) (length front.patterns + count) why)) (back.fault (judged (sequel front back) (length front.patterns + count) why)) (first_free count why)
-      ∙ ap back.fault (later count why) ∙ e
-
-  good_later : (count : ℕ) → AllByRecursion IsPatternText (take count back.patterns) → AllByRecursion IsPatternText (take (length front.patterns + count) (front.patterns ++ back.patterns))
-  good_later count g = rw (take-append-add front.patterns back.patterns count) (good_append front.patterns (take count back.patterns) (good_of front.patterns f.made f.are) g)
-
+module _ (front back : Task DirectiveFault) (before middle : List Regex) (next : back.number ≡ front.number + length front.patterns) (f : Passes front before middle) where
   -- behind a first task without a fault, a fault of the second one is one of both
   pub refuses_later : (refused : DirectiveFault) → Refuses back refused → Refuses (sequel front back) refused
-  refuses_later refused (inl e) = inl e
-  refuses_later refused (inr (inl h)) = inr (inl (record {
-    count = length front.patterns + h.count;
-    inside = omega (arith, h.inside, length-append front.patterns back.patterns);
-    good = good_later h.count h.good;
-    is = λ why. fault_later h.count why refused (h.is why);
-  }))
-  refuses_later refused (inr (inr h)) = inr (inr (record {
-    count = length front.patterns + h.count;
-    good = good_later h.count h.good;
-    text = h.text;
-    stands = get_behind front.patterns back.patterns h.count h.text h.stands;
-    line = h.line;
-    why = h.why;
-    so = h.so;
-    judgement = h.judgement;
-    is = fault_later h.count h.why refused h.is;
-  }))
-
-  free_later : IsFree back → IsFree (sequel front back)
-  free_later free judgement h =
-      let size = length-append front.patterns back.patterns in
-      or_none (front.fault judgement) (back.fault judgement) (f.free judgement (omega (arith, h, size)))
-      ∙ free judgement (omega (arith, h, size, next))
+  refuses_later refused h = refuses_by back (sequel front back) refused (carries-behind at_line front back next (well_of front before middle f)) h
 
   -- and both pass, where the second one does
   pub passes_later : (after : List Regex) → Passes back middle after → Passes (sequel front back) before after
@@ -155,19 +52,19 @@ module _ (front back : Task) (before middle : List Regex) (next : back.number �
     made = f.made ++ p.made;
     stand = p.stand ∙ ap (λ l. l ++ p.made) f.stand ∙ append_assoc before f.made p.made;
     are = are_append front.patterns back.patterns f.made p.made f.are p.are;
-    free = free_later p.free;
+    free = free_behind at_line front back next (well_of front before middle f) p.free;
   }
 
 -- what is left of a task, and the maker, which refused nothing so far
-pub record ReadsOn (whole rest : Task) (before now : List Regex) (old new : WatchState) : Type 0 where
+pub record ReadsOn (whole rest : Task DirectiveFault) (before now : List Regex) (old new : WatchState) : Type 0 where
   pub passes : (after : List Regex) → Passes rest now after → Passes whole before after
   pub refuses : (refused : DirectiveFault) → Refuses rest refused → Refuses whole refused
   pub state : new ≡ old
 
-pub begins : (whole : Task) (before : List Regex) (state : WatchState) → ReadsOn whole whole before before state state
+pub begins : (whole : Task DirectiveFault) (before : List Regex) (state : WatchState) → ReadsOn whole whole before before state state
 begins whole before state = record { passes = λ after p. p; refuses = λ refused h. h; state = refl }
 
-pub goes_on : (whole front back : Task) (before now middle : List Regex) (old new newer : WatchState) → back.number ≡ front.number + length front.patterns
+pub goes_on : (whole front back : Task DirectiveFault) (before now middle : List Regex) (old new newer : WatchState) → back.number ≡ front.number + length front.patterns
     → ReadsOn whole (sequel front back) before now old new → Passes front now middle → newer ≡ new → ReadsOn whole back before middle old newer
 goes_on whole front back before now middle old new newer next on f same = record {
   passes = λ after p. on.passes after (passes_later front back now middle next f after p);
@@ -176,7 +73,7 @@ goes_on whole front back before now middle old new newer next on f same = record
 }
 
 -- nothing is left
-pub nothing : (task : Task) (now : List Regex) → task.patterns ≡ [] → ((judgement : Judgement) → task.fault judgement ≡ None) → Passes task now now
+pub nothing : (task : Task DirectiveFault) (now : List Regex) → task.patterns ≡ [] → ((judgement : Judgement) → task.fault judgement ≡ None) → Passes task now now
 nothing task now e free = record {
   made = [];
   stand = sym (append-nil now);
@@ -184,70 +81,18 @@ nothing task now e free = record {
   free = λ judgement h. free judgement;
 }
 
--- one pattern of a line
-abbrev pub word_task : ℕ → ℕ → List ℕ → Task
-word_task line number word = record {
-  number = number;
-  patterns = word ∷ [];
-  fault = λ judgement. pattern_fault judgement line number;
-}
-
-too_many : (b : Bool) (line number : ℕ) (j : Judgement) → b ≡ true
-    → (if b then Some (fault.TooMany limit.Patterns (limits.PATTERNS + 1)) else if nat_lt number j.made then None else Some (fault.Why line j.why))
-    ≡ Some (fault.TooMany limit.Patterns (limits.PATTERNS + 1))
-too_many b line number j e = rw e refl
-
-enough : (number : ℕ) → limits.PATTERNS ≤ number → nat_le limits.PATTERNS number ≡ true
-enough number h = grind (arith, nat_tests)
-
-few : (number : ℕ) → number < limits.PATTERNS → nat_le limits.PATTERNS number ≡ false
-few number h = grind (arith, nat_tests)
-
-not_made : (number : ℕ) → nat_lt number (number + 0) ≡ false
-not_made number = grind (arith, nat_tests)
-
-is_made : (number made : ℕ) → number + 1 ≤ made → nat_lt number made ≡ true
-is_made number made h = grind (arith, nat_tests)
-
-pub word_past : (line number : ℕ) (word : List ℕ) → limits.PATTERNS ≤ number → Refuses (word_task line number word) (fault.TooMany limit.Patterns (limits.PATTERNS + 1))
-word_past line number word h = inr (inl (record {
-  count = 0;
-  inside = omega arith;
-  good = tt;
-  is = λ why. too_many (nat_le limits.PATTERNS number) line number (judged (word_task line number word) 0 why) (enough number h);
-}))
-
-pick : (b c : Bool) (line : ℕ) (why : DirectiveWhy) → b ≡ false
-    → (if b then Some (fault.TooMany limit.Patterns (limits.PATTERNS + 1)) else if c then None else Some (fault.Why line why)) ≡ (if c then None else Some (fault.Why line why))
-pick b c line why e = rw e refl
-
-pub word_refused : (line number : ℕ) (word : List ℕ) (refused : DirectiveFault) → number < limits.PATTERNS → IsRefused line word refused → Refuses (word_task line number word) refused
-word_refused line number word refused h r = inr (inr (record {
-  count = 0;
-  good = tt;
-  text = word;
-  stands = refl;
-  line = line;
-  why = r.why;
-  so = r.so;
-  judgement = r.judgement;
-  is = pick (nat_le limits.PATTERNS number) (nat_lt number (number + 0)) line r.why (few number h)
-      ∙ ap (λ (c : Bool). if c then None else Some (fault.Why line r.why)) (not_made number) ∙ ap Some (sym r.so);
-}))
-
-pub word_made : (line number : ℕ) (word : List ℕ) (now : List Regex) (p : Regex) → number < limits.PATTERNS → IsPatternOf word p → Passes (word_task line number word) now (now ++ p ∷ [])
+-- a pattern is made
+pub word_made : (line number : ℕ) (word : List ℕ) (now : List Regex) (p : Regex) → number < limits.PATTERNS → IsPatternOf word p → Passes (pattern_task line number word) now (now ++ p ∷ [])
 word_made line number word now p h of = record {
   made = p ∷ [];
   stand = refl;
   are = (of, tt);
-  free = λ j k. pick (nat_le limits.PATTERNS number) (nat_lt number j.made) line j.why (few number h)
-      ∙ ap (λ (c : Bool). if c then None else Some (fault.Why line j.why)) (is_made number j.made k);
+  free = pattern_free line number word h;
 }
 
-pub word_judged : (line number : ℕ) (word : List ℕ) (refused : DirectiveFault) → number < limits.PATTERNS → (refused ≡ fault.NoMemory) ⊎ IsRefused line word refused
-    → Refuses (word_task line number word) refused
-word_judged line number word refused h (inl e) = inl e
-word_judged line number word refused h (inr r) = word_refused line number word refused h r
+-- or there are too many
+pub word_past : (line number : ℕ) (word : List ℕ) → limits.PATTERNS ≤ number → Refuses (pattern_task line number word) (fault.TooMany limit.Patterns (limits.PATTERNS + 1))
+word_past line number word h = inr (pattern_past line number word h)
 
 -- one word or more behind `match`
 pub same_task : (line number : ℕ) (words : List (List ℕ)) → 0 < length words → words_task line number words ≡ match_task line number words
@@ -255,7 +100,7 @@ same_task line number [] h = absurd (omega (arith, h))
 same_task line number (w ∷ ws) h = refl
 
 -- the words of a directive, without its lines
-abbrev head_task : ℕ → PlanData → Task
+abbrev head_task : ℕ → PlanData → Task DirectiveFault
 head_task patterns plan = record {
   number = patterns;
   patterns = [];
@@ -291,13 +136,8 @@ pub read_why : (patterns : ℕ) (plan : PlanData) (why : DirectiveWhy) → words
 unfolding template_fault
 read_why patterns plan why e =
     reads_err patterns plan (fault.Why plan.directive.line why)
-    (early (head_task patterns plan) (lines_task (behind_patterns patterns) plan.directive.body) (fault.Why plan.directive.line why)
-    (inr (inl (record {
-      count = 0;
-      inside = omega arith;
-      good = tt;
-      is = λ other. ap (fault_at plan.directive.line) e;
-    }))))
+    (refuses_first (head_task patterns plan) (lines_task (behind_patterns patterns) plan.directive.body) (fault.Why plan.directive.line why)
+    (inr (fault-plain at_line (head_task patterns plan) (fault.Why plan.directive.line why) (λ judgement. ap (fault_at plan.directive.line) e))))
 
 -- one without a fault
 pub read_ok : (patterns : ℕ) (plan : PlanData) (after : List Regex) → words_why plan.zones plan.directive.args ≡ None

@@ -6,7 +6,8 @@ pub mod Template
 pub mod Parts
 pub mod Made
 -- what public clauses cite
-pub use Rattle.template_plugin.specs.Judging.{ReadsTemplate, maker_behind}
+pub use Rattle.pattern_judging.specs.{maker_behind}
+pub use Rattle.template_plugin.specs.Judging.{ReadsTemplate, template_task}
 pub use Rattle.template_plugin.specs.Made.{Says}
 pub use Rattle.template_plugin.specs.Reading.{template_fault}
 pub use Rattle.template_plugin.specs.Template.{Said, template_say}

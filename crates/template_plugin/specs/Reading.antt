@@ -1,12 +1,11 @@
 -- The words of `template`, and the first that doesn't fit. Whether a pattern is one, or is too
 -- large to compile, is judged by the maker of patterns. This server's own rule, in the manner of
 -- CoreDNS.
-use Rattle.std.specs.Prelude.{ℕ, ◌+◌, nat_le, nat_lt, Bool, true, false, ◌||◌, List, [], ◌∷◌}
-use Rattle.std.specs.Prelude.{length, codes, Option, Some, None, is_some, if◌then◌else◌}
+use Rattle.std.specs.Prelude.{ℕ, ◌+◌, Bool, true, false, ◌||◌, List, [], ◌∷◌, length}
+use Rattle.std.specs.Prelude.{codes, Option, Some, None, is_some, if◌then◌else◌}
 use Rattle.std.specs.Option.{option_or}
 use Rattle.dns_data.specs.declared.directive.Line.{Line}
-use Rattle.dns_data.specs.declared.limit.Limit.TheVariants as limit
-use Rattle.dns_data.specs.declared.limit.TheConstants as limits
+use Rattle.pattern_judging.specs.{Judgement, pattern_fault}
 use Rattle.plugin_api.specs.{PlanData, fault_at, is_word}
 use Rattle.plugin_api.specs.declared.fault.DirectiveFault.{DirectiveFault}
 use Rattle.plugin_api.specs.declared.fault.DirectiveFault.TheVariants as fault
@@ -44,19 +43,6 @@ kind_why zones (kind ∷ words) =
 abbrev pub words_why : List (List (List ℕ)) → List (List ℕ) → Option DirectiveWhy
 words_why zones [] = Some why.Args
 words_why zones (class ∷ words) = option_or (class_why class) (kind_why zones words)
-
--- what became of the patterns of a configuration: so many are made, and the next one, if there is
--- any, is refused so
-pub record Judgement : Type 0 where
-  pub made : ℕ
-  pub why : DirectiveWhy
-
--- the fault of a pattern behind so many
-abbrev pub pattern_fault : Judgement → ℕ → ℕ → Option DirectiveFault
-pattern_fault judged line number =
-    if nat_le limits.PATTERNS number then Some (fault.TooMany limit.Patterns (limits.PATTERNS + 1))
-    else if nat_lt number judged.made then None
-    else Some (fault.Why line judged.why)
 
 -- the fault of the first of patterns that is refused
 abbrev pub patterns_fault : Judgement → ℕ → ℕ → List (List ℕ) → Option DirectiveFault

@@ -1,6 +1,7 @@
 ghost use Rattle.std.specs.Prelude.{◌≡◌, ◌+◌, length, IfOk, Ok};
+ghost use Rattle.pattern_judging.specs.{maker_behind};
 ghost use Rattle.template_plugin.specs.Judging.{IsMadeOf, Makes, line_task, lines_task};
-ghost use Rattle.template_plugin.specs.Judging.{maker_behind, match_task, words_task};
+ghost use Rattle.template_plugin.specs.Judging.{match_task, words_task};
 ghost use Rattle.template_plugin.specs.Reading.{behind_line, option_why};
 
 use crate::options::{Earlier, Opens, Seen, is_match, opened, seen_with};

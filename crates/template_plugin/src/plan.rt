@@ -1,5 +1,6 @@
 ghost use Rattle.std.specs.Prelude.{◌≡◌, [], length, unwrap_or, IfOk};
-ghost use Rattle.template_plugin.specs.Judging.{AreOf, ReadsTemplate, maker_behind};
+ghost use Rattle.pattern_judging.specs.{maker_behind};
+ghost use Rattle.template_plugin.specs.Judging.{AreOf, ReadsTemplate};
 ghost use Rattle.template_plugin.specs.Template.{applies, fits_kind};
 ghost use Rattle.template_plugin.specs.Words.{kind_of, patterns_of, zones_in};
 

@@ -1,7 +1,10 @@
 use Rattle.std.proofs.Common.{◌≡◌, Err, rules, sym}
-use Rattle.template_plugin.specs.Judging.{Task, line_task, lines_task}
+use Rattle.pattern_judging.specs.Tasks.{Task}
+use Rattle.pattern_judging.specs.TasksLaws.{refuses_first}
+use Rattle.plugin_api.specs.declared.fault.DirectiveFault.{DirectiveFault}
+use Rattle.template_plugin.specs.Judging.{line_task, lines_task}
 use Rattle.template_plugin.specs.Reading.{behind_line}
-use Rattle.template_plugin.proofs.Judged.{begins, early, goes_on, no_lines, patterns_behind}
+use Rattle.template_plugin.proofs.Judged.{begins, goes_on, no_lines, patterns_behind}
 use Rattle.template_plugin.proofs.lines.read_lines.Goals as goal
 
 pub loop-line-init : goal.loop-line-init
@@ -10,11 +13,11 @@ loop-line-init g c = begins (lines_task c.args.first c.args.lines.now) c.args.ou
 pub returns-in_err-before-clause-value : goal.returns-in_err-before-clause-value
 returns-in_err-before-clause-value g c =
     let e = c.in_err-before.field-0.0 in
-    let line : Task = line_task c.loop-line.before c.in-Some.line.now.number c.in-Some.line.now.words in
-    let rest : Task = lines_task (behind_line c.loop-line.before c.in-Some.line.now.words) c.in-Some.behind.now in
+    let line : Task DirectiveFault = line_task c.loop-line.before c.in-Some.line.now.number c.in-Some.line.now.words in
+    let rest : Task DirectiveFault = lines_task (behind_line c.loop-line.before c.in-Some.line.now.words) c.in-Some.behind.now in
     let reads = rw c.in-Some.ensures.cases.0 at c.loop-line.invariant in
     let is : c.from_residual.result ≡ Err e = search rules in
-    rw is (reads.refuses e (early line rest e c.in_err-before.ensures.value))
+    rw is (reads.refuses e (refuses_first line rest e c.in_err-before.ensures.value))
 
 pub returns-in_err-before-clause-maker : goal.returns-in_err-before-clause-maker
 returns-in_err-before-clause-maker g c =
@@ -25,8 +28,8 @@ returns-in_err-before-clause-maker g c =
 pub loop-line-preserved : goal.loop-line-preserved
 loop-line-preserved g c =
     let state = g.M.PatternMaker.state in
-    let line : Task = line_task c.loop-line.before c.in-Some.line.now.number c.in-Some.line.now.words in
-    let rest : Task = lines_task (behind_line c.loop-line.before c.in-Some.line.now.words) c.in-Some.behind.now in
+    let line : Task DirectiveFault = line_task c.loop-line.before c.in-Some.line.now.number c.in-Some.line.now.words in
+    let rest : Task DirectiveFault = lines_task (behind_line c.loop-line.before c.in-Some.line.now.words) c.in-Some.behind.now in
     let reads = rw c.in-Some.ensures.cases.0 at c.loop-line.invariant in
     rw c.in_ok-before.ensures.behind
     (goes_on (lines_task c.args.first c.args.lines.now) line rest c.args.out.now c.loop-line.out c.read_line.new.out (state c.args.maker.now) (state c.loop-line.maker)

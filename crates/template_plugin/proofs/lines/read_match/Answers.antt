@@ -1,6 +1,7 @@
 use Rattle.std.proofs.Common.{◌≡◌, ◌<◌, Err, arith, length, rules, subst}
 use Rattle.std.proofs.lemmas.Bool.Decides.{nat_tests}
-use Rattle.template_plugin.specs.Judging.{Passes, Refuses}
+use Rattle.pattern_judging.specs.Tasks.{Refuses}
+use Rattle.template_plugin.specs.Judging.{Passes}
 use Rattle.template_plugin.proofs.Judged.{same_task}
 use Rattle.template_plugin.proofs.lines.read_match.Goals as goal
 

@@ -1,23 +1,26 @@
 use Rattle.std.proofs.Common.{◌≡◌, ◌+◌, Err, arith, rules, subst, sym}
-use Rattle.template_plugin.specs.Judging.{Passes, Task, words_task}
-use Rattle.template_plugin.proofs.Judged.{early, goes_on, word_judged, word_made, word_task}
+use Rattle.pattern_judging.specs.Tasks.{Task, pattern_task}
+use Rattle.pattern_judging.specs.TasksLaws.{pattern_judged, refuses_first}
+use Rattle.plugin_api.specs.declared.fault.DirectiveFault.{DirectiveFault}
+use Rattle.template_plugin.specs.Judging.{Passes, words_task}
+use Rattle.template_plugin.proofs.Judged.{goes_on, word_made}
 use Rattle.template_plugin.proofs.lines.read_words.Goals as goal
 
 pub returns-in_err-pattern-clause-value : goal.returns-in_err-pattern-clause-value
 returns-in_err-pattern-clause-value g c =
     let e = c.in_err-pattern.field-0.0 in
-    let word : Task = word_task c.args.line c.loop-word.number c.in-Some.word.now in
-    let rest : Task = words_task c.args.line (c.loop-word.number + 1) c.in-Some.behind.now in
-    let refused = word_judged c.args.line c.loop-word.number c.in-Some.word.now e c.if-number-ge-PATTERNS.false c.in_err-pattern.ensures.value in
+    let word : Task DirectiveFault = pattern_task c.args.line c.loop-word.number c.in-Some.word.now in
+    let rest : Task DirectiveFault = words_task c.args.line (c.loop-word.number + 1) c.in-Some.behind.now in
+    let refused = pattern_judged c.args.line c.loop-word.number c.in-Some.word.now e c.if-number-ge-PATTERNS.false c.in_err-pattern.ensures.value in
     let reads = rw c.in-Some.ensures.cases.0 at c.loop-word.invariant.reads in
     let is : c.from_residual.result ≡ Err e = search rules in
-    rw is (reads.refuses e (early word rest e refused))
+    rw is (reads.refuses e (refuses_first word rest e refused))
 
 pub loop-word-preserved : goal.loop-word-preserved
 loop-word-preserved g c =
     let state = g.M.PatternMaker.state in
-    let word : Task = word_task c.args.line c.loop-word.number c.in-Some.word.now in
-    let rest : Task = words_task c.args.line (c.loop-word.number + 1) c.in-Some.behind.now in
+    let word : Task DirectiveFault = pattern_task c.args.line c.loop-word.number c.in-Some.word.now in
+    let rest : Task DirectiveFault = words_task c.args.line (c.loop-word.number + 1) c.in-Some.behind.now in
     let made = word_made c.args.line c.loop-word.number c.in-Some.word.now c.loop-word.out c.in_ok-pattern.pattern c.if-number-ge-PATTERNS.false c.in_ok-pattern.ensures.value in
     let passes = subst (λ l. Passes word c.loop-word.out l) (sym c.in_ok-push.ensures.ok) made in
     let reads = rw c.in-Some.ensures.cases.0 at c.loop-word.invariant.reads in

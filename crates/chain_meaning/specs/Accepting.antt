@@ -1,9 +1,9 @@
--- Which bundles are accepted: the first fault of the Corefile's language, and then, block by block and
--- directive by directive in the order of the text, a name that no plugin has, a second directive of a
--- name that may stand once, and what a directive's reader refuses, the faults of its file last. This
--- server's own rule.
-use Rattle.std.specs.Prelude.{◌≡◌, ℕ, nat_eq, Bool, true, false, ◌&&◌, List, [], ◌∷◌, ◌++◌}
-use Rattle.std.specs.Prelude.{Option, Some, None, Result, Ok, Err, if◌then◌else◌}
+-- Which bundles are accepted: the first fault of the Corefile's language, and then, block by block
+-- and directive by directive in the order of the text, a name that no plugin has, a second directive
+-- of a name that may stand once, and what a directive's reader refuses, the faults of its file last.
+-- What becomes of patterns is judged by their maker. This server's own rule.
+use Rattle.std.specs.Prelude.{◌≡◌, ℕ, ◌+◌, nat_eq, Bool, true, false, ◌&&◌, List, [], ◌∷◌, ◌++◌}
+use Rattle.std.specs.Prelude.{length, Option, Some, None, Result, Ok, Err, if◌then◌else◌}
 use Rattle.std.specs.Cmp.Lexicographic.{pointwise}
 use Rattle.std.specs.List.{list_any}
 use Rattle.std.specs.Option.{option_or}
@@ -13,21 +13,27 @@ use Rattle.corefile_blocks.specs.declared.bundle.Bundle.{Bundle}
 use Rattle.corefile_blocks.specs.declared.fault.CorefileFault.{CorefileFault}
 use Rattle.corefile_blocks.specs.{blocks_of}
 use Rattle.dns_data.specs.declared.file.FileText.{FileText}
-use Rattle.file_plugin.specs.{FileData, file_fault}
+use Rattle.file_plugin.specs.{file_fault}
 use Rattle.file_plugin.specs.declared.fault.FileFault.{FileFault}
 use Rattle.file_plugin.specs.declared.fault.FileFault.TheVariants as broken
 use Rattle.acl_plugin.specs.{acl_fault}
 use Rattle.hosts_plugin.specs.{hosts_fault}
+use Rattle.pattern_judging.specs.{IsFault, IsWell, Judgement, Task}
 use Rattle.plain_plugins.specs.{plain_fault}
 use Rattle.plugin_api.specs.{is_once, rank_of}
 use Rattle.plugin_api.specs.declared.fault.DirectiveFault.{DirectiveFault}
 use Rattle.plugin_api.specs.declared.fault.DirectiveFault.TheVariants as fault
+use Rattle.plugin_api.specs.declared.fault.DirectiveWhy.{DirectiveWhy}
 use Rattle.plugin_api.specs.declared.fault.DirectiveWhy.TheVariants as why
 use Rattle.plugin_api.specs.declared.ranks.Rank.{Rank}
 use Rattle.plugin_api.specs.declared.ranks.Rank.TheVariants as rank
 use Rattle.chain_meaning.specs.declared.refusal.Refusal.{Refusal}
 use Rattle.chain_meaning.specs.declared.refusal.Refusal.TheVariants as refusal
-use Rattle.chain_meaning.specs.Steps.{Context, context_of, file_in, file_plans}
+use Rattle.rewrite_plugin.specs.{rewrite_fault}
+use Rattle.rewrite_plugin.specs.{patterns_of as rewrite_patterns}
+use Rattle.template_plugin.specs.{template_fault}
+use Rattle.template_plugin.specs.{patterns_of as template_patterns}
+use Rattle.chain_meaning.specs.Steps.{Context, context_of, file_in, file_plans, plan_in}
 
 -- the ranks whose plugins are built
 abbrev pub is_built : Rank → Bool
@@ -37,6 +43,8 @@ is_built rank.Errors = true
 is_built rank.Log = true
 is_built rank.Acl = true
 is_built rank.Any = true
+is_built rank.Rewrite = true
+is_built rank.Template = true
 is_built rank.Hosts = true
 is_built rank.File = true
 is_built rank.Whoami = true
@@ -60,63 +68,139 @@ refused_by_file (Some (broken.Zone line at why)) = Some (refusal.Zone line at wh
 refused_by_file (Some (broken.TooMany what number)) = Some (refusal.TooMany what number)
 refused_by_file (Some broken.NoMemory) = None
 
--- what the reader of a directive refuses, behind these plans of `file`
-abbrev pub reader_refusal : Rank → List FileData → Directive → Context → Option Refusal
-reader_refusal rank.Acl before d context = refused_by (acl_fault d context.zones)
-reader_refusal rank.Hosts before d context = refused_by (hosts_fault d context.zones)
-reader_refusal rank.File before d context =
-    refused_by_file (file_fault before d context.zones (file_in context.files d))
-reader_refusal rank before d context = refused_by (plain_fault rank d context.zones)
+-- the patterns in the words of a directive of this rank
+abbrev pub rank_patterns : Option Rank → Directive → List (List ℕ)
+rank_patterns (Some rank.Rewrite) d = rewrite_patterns d
+rank_patterns (Some rank.Template) d = template_patterns d.body
+rank_patterns other d = []
+
+-- the patterns of directives, in the order of the text
+abbrev pub patterns_in : List Directive → List (List ℕ)
+patterns_in [] = []
+patterns_in (d ∷ directives) = rank_patterns (rank_of d.name) d ++ patterns_in directives
+
+-- the patterns of blocks
+abbrev pub blocks_patterns : List Block → List (List ℕ)
+blocks_patterns [] = []
+blocks_patterns (block ∷ blocks) = patterns_in block.directives ++ blocks_patterns blocks
+
+-- what a directive stands behind: so many patterns of the configuration, and the directives that
+-- stand before it in its block
+pub record Behind : Type 0 where
+  pub patterns : ℕ
+  pub before : List Directive
+  pub context : Context
+
+-- the first directive of a block
+abbrev pub at_front : ℕ → Context → Behind
+at_front patterns context = record { patterns = patterns; before = []; context = context }
+
+-- with one directive more
+abbrev pub behind_one : Behind → Directive → Behind
+behind_one b d = record {
+  patterns = b.patterns + length (rank_patterns (rank_of d.name) d);
+  before = b.before ++ d ∷ [];
+  context = b.context;
+}
+
+-- what the reader of a directive without patterns refuses
+abbrev pub fixed_refusal : Rank → Behind → Directive → Option Refusal
+fixed_refusal rank.Acl b d = refused_by (acl_fault d b.context.zones)
+fixed_refusal rank.Hosts b d = refused_by (hosts_fault d b.context.zones)
+fixed_refusal rank.File b d =
+    refused_by_file
+    (file_fault (file_plans b.context b.before) d b.context.zones (file_in b.context.files d))
+fixed_refusal rank b d = refused_by (plain_fault rank d b.context.zones)
+
+-- what the reader of a directive refuses
+abbrev pub reader_refusal : Judgement → Rank → Behind → Directive → Option Refusal
+reader_refusal judgement rank.Rewrite b d = refused_by (rewrite_fault judgement b.patterns d)
+reader_refusal judgement rank.Template b d =
+    refused_by (template_fault judgement b.patterns (plan_in b.context.zones d))
+reader_refusal judgement rank b d = fixed_refusal rank b d
 
 -- a second one, or what the reader refuses
-abbrev pub read_refusal : Bool → Rank → List FileData → Directive → Context → Option Refusal
-read_refusal second rank before d context =
+abbrev pub read_refusal : Judgement → Bool → Rank → Behind → Directive → Option Refusal
+read_refusal judgement second rank b d =
     if second then Some (refusal.Directive d.line why.Twice)
-    else reader_refusal rank before d context
+    else reader_refusal judgement rank b d
 
 -- why a directive of this rank is refused, behind those that stand before it
-abbrev pub rank_refusal : Option Rank → List Directive → Directive → Context → Option Refusal
-rank_refusal None before d context = Some (refusal.Unknown d.line)
-rank_refusal (Some rank) before d context =
+abbrev pub rank_refusal : Judgement → Option Rank → Behind → Directive → Option Refusal
+rank_refusal judgement None b d = Some (refusal.Unknown d.line)
+rank_refusal judgement (Some rank) b d =
     if is_built rank
-    then read_refusal (is_once rank && stands_in before d.name) rank (file_plans context before) d
-    context
+    then read_refusal judgement (is_once rank && stands_in b.before d.name) rank b d
     else Some (refusal.Unknown d.line)
 
 -- why a directive is refused
-abbrev pub directive_refusal : List Directive → Directive → Context → Option Refusal
-directive_refusal before d context = rank_refusal (rank_of d.name) before d context
+abbrev pub directive_refusal : Judgement → Behind → Directive → Option Refusal
+directive_refusal judgement b d = rank_refusal judgement (rank_of d.name) b d
 
--- why the first directive is refused that is, behind those that stand before
-abbrev pub directives_refusal : Context → List Directive → List Directive → Option Refusal
-directives_refusal context before [] = None
-directives_refusal context before (d ∷ directives) =
-    option_or (directive_refusal before d context)
-    (directives_refusal context (before ++ d ∷ []) directives)
+-- why the first of the directives of a block is refused that is
+abbrev pub directives_refusal : Judgement → Behind → List Directive → Option Refusal
+directives_refusal judgement b [] = None
+directives_refusal judgement b (d ∷ directives) =
+    option_or (directive_refusal judgement b d)
+    (directives_refusal judgement (behind_one b d) directives)
 
--- why a block is refused
-abbrev pub block_refusal : List FileText → Block → Option Refusal
-block_refusal files block = directives_refusal (context_of files block) [] block.directives
+-- why a block is refused, behind so many patterns
+abbrev pub block_refusal : Judgement → ℕ → List FileText → Block → Option Refusal
+block_refusal judgement patterns files block =
+    directives_refusal judgement (at_front patterns (context_of files block)) block.directives
 
 -- why the first of the blocks is refused that is
-abbrev pub blocks_refusal : List FileText → List Block → Option Refusal
-blocks_refusal files [] = None
-blocks_refusal files (block ∷ blocks) =
-    option_or (block_refusal files block) (blocks_refusal files blocks)
+abbrev pub blocks_refusal : Judgement → ℕ → List FileText → List Block → Option Refusal
+blocks_refusal judgement patterns files [] = None
+blocks_refusal judgement patterns files (block ∷ blocks) =
+    option_or (block_refusal judgement patterns files block)
+    (blocks_refusal judgement (patterns + length (patterns_in block.directives)) files blocks)
 
--- blocks, unless they are refused
-abbrev pub unless_refused : List Block → Option Refusal → Result (List Block) Refusal
-unless_refused blocks None = Ok blocks
-unless_refused blocks (Some refused) = Err refused
+-- how a pattern that is refused is told: at its line
+abbrev pub told : ℕ → DirectiveWhy → Refusal
+told line why = refusal.Directive line why
 
-abbrev pub checked : List FileText → Result (List Block) CorefileFault → Result (List Block) Refusal
-checked files (Ok blocks) = unless_refused blocks (blocks_refusal files blocks)
-checked files (Err fault) = Err (refusal.Corefile fault)
+-- the patterns of a directive, and why it is refused
+abbrev pub directive_task : Behind → Directive → Task Refusal
+directive_task b d = record {
+  number = b.patterns;
+  patterns = rank_patterns (rank_of d.name) d;
+  fault = λ judgement. directive_refusal judgement b d;
+}
 
--- what a bundle says, or why it is refused
-unfoldable pub bundle_says : ℕ → Bundle → Result (List Block) Refusal
-bundle_says default_port bundle = checked bundle.files (blocks_of bundle default_port)
+-- those of the directives of a block that are left
+abbrev pub directives_task : Behind → List Directive → Task Refusal
+directives_task b directives = record {
+  number = b.patterns;
+  patterns = patterns_in directives;
+  fault = λ judgement. directives_refusal judgement b directives;
+}
 
--- a bundle is accepted, and these are its blocks
-abbrev pub IsAccepted : ℕ → Bundle → List Block → Type 0
-IsAccepted default_port bundle blocks = bundle_says default_port bundle ≡ Ok blocks
+-- those of a block
+abbrev pub block_task : ℕ → List FileText → Block → Task Refusal
+block_task patterns files block =
+    directives_task (at_front patterns (context_of files block)) block.directives
+
+-- those of blocks
+abbrev pub blocks_task : ℕ → List FileText → List Block → Task Refusal
+blocks_task patterns files blocks = record {
+  number = patterns;
+  patterns = blocks_patterns blocks;
+  fault = λ judgement. blocks_refusal judgement patterns files blocks;
+}
+
+-- a bundle is accepted, and these are its blocks: all patterns are good, and nothing is refused
+-- where all of them are made
+pub record IsAccepted (default_port : ℕ) (bundle : Bundle) (blocks : List Block) : Type 0 where
+  pub read : blocks_of bundle default_port ≡ Ok blocks
+  pub well : IsWell (blocks_task 0 bundle.files blocks)
+
+-- why what was read of a bundle with these files is refused
+abbrev pub IsRefusedFor : List FileText → Result (List Block) CorefileFault → Refusal → Type 0
+IsRefusedFor files (Ok blocks) why = IsFault told (blocks_task 0 files blocks) why
+IsRefusedFor files (Err fault) why = why ≡ refusal.Corefile fault
+
+-- why a bundle is refused
+abbrev pub IsRefused : ℕ → Bundle → Refusal → Type 0
+IsRefused default_port bundle why =
+    IsRefusedFor bundle.files (blocks_of bundle default_port) why

@@ -1,9 +1,10 @@
 -- What a list of steps means for a query and the marks of a side. Each step is a rule over the rest,
 -- which is the meaning of the steps behind it. This server's own rule, in the manner of CoreDNS.
-use Rattle.std.specs.Prelude.{ℕ, nat_eq, Bool, false, List, [], ◌∷◌, Option, Some, None}
+use Rattle.std.specs.Prelude.{ℕ, nat_eq, false, List, [], ◌∷◌, Option, Some, None}
 use Rattle.std.specs.Prelude.{option_map, if◌then◌else◌}
 use Rattle.std.specs.Cmp.Lexicographic.{pointwise}
 use Rattle.dns_data.specs.Message.{AnswerData}
+use Rattle.dns_data.specs.declared.directive.Directive.{Directive}
 use Rattle.dns_data.specs.declared.query.Query.{Query}
 use Rattle.dns_data.specs.declared.rcode.TheConstants as rcodes
 use Rattle.outside.specs.Meanings.{Meaning, Done, More, Off, onward}
@@ -11,8 +12,9 @@ use Rattle.outside.specs.declared.mark.Mark.{Mark}
 use Rattle.outside.specs.declared.mark.Mark.TheVariants.{Noted}
 use Rattle.acl_plugin.specs.{acl_say}
 use Rattle.file_plugin.specs.{file_say}
-use Rattle.hosts_plugin.specs.{Said, hosts_say}
-use Rattle.hosts_plugin.specs.Hosts.{reply, next, unknown}
+use Rattle.hosts_plugin.specs.{hosts_say}
+use Rattle.hosts_plugin.specs.{Said as HostsSaid}
+use Rattle.hosts_plugin.specs.Hosts as hosts
 use Rattle.acl_plugin.specs.declared.plan.AclSay.{AclSay}
 use Rattle.acl_plugin.specs.declared.plan.AclSay.TheVariants as acl
 use Rattle.plain_plugins.specs.{any_of, error_line, is_any, log_line, plain_zones, whoami_of}
@@ -22,11 +24,16 @@ use Rattle.plugin_api.specs.{PlanData}
 use Rattle.plugin_api.specs.declared.verdict.Cause.TheVariants as cause
 use Rattle.plugin_api.specs.declared.verdict.Code.{Code}
 use Rattle.plugin_api.specs.declared.verdict.Code.TheVariants as code
+use Rattle.rewrite_plugin.specs.{changed_by, restored}
+use Rattle.rewrite_plugin.specs.declared.plan_data.Changed.{Changed}
+use Rattle.template_plugin.specs.{template_say}
+use Rattle.template_plugin.specs.{Said as TemplateSaid}
+use Rattle.template_plugin.specs.Template as template
 use Rattle.zone_words.specs.{is_in}
 use Rattle.chain_meaning.specs.declared.decision.Decision.{Decision}
 use Rattle.chain_meaning.specs.declared.decision.Decision.TheVariants as decision
-use Rattle.chain_meaning.specs.Steps.{Answerer, Acl, Any, Hosts, File, Whoami}
-use Rattle.chain_meaning.specs.Steps.{Step, Errors, Log, Answers}
+use Rattle.chain_meaning.specs.Steps.{Answerer, Acl, Any, Template, Hosts, File, Whoami}
+use Rattle.chain_meaning.specs.Steps.{Step, Errors, Log, Rewrite, Answers}
 
 -- an RCODE without records
 abbrev pub nothing : ℕ → AnswerData
@@ -84,15 +91,23 @@ abbrev pub any_answer : Query → Option Decision
 any_answer q = if is_any q then Some (decision.Reply (any_of q)) else None
 
 -- hosts: an unknown name ends with SERVFAIL
-abbrev pub hosts_answer : Said → Option Decision
-hosts_answer (reply answer) = Some (decision.Reply answer)
-hosts_answer next = None
-hosts_answer unknown = Some (decision.Code code.ServFail cause.UnknownHost)
+abbrev pub hosts_answer : HostsSaid → Option Decision
+hosts_answer (hosts.reply answer) = Some (decision.Reply answer)
+hosts_answer hosts.next = None
+hosts_answer hosts.unknown = Some (decision.Code code.ServFail cause.UnknownHost)
+
+-- template: a name that no pattern matches ends with SERVFAIL, and so does a text that is no record
+abbrev pub template_answer : TemplateSaid → Option Decision
+template_answer (template.reply answer) = Some (decision.Reply answer)
+template_answer template.next = None
+template_answer template.no_match = Some (decision.Code code.ServFail cause.NoMatch)
+template_answer template.not_record = Some (decision.Code code.ServFail cause.NotRecord)
 
 -- what a plugin answers; None: it goes on
 unfoldable pub answer_of : Answerer → Query → List Mark → Meaning (Option Decision)
 answer_of (Acl plans) q marks = Done (acl_answer (acl_say plans q)) marks
 answer_of Any q marks = Done (any_answer q) marks
+answer_of (Template plans) q marks = Done (template_answer (template_say plans q)) marks
 answer_of (Hosts plan) q marks = Done (hosts_answer (hosts_say plan q)) marks
 answer_of (File plans) q marks = Done (option_map decision.Reply (file_say plans q)) marks
 answer_of Whoami q marks = Done (Some (decision.Reply (whoami_of q))) marks
@@ -103,11 +118,26 @@ abbrev pub or_rest : (Query → List Mark → Meaning Decision) → Query → Op
 or_rest rest q (Some v) left = Done v left
 or_rest rest q None left = rest q left
 
+-- rewrite: a reply of the rest is restored by the rules that were applied
+abbrev pub restored_in : List Directive → Changed → Decision → Decision
+restored_in ds changed (decision.Reply a) = decision.Reply (restored ds changed.steps a)
+restored_in ds changed (decision.Code code cause) = decision.Code code cause
+restored_in ds changed decision.Drop = decision.Drop
+
+abbrev pub reply_restored : List Directive → Changed → Decision → List Mark → Meaning Decision
+reply_restored ds changed v left = Done (restored_in ds changed v) left
+
+-- the rest decides for the query behind the rules
+abbrev pub rewritten : (Query → List Mark → Meaning Decision) → List Directive → Changed
+    → List Mark → Meaning Decision
+rewritten rest ds changed marks = onward (rest changed.query marks) (reply_restored ds changed)
+
 -- the rule of each step
 unfoldable pub rule : Step → (Query → List Mark → Meaning Decision) → Query → List Mark
     → Meaning Decision
 rule Errors rest q marks = onward (rest q marks) (error_noted q)
 rule (Log plan) rest q marks = onward (rest q marks) (query_noted plan q)
+rule (Rewrite ds) rest q marks = rewritten rest ds (changed_by ds q) marks
 rule (Answers plugin) rest q marks = onward (answer_of plugin q marks) (or_rest rest q)
 
 -- the end of the chain is SERVFAIL

@@ -1,19 +1,21 @@
 -- Laws of the meaning, for those who run a chain: an equation for each step, and that without a mark no
 -- meaning is off and a decision leaves nothing.
 use Rattle.std.proofs.Common.{◌≡◌, ℕ, Bool, true, false, List, [], ◌∷◌, Option, Some, None, refl, if◌then◌else◌}
+use Rattle.dns_data.specs.declared.directive.Directive.{Directive}
 use Rattle.dns_data.specs.declared.query.Query.{Query}
-use Rattle.outside.specs.Meanings.{Meaning, Done, More, Off, Starved, onward}
+use Rattle.outside.specs.Meanings.{Meaning, Done, Starved, onward}
 use Rattle.outside.specs.TakingLaws.{starved_onward}
 use Rattle.outside.specs.declared.mark.Mark.{Mark}
 use Rattle.plain_plugins.specs.{log_line, plain_zones}
 use Rattle.plugin_api.specs.{PlanData}
 use Rattle.plugin_api.specs.declared.verdict.Cause.TheVariants as cause
 use Rattle.plugin_api.specs.declared.verdict.Code.TheVariants as code
+use Rattle.rewrite_plugin.specs.{changed_by}
 use Rattle.zone_words.specs.{is_in}
 use Rattle.chain_meaning.specs.declared.decision.Decision.{Decision}
 use Rattle.chain_meaning.specs.declared.decision.Decision.TheVariants as decision
-use Rattle.chain_meaning.specs.Mean.{answer_of, error_noted, mean, or_rest, outcome_of, query_noted, rule, take_note}
-use Rattle.chain_meaning.specs.Steps.{Answerer, Acl, Any, Hosts, File, Whoami, Step, Errors, Log, Answers}
+use Rattle.chain_meaning.specs.Mean.{answer_of, error_noted, mean, or_rest, outcome_of, query_noted, reply_restored, rewritten, rule, take_note}
+use Rattle.chain_meaning.specs.Steps.{Answerer, Acl, Any, Template, Hosts, File, Whoami, Step, Errors, Log, Rewrite, Answers}
 
 pub mean-end : (q : Query) (marks : List Mark) → mean [] q marks ≡ Done (decision.Code code.ServFail cause.EndOfChain) marks
 unfolding mean
@@ -31,6 +33,11 @@ pub rule-log : (plan : PlanData) (rest : Query → List Mark → Meaning Decisio
     → rule (Log plan) rest q marks ≡ onward (rest q marks) (query_noted plan q)
 unfolding rule
 rule-log plan rest q marks = refl
+
+pub rule-rewrite : (ds : List Directive) (rest : Query → List Mark → Meaning Decision) (q : Query) (marks : List Mark)
+    → rule (Rewrite ds) rest q marks ≡ rewritten rest ds (changed_by ds q) marks
+unfolding rule
+rule-rewrite ds rest q marks = refl
 
 pub rule-answers : (plugin : Answerer) (rest : Query → List Mark → Meaning Decision) (q : Query) (marks : List Mark)
     → rule (Answers plugin) rest q marks ≡ onward (answer_of plugin q marks) (or_rest rest q)
@@ -53,6 +60,7 @@ pub answer_nothing : (plugin : Answerer) (q : Query) → Starved (answer_of plug
 unfolding answer_of
 answer_nothing (Acl plans) q = refl
 answer_nothing Any q = refl
+answer_nothing (Template plans) q = refl
 answer_nothing (Hosts plan) q = refl
 answer_nothing (File plans) q = refl
 answer_nothing Whoami q = refl
@@ -65,6 +73,7 @@ rule_nothing : (step : Step) (rest : Query → List Mark → Meaning Decision) (
 unfolding rule
 rule_nothing Errors rest q none = starved_onward (rest q []) (error_noted q) (none q) (error_nothing q)
 rule_nothing (Log plan) rest q none = starved_onward (rest q []) (query_noted plan q) (none q) (query_nothing plan q)
+rule_nothing (Rewrite ds) rest q none = starved_onward (rest (changed_by ds q).query []) (reply_restored ds (changed_by ds q)) (none (changed_by ds q).query) (λ v. refl)
 rule_nothing (Answers plugin) rest q none = starved_onward (answer_of plugin q []) (or_rest rest q) (answer_nothing plugin q) (or_rest_nothing rest q (none q))
 
 pub mean_nothing : (steps : List Step) (q : Query) → Starved (mean steps q [])

@@ -1,7 +1,7 @@
 -- The chain of a block: a list of steps, each with what its plugin reads, directives and the zones of
--- the block's keys, and for `hosts` and `file` the file. All `acl` directives are one step, and so are
--- all `file` directives.
-use Rattle.std.specs.Prelude.{ℕ, nat_eq, Bool, true, false, List, [], ◌∷◌, ◌++◌, map, Option, Some}
+-- the block's keys, and for `hosts` and `file` the file. All `acl` directives are one step, and so
+-- are all those of `rewrite`, of `template` and of `file`.
+use Rattle.std.specs.Prelude.{ℕ, nat_eq, Bool, false, List, [], ◌∷◌, ◌++◌, map, Option, Some}
 use Rattle.std.specs.Prelude.{None, if◌then◌else◌}
 use Rattle.std.specs.List.{filter, list_any}
 use Rattle.dns_data.specs.declared.block.Block.{Block}
@@ -21,6 +21,7 @@ use Rattle.plugin_api.specs.declared.ranks.Rank.TheVariants as rank
 pub data Answerer : Type 0 where
   Acl : List PlanData → Answerer
   Any : Answerer
+  Template : List PlanData → Answerer
   Hosts : HostsData → Answerer
   File : List FileData → Answerer
   Whoami : Answerer
@@ -28,6 +29,7 @@ pub data Answerer : Type 0 where
 pub data Step : Type 0 where
   Errors : Step
   Log : PlanData → Step
+  Rewrite : List Directive → Step
   Answers : Answerer → Step
 
 -- the zones for which a directive stands that names none: those of its block's keys
@@ -106,6 +108,14 @@ acl_steps (plan ∷ plans) = Answers (Acl (plan ∷ plans)) ∷ []
 abbrev pub any_steps : Bool → List Step
 any_steps stands = if stands then Answers Any ∷ [] else []
 
+abbrev pub rewrite_steps : List Directive → List Step
+rewrite_steps [] = []
+rewrite_steps (plan ∷ plans) = Rewrite (plan ∷ plans) ∷ []
+
+abbrev pub template_steps : List PlanData → List Step
+template_steps [] = []
+template_steps (plan ∷ plans) = Answers (Template (plan ∷ plans)) ∷ []
+
 abbrev pub hosts_step : HostsData → Step
 hosts_step plan = Answers (Hosts plan)
 
@@ -129,9 +139,11 @@ front_steps zones directives =
 
 abbrev pub back_steps : Context → List Directive → List Step
 back_steps context directives =
-    hosts_steps (hosts_plans context directives)
+    rewrite_steps (filter (has_rank rank.Rewrite) directives)
+    ++ (template_steps (plans_of rank.Template context.zones directives)
+    ++ (hosts_steps (hosts_plans context directives)
     ++ (file_steps (file_plans context directives)
-    ++ whoami_steps (some_has rank.Whoami directives))
+    ++ whoami_steps (some_has rank.Whoami directives))))
 
 -- the chain of a block in a bundle with these files: rank by rank, whatever the order of the text
 unfoldable pub steps_of : List FileText → Block → List Step

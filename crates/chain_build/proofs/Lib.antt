@@ -1,3 +1,5 @@
 pub mod BlockReading
+pub mod BlocksMaking
+pub mod OneRead
 pub mod Served
 pub mod Walks

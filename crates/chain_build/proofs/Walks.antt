@@ -1,26 +1,29 @@
 -- What a walk took: one lemma for each way on.
-use Rattle.std.proofs.Common.{◌≡◌, List, [], ◌∷◌, map, length, Option, Some, None, Result, Ok, Err, refl, ap, subst, ◌∙◌, arith}
+use Rattle.std.proofs.Common.{◌≡◌, ◌<◌, List, [], ◌∷◌, map, length, Option, Some, None, Result, Ok, Err, refl, ap, subst, ◌∙◌, arith}
 use Rattle.std.specs.Prelude.{IsErr}
 use Rattle.dns_lists.specs.declared.memory.NoMemory.{NoMemory}
 use Rattle.dns_data.specs.Message.{AnswerData}
+use Rattle.dns_data.specs.declared.directive.Directive.{Directive}
 use Rattle.dns_data.specs.declared.query.Query.{Query}
 use Rattle.outside.specs.Journals.{adds-nothing}
 use Rattle.outside.specs.Meanings.{Meaning, Done, Starved, onward}
 use Rattle.outside.specs.States.{SideState}
 use Rattle.outside.specs.Taking.{Asks}
-use Rattle.outside.specs.TakingLaws.{stays-nothing}
+use Rattle.outside.specs.TakingLaws.{asks-nothing, starved_onward, stays-nothing}
 use Rattle.outside.specs.declared.kept.Kept.{Kept}
 use Rattle.outside.specs.declared.mark.Mark.{Mark}
 use Rattle.plugin_api.specs.{PlanData}
 use Rattle.plugin_api.specs.declared.verdict.Cause.TheVariants as cause
 use Rattle.plugin_api.specs.declared.verdict.Code.TheVariants as code
+use Rattle.rewrite_plugin.specs.{changed_by}
+use Rattle.rewrite_plugin.specs.declared.plan_data.Changed.{Changed}
 use Rattle.chain_meaning.specs.declared.decision.Decision.{Decision}
 use Rattle.chain_meaning.specs.declared.decision.Decision.TheVariants as decision
-use Rattle.chain_meaning.specs.Mean.{answer_of, error_noted, mean, or_rest, query_noted, rule}
-use Rattle.chain_meaning.specs.MeanLaws.{mean-end, mean-step, rule-answers, rule-errors, rule-log}
-use Rattle.chain_meaning.specs.Steps.{Answerer}
-use Rattle.chain_build.specs.Compiled.{back_answerer, back_of, front_answerer, front_of, whole}
-use Rattle.chain_build.specs.Walking.{Answered, decided, decision_of}
+use Rattle.chain_meaning.specs.Mean.{answer_of, error_noted, mean, or_rest, query_noted, reply_restored, rewritten, rule}
+use Rattle.chain_meaning.specs.MeanLaws.{mean-end, mean-step, mean_nothing, rule-answers, rule-errors, rule-log, rule-rewrite}
+use Rattle.chain_meaning.specs.Steps.{Answerer, Rewrite}
+use Rattle.chain_build.specs.Compiled.{back_answerer, back_of, back_steps, front_answerer, front_of, whole}
+use Rattle.chain_build.specs.Walking.{Answered, Restored, decided, decision_of}
 use Rattle.chain_build.specs.declared.back.BackAnswerer.{BackAnswerer}
 use Rattle.chain_build.specs.declared.ended.Ended.{Ended}
 use Rattle.chain_build.specs.declared.front.FrontAnswerer.{FrontAnswerer}
@@ -64,20 +67,37 @@ pub back-answers : {steps : List BackAnswerer} (plugin : BackAnswerer) (rest : L
 back-answers plugin rest q e marks =
     ap (λ s. mean (map back_of s) q marks) e ∙ mean-step (back_of plugin) (map back_of rest) q marks ∙ rule-answers (back_answerer plugin) (mean (map back_of rest)) q marks
 
+-- behind the rules of `rewrite`
+pub behind-none : (rewrites : List Directive) (back : List BackAnswerer) (q : Query) → length rewrites ≡ 0 → (marks : List Mark) → mean (back_steps rewrites back) q marks ≡ mean (map back_of back) q marks
+behind-none rewrites back q e marks = ap (λ ds. mean (back_steps ds back) q marks) (empty rewrites e)
+
+pub behind-rules : (rewrites : List Directive) (back : List BackAnswerer) (q : Query) → 0 < length rewrites → (marks : List Mark)
+    → mean (back_steps rewrites back) q marks ≡ rewritten (mean (map back_of back)) rewrites (changed_by rewrites q) marks
+behind-rules [] back q h marks = absurd (omega (arith, h))
+behind-rules (d ∷ ds) back q h marks = mean-step (Rewrite (d ∷ ds)) (map back_of back) q marks ∙ rule-rewrite (d ∷ ds) (mean (map back_of back)) q marks
+
+pub rewritten_nothing : (back : List BackAnswerer) (ds : List Directive) (changed : Changed) → Starved (rewritten (mean (map back_of back)) ds changed [])
+rewritten_nothing back ds changed = starved_onward (mean (map back_of back) changed.query []) (reply_restored ds changed) (mean_nothing (map back_of back) changed.query) (λ v. refl)
+
+pub restored-asks : (ds : List Directive) (changed : Changed) (v : Decision) (slot : AnswerData) (result : Result Ended NoMemory) {side : SideState} {k : Kept}
+    → Restored ds changed v slot result → Asks (reply_restored ds changed v) (decided result slot) side side k k
+restored-asks ds changed v slot (Ok e) h = asks-nothing (reply_restored ds changed v) (λ left. ap (λ w. Done w left) h)
+restored-asks ds changed v slot (Err e) h = asks-starved (reply_restored ds changed v) refl refl
+
 -- in front of it
-first : {steps : List FrontStep} (step : FrontStep) (rest : List FrontStep) (is : FrontStep) (back : List BackAnswerer) (q : Query) → steps ≡ step ∷ rest → step ≡ is
-    → (marks : List Mark) → mean (whole steps back) q marks ≡ rule (front_of is) (mean (whole rest back)) q marks
-first step rest is back q e f marks =
-    ap (λ s. mean (whole s back) q marks) e ∙ mean-step (front_of step) (whole rest back) q marks ∙ ap (λ s. rule (front_of s) (mean (whole rest back)) q marks) f
+first : {steps : List FrontStep} (step : FrontStep) (rest : List FrontStep) (is : FrontStep) (rewrites : List Directive) (back : List BackAnswerer) (q : Query) → steps ≡ step ∷ rest → step ≡ is
+    → (marks : List Mark) → mean (whole steps rewrites back) q marks ≡ rule (front_of is) (mean (whole rest rewrites back)) q marks
+first step rest is rewrites back q e f marks =
+    ap (λ s. mean (whole s rewrites back) q marks) e ∙ mean-step (front_of step) (whole rest rewrites back) q marks ∙ ap (λ s. rule (front_of s) (mean (whole rest rewrites back)) q marks) f
 
-pub front-errors : {steps : List FrontStep} (step : FrontStep) (rest : List FrontStep) (back : List BackAnswerer) (q : Query) → steps ≡ step ∷ rest → step ≡ front.Errors
-    → (marks : List Mark) → mean (whole steps back) q marks ≡ onward (mean (whole rest back) q marks) (error_noted q)
-front-errors step rest back q e f marks = first step rest front.Errors back q e f marks ∙ rule-errors (mean (whole rest back)) q marks
+pub front-errors : {steps : List FrontStep} (step : FrontStep) (rest : List FrontStep) (rewrites : List Directive) (back : List BackAnswerer) (q : Query) → steps ≡ step ∷ rest → step ≡ front.Errors
+    → (marks : List Mark) → mean (whole steps rewrites back) q marks ≡ onward (mean (whole rest rewrites back) q marks) (error_noted q)
+front-errors step rest rewrites back q e f marks = first step rest front.Errors rewrites back q e f marks ∙ rule-errors (mean (whole rest rewrites back)) q marks
 
-pub front-log : {steps : List FrontStep} (step : FrontStep) (rest : List FrontStep) (plan : PlanData) (back : List BackAnswerer) (q : Query) → steps ≡ step ∷ rest → step ≡ front.Log plan
-    → (marks : List Mark) → mean (whole steps back) q marks ≡ onward (mean (whole rest back) q marks) (query_noted plan q)
-front-log step rest plan back q e f marks = first step rest (front.Log plan) back q e f marks ∙ rule-log plan (mean (whole rest back)) q marks
+pub front-log : {steps : List FrontStep} (step : FrontStep) (rest : List FrontStep) (plan : PlanData) (rewrites : List Directive) (back : List BackAnswerer) (q : Query) → steps ≡ step ∷ rest → step ≡ front.Log plan
+    → (marks : List Mark) → mean (whole steps rewrites back) q marks ≡ onward (mean (whole rest rewrites back) q marks) (query_noted plan q)
+front-log step rest plan rewrites back q e f marks = first step rest (front.Log plan) rewrites back q e f marks ∙ rule-log plan (mean (whole rest rewrites back)) q marks
 
-pub front-answers : {steps : List FrontStep} (step : FrontStep) (rest : List FrontStep) (plugin : FrontAnswerer) (back : List BackAnswerer) (q : Query) → steps ≡ step ∷ rest → step ≡ front.Answers plugin
-    → (marks : List Mark) → mean (whole steps back) q marks ≡ onward (answer_of (front_answerer plugin) q marks) (or_rest (mean (whole rest back)) q)
-front-answers step rest plugin back q e f marks = first step rest (front.Answers plugin) back q e f marks ∙ rule-answers (front_answerer plugin) (mean (whole rest back)) q marks
+pub front-answers : {steps : List FrontStep} (step : FrontStep) (rest : List FrontStep) (plugin : FrontAnswerer) (rewrites : List Directive) (back : List BackAnswerer) (q : Query) → steps ≡ step ∷ rest → step ≡ front.Answers plugin
+    → (marks : List Mark) → mean (whole steps rewrites back) q marks ≡ onward (answer_of (front_answerer plugin) q marks) (or_rest (mean (whole rest rewrites back)) q)
+front-answers step rest plugin rewrites back q e f marks = first step rest (front.Answers plugin) rewrites back q e f marks ∙ rule-answers (front_answerer plugin) (mean (whole rest rewrites back)) q marks

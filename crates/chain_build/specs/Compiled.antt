@@ -1,7 +1,8 @@
 -- The steps that stand for compiled ones.
 use Rattle.std.specs.Prelude.{List, ◌++◌, map}
-use Rattle.chain_meaning.specs.Steps.{Answerer, Acl, Any, Hosts, File, Whoami}
-use Rattle.chain_meaning.specs.Steps.{Step, Errors, Log, Answers}
+use Rattle.dns_data.specs.declared.directive.Directive.{Directive}
+use Rattle.chain_meaning.specs.Steps.{Answerer, Acl, Any, Template, Hosts, File, Whoami}
+use Rattle.chain_meaning.specs.Steps.{Step, Errors, Log, Answers, rewrite_steps}
 use Rattle.chain_build.specs.declared.back.BackAnswerer.{BackAnswerer}
 use Rattle.chain_build.specs.declared.back.BackAnswerer.TheVariants as behind
 use Rattle.chain_build.specs.declared.front.FrontAnswerer.{FrontAnswerer}
@@ -19,6 +20,7 @@ front_of (front.Log plan) = Log plan
 front_of (front.Answers plugin) = Answers (front_answerer plugin)
 
 abbrev pub back_answerer : BackAnswerer → Answerer
+back_answerer (behind.Template plans) = Template plans
 back_answerer (behind.Hosts plan) = Hosts plan
 back_answerer (behind.File plans) = File plans
 back_answerer behind.Whoami = Whoami
@@ -26,6 +28,10 @@ back_answerer behind.Whoami = Whoami
 abbrev pub back_of : BackAnswerer → Step
 back_of plugin = Answers (back_answerer plugin)
 
+-- what stands behind a cache: the rules that change the query, and the plugins that answer
+abbrev pub back_steps : List Directive → List BackAnswerer → List Step
+back_steps rewrites back = rewrite_steps rewrites ++ map back_of back
+
 -- the whole chain
-abbrev pub whole : List FrontStep → List BackAnswerer → List Step
-whole front back = map front_of front ++ map back_of back
+abbrev pub whole : List FrontStep → List Directive → List BackAnswerer → List Step
+whole front rewrites back = map front_of front ++ back_steps rewrites back

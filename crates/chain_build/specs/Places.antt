@@ -1,30 +1,34 @@
 -- What is read of a block's directives, each rank in a place of its own, and the steps of that.
-use Rattle.std.specs.Prelude.{◌≡◌, ℕ, true, false, List, [], ◌∷◌, ◌++◌, Option, Some, None, Result}
-use Rattle.std.specs.Prelude.{Ok, Err}
+use Rattle.std.specs.Prelude.{◌≡◌, ℕ, ◌+◌, true, false, List, [], ◌∷◌, ◌++◌, length, Option}
+use Rattle.std.specs.Prelude.{Some, Result, Ok, Err}
 use Rattle.dns_data.specs.declared.block.Block.{Block}
 use Rattle.dns_data.specs.declared.directive.Directive.{Directive}
 use Rattle.plugin_api.specs.{PlanData, rank_of}
 use Rattle.plugin_api.specs.declared.ranks.Rank.{Rank}
 use Rattle.plugin_api.specs.declared.ranks.Rank.TheVariants as rank
 use Rattle.dns_data.specs.declared.file.FileText.{FileText}
-use Rattle.chain_meaning.specs.Accepting.{block_refusal, directive_refusal}
+use Rattle.pattern_judging.specs.{IsFault, IsWell}
+use Rattle.chain_meaning.specs.Accepting.{Behind, block_task, directive_task, rank_patterns, told}
 use Rattle.chain_meaning.specs.Steps.{Context, Step, acl_steps, any_steps, context_of, error_steps}
 use Rattle.chain_meaning.specs.Steps.{file_plan, file_steps, hosts_plan, hosts_steps, log_steps}
-use Rattle.chain_meaning.specs.Steps.{plan_in, whoami_steps}
+use Rattle.chain_meaning.specs.Steps.{plan_in, rewrite_steps, template_steps, whoami_steps}
 use Rattle.chain_build.specs.declared.fault.CheckFault.{CheckFault}
 use Rattle.chain_build.specs.declared.fault.CheckFault.TheVariants as fault
 use Rattle.chain_build.specs.declared.places.Places.{Places}
 
--- nothing was read
-abbrev pub no_places : Places
-no_places = record {
+-- nothing was read, behind so many patterns
+abbrev pub no_places : ℕ → Places
+no_places patterns = record {
   errors = false;
   logs = [];
   acls = [];
   any = false;
+  rewrites = [];
+  templates = [];
   hosts = [];
   files = [];
   whoami = false;
+  patterns = patterns;
 }
 
 -- what the directives of a block with these zones are read in, in a bundle with these files
@@ -43,6 +47,14 @@ placed_plain other plan places = places
 abbrev pub placed_by : Option Rank → Context → Directive → Places → Places
 placed_by (Some rank.Acl) context d places =
     record places { acls = places.acls ++ plan_in context.zones d ∷ [] }
+placed_by (Some rank.Rewrite) context d places = record places {
+  rewrites = places.rewrites ++ d ∷ [];
+  patterns = places.patterns + length (rank_patterns (Some rank.Rewrite) d);
+}
+placed_by (Some rank.Template) context d places = record places {
+  templates = places.templates ++ plan_in context.zones d ∷ [];
+  patterns = places.patterns + length (rank_patterns (Some rank.Template) d);
+}
 placed_by (Some rank.Hosts) context d places =
     record places { hosts = places.hosts ++ hosts_plan context d ∷ [] }
 placed_by (Some rank.File) context d places =
@@ -61,24 +73,35 @@ front_in places =
     error_steps places.errors
     ++ (log_steps places.logs ++ (acl_steps places.acls ++ any_steps places.any))
 
+abbrev pub answers_in : Places → List Step
+answers_in places =
+    template_steps places.templates
+    ++ (hosts_steps places.hosts ++ (file_steps places.files ++ whoami_steps places.whoami))
+
 abbrev pub back_in : Places → List Step
 back_in places =
-    hosts_steps places.hosts ++ (file_steps places.files ++ whoami_steps places.whoami)
+    rewrite_steps places.rewrites ++ answers_in places
+
+-- what the next directive of a block stands behind, where this was read of those before it
+abbrev pub behind_in : Context → List Directive → Places → Behind
+behind_in context before places =
+    record { patterns = places.patterns; before = before; context = context }
 
 -- reading one more directive, behind those that stand before it
 abbrev pub ReadsMore : Context → List Directive → Directive → Places → Places
     → Result (Unit {0}) CheckFault → Type 0
 ReadsMore context before d old new (Ok done) =
-    (directive_refusal before d context ≡ None)
+    IsWell (directive_task (behind_in context before old) d)
     × (new ≡ placed_by (rank_of d.name) context d old)
 ReadsMore context before d old new (Err (fault.Refused why)) =
-    directive_refusal before d context ≡ Some why
+    IsFault told (directive_task (behind_in context before old) d) why
 ReadsMore context before d old new (Err fault.NoMemory) = Unit {0}
 
--- reading the directives of a block in a bundle with these files
-abbrev pub ReadsBlock : List FileText → Block → Result Places CheckFault → Type 0
-ReadsBlock files block (Ok places) =
-    (block_refusal files block ≡ None)
-    × (places ≡ placed (context_of files block) block.directives no_places)
-ReadsBlock files block (Err (fault.Refused why)) = block_refusal files block ≡ Some why
-ReadsBlock files block (Err fault.NoMemory) = Unit {0}
+-- reading the directives of a block in a bundle with these files, behind so many patterns
+abbrev pub ReadsBlock : ℕ → List FileText → Block → Result Places CheckFault → Type 0
+ReadsBlock patterns files block (Ok places) =
+    IsWell (block_task patterns files block)
+    × (places ≡ placed (context_of files block) block.directives (no_places patterns))
+ReadsBlock patterns files block (Err (fault.Refused why)) =
+    IsFault told (block_task patterns files block) why
+ReadsBlock patterns files block (Err fault.NoMemory) = Unit {0}

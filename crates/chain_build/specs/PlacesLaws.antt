@@ -1,7 +1,8 @@
 -- What is read of a block's directives is its chain.
-use Rattle.std.proofs.Common.{◌≡◌, Bool, true, false, List, [], ◌∷◌, ◌++◌, map, Option, Some, None, refl, sym, ap, ◌∙◌, append_assoc}
+use Rattle.std.proofs.Common.{◌≡◌, ℕ, ◌+◌, length, arith, Bool, true, false, List, [], ◌∷◌, ◌++◌, map, Option, Some, None, refl, sym, ap, ◌∙◌, append_assoc}
 use Rattle.std.specs.Prelude.{◌||◌}
-use Rattle.std.proofs.lemmas.List.{append-nil}
+use Rattle.std.proofs.lemmas.List.{append-nil, length-append}
+use Rattle.std.specs.List.{filter}
 use Rattle.dns_data.specs.declared.block.Block.{Block}
 use Rattle.dns_data.specs.declared.directive.Directive.{Directive}
 use Rattle.dns_data.specs.declared.file.FileText.{FileText}
@@ -10,15 +11,16 @@ use Rattle.hosts_plugin.specs.{HostsData}
 use Rattle.plugin_api.specs.{PlanData, rank_of}
 use Rattle.plugin_api.specs.declared.ranks.Rank.{Rank}
 use Rattle.plugin_api.specs.declared.ranks.Rank.TheVariants as rank
-use Rattle.chain_meaning.specs.Steps.{Context, context_of, file_plan, file_plans, hosts_plan, hosts_plans, plan_in, plans_of, some_has, steps_of}
+use Rattle.chain_meaning.specs.Accepting.{patterns_in, rank_patterns}
+use Rattle.chain_meaning.specs.Steps.{Context, context_of, file_plan, file_plans, has_rank, hosts_plan, hosts_plans, plan_in, plans_of, rewrite_steps, some_has, steps_of}
 use Rattle.chain_build.specs.declared.back.BackAnswerer.{BackAnswerer}
 use Rattle.chain_build.specs.declared.front.FrontStep.{FrontStep}
 use Rattle.chain_build.specs.declared.places.Places.{Places}
 use Rattle.chain_build.specs.Compiled.{back_of, front_of, whole}
-use Rattle.chain_build.specs.Places.{back_in, front_in, no_places, placed, placed_by}
+use Rattle.chain_build.specs.Places.{answers_in, back_in, front_in, no_places, placed, placed_by}
 
-abbrev fields : Bool → List PlanData → List PlanData → Bool → List HostsData → List FileData → Bool → Places
-fields errors logs acls any hosts files whoami = record { errors = errors; logs = logs; acls = acls; any = any; hosts = hosts; files = files; whoami = whoami }
+abbrev fields : Bool → List PlanData → List PlanData → Bool → List Directive → List PlanData → List HostsData → List FileData → Bool → ℕ → Places
+fields errors logs acls any rewrites templates hosts files whoami patterns = record { errors = errors; logs = logs; acls = acls; any = any; rewrites = rewrites; templates = templates; hosts = hosts; files = files; whoami = whoami; patterns = patterns }
 
 abbrev logs_of : Context → List Directive → Places → List PlanData
 logs_of c ds p = p.logs ++ plans_of rank.Log c.zones ds
@@ -26,16 +28,25 @@ logs_of c ds p = p.logs ++ plans_of rank.Log c.zones ds
 abbrev acls_of : Context → List Directive → Places → List PlanData
 acls_of c ds p = p.acls ++ plans_of rank.Acl c.zones ds
 
+abbrev rewrites_of : Context → List Directive → Places → List Directive
+rewrites_of c ds p = p.rewrites ++ filter (has_rank rank.Rewrite) ds
+
+abbrev templates_of : Context → List Directive → Places → List PlanData
+templates_of c ds p = p.templates ++ plans_of rank.Template c.zones ds
+
 abbrev hosts_of : Context → List Directive → Places → List HostsData
 hosts_of c ds p = p.hosts ++ hosts_plans c ds
 
 abbrev files_of : Context → List Directive → Places → List FileData
 files_of c ds p = p.files ++ file_plans c ds
 
+abbrev count_of : List Directive → Places → ℕ
+count_of ds p = p.patterns + length (patterns_in ds)
+
 -- what was read before, with what further directives are
 abbrev with_all : Context → List Directive → Places → Places
 with_all c ds p =
-    fields (p.errors || some_has rank.Errors ds) (logs_of c ds p) (acls_of c ds p) (p.any || some_has rank.Any ds) (hosts_of c ds p) (files_of c ds p) (p.whoami || some_has rank.Whoami ds)
+    fields (p.errors || some_has rank.Errors ds) (logs_of c ds p) (acls_of c ds p) (p.any || some_has rank.Any ds) (rewrites_of c ds p) (templates_of c ds p) (hosts_of c ds p) (files_of c ds p) (p.whoami || some_has rank.Whoami ds) (count_of ds p)
 
 or_true : (b : Bool) → (b || true) ≡ true
 or_true true = refl
@@ -45,32 +56,42 @@ or_false : (b : Bool) → (b || false) ≡ b
 or_false true = refl
 or_false false = refl
 
+plus_none : (n : ℕ) → n + 0 ≡ n
+plus_none n = omega arith
+
+counts_on : (n : ℕ) (xs ys : List (List ℕ)) → (n + length xs) + length ys ≡ n + length (xs ++ ys)
+counts_on n xs ys = omega (arith, length-append xs ys)
+
 step : (c : Context) (d : Directive) (ds : List Directive) (p : Places) (r : Option Rank) → rank_of d.name ≡ r → with_all c ds (placed_by r c d p) ≡ with_all c (d ∷ ds) p
 step c d ds p None e = rw e refl
 step c d ds p (Some rank.Passive) e = rw e refl
 step c d ds p (Some rank.Reload) e = rw e refl
-step c d ds p (Some rank.Errors) e = rw e (λ i. fields (sym (or_true p.errors) i) (logs_of c ds p) (acls_of c ds p) (p.any || some_has rank.Any ds) (hosts_of c ds p) (files_of c ds p) (p.whoami || some_has rank.Whoami ds))
-step c d ds p (Some rank.Log) e = rw e (λ i. fields (p.errors || some_has rank.Errors ds) (append_assoc p.logs (plan_in c.zones d ∷ []) (plans_of rank.Log c.zones ds) i) (acls_of c ds p) (p.any || some_has rank.Any ds) (hosts_of c ds p) (files_of c ds p) (p.whoami || some_has rank.Whoami ds))
+step c d ds p (Some rank.Errors) e = rw e (λ i. fields (sym (or_true p.errors) i) (logs_of c ds p) (acls_of c ds p) (p.any || some_has rank.Any ds) (rewrites_of c ds p) (templates_of c ds p) (hosts_of c ds p) (files_of c ds p) (p.whoami || some_has rank.Whoami ds) (count_of ds p))
+step c d ds p (Some rank.Log) e = rw e (λ i. fields (p.errors || some_has rank.Errors ds) (append_assoc p.logs (plan_in c.zones d ∷ []) (plans_of rank.Log c.zones ds) i) (acls_of c ds p) (p.any || some_has rank.Any ds) (rewrites_of c ds p) (templates_of c ds p) (hosts_of c ds p) (files_of c ds p) (p.whoami || some_has rank.Whoami ds) (count_of ds p))
 step c d ds p (Some rank.Dns64) e = rw e refl
-step c d ds p (Some rank.Acl) e = rw e (λ i. fields (p.errors || some_has rank.Errors ds) (logs_of c ds p) (append_assoc p.acls (plan_in c.zones d ∷ []) (plans_of rank.Acl c.zones ds) i) (p.any || some_has rank.Any ds) (hosts_of c ds p) (files_of c ds p) (p.whoami || some_has rank.Whoami ds))
-step c d ds p (Some rank.Any) e = rw e (λ i. fields (p.errors || some_has rank.Errors ds) (logs_of c ds p) (acls_of c ds p) (sym (or_true p.any) i) (hosts_of c ds p) (files_of c ds p) (p.whoami || some_has rank.Whoami ds))
+step c d ds p (Some rank.Acl) e = rw e (λ i. fields (p.errors || some_has rank.Errors ds) (logs_of c ds p) (append_assoc p.acls (plan_in c.zones d ∷ []) (plans_of rank.Acl c.zones ds) i) (p.any || some_has rank.Any ds) (rewrites_of c ds p) (templates_of c ds p) (hosts_of c ds p) (files_of c ds p) (p.whoami || some_has rank.Whoami ds) (count_of ds p))
+step c d ds p (Some rank.Any) e = rw e (λ i. fields (p.errors || some_has rank.Errors ds) (logs_of c ds p) (acls_of c ds p) (sym (or_true p.any) i) (rewrites_of c ds p) (templates_of c ds p) (hosts_of c ds p) (files_of c ds p) (p.whoami || some_has rank.Whoami ds) (count_of ds p))
 step c d ds p (Some rank.Extra) e = rw e refl
 step c d ds p (Some rank.Cache) e = rw e refl
-step c d ds p (Some rank.Rewrite) e = rw e refl
-step c d ds p (Some rank.Template) e = rw e refl
-step c d ds p (Some rank.Hosts) e = rw e (λ i. fields (p.errors || some_has rank.Errors ds) (logs_of c ds p) (acls_of c ds p) (p.any || some_has rank.Any ds) (append_assoc p.hosts (hosts_plan c d ∷ []) (hosts_plans c ds) i) (files_of c ds p) (p.whoami || some_has rank.Whoami ds))
-step c d ds p (Some rank.File) e = rw e (λ i. fields (p.errors || some_has rank.Errors ds) (logs_of c ds p) (acls_of c ds p) (p.any || some_has rank.Any ds) (hosts_of c ds p) (append_assoc p.files (file_plan c d ∷ []) (file_plans c ds) i) (p.whoami || some_has rank.Whoami ds))
+step c d ds p (Some rank.Rewrite) e = rw e (λ i. fields (p.errors || some_has rank.Errors ds) (logs_of c ds p) (acls_of c ds p) (p.any || some_has rank.Any ds) (append_assoc p.rewrites (d ∷ []) (filter (has_rank rank.Rewrite) ds) i) (templates_of c ds p) (hosts_of c ds p) (files_of c ds p) (p.whoami || some_has rank.Whoami ds) (counts_on p.patterns (rank_patterns (Some rank.Rewrite) d) (patterns_in ds) i))
+step c d ds p (Some rank.Template) e = rw e (λ i. fields (p.errors || some_has rank.Errors ds) (logs_of c ds p) (acls_of c ds p) (p.any || some_has rank.Any ds) (rewrites_of c ds p) (append_assoc p.templates (plan_in c.zones d ∷ []) (plans_of rank.Template c.zones ds) i) (hosts_of c ds p) (files_of c ds p) (p.whoami || some_has rank.Whoami ds) (counts_on p.patterns (rank_patterns (Some rank.Template) d) (patterns_in ds) i))
+step c d ds p (Some rank.Hosts) e = rw e (λ i. fields (p.errors || some_has rank.Errors ds) (logs_of c ds p) (acls_of c ds p) (p.any || some_has rank.Any ds) (rewrites_of c ds p) (templates_of c ds p) (append_assoc p.hosts (hosts_plan c d ∷ []) (hosts_plans c ds) i) (files_of c ds p) (p.whoami || some_has rank.Whoami ds) (count_of ds p))
+step c d ds p (Some rank.File) e = rw e (λ i. fields (p.errors || some_has rank.Errors ds) (logs_of c ds p) (acls_of c ds p) (p.any || some_has rank.Any ds) (rewrites_of c ds p) (templates_of c ds p) (hosts_of c ds p) (append_assoc p.files (file_plan c d ∷ []) (file_plans c ds) i) (p.whoami || some_has rank.Whoami ds) (count_of ds p))
 step c d ds p (Some rank.Forward) e = rw e refl
-step c d ds p (Some rank.Whoami) e = rw e (λ i. fields (p.errors || some_has rank.Errors ds) (logs_of c ds p) (acls_of c ds p) (p.any || some_has rank.Any ds) (hosts_of c ds p) (files_of c ds p) (sym (or_true p.whoami) i))
+step c d ds p (Some rank.Whoami) e = rw e (λ i. fields (p.errors || some_has rank.Errors ds) (logs_of c ds p) (acls_of c ds p) (p.any || some_has rank.Any ds) (rewrites_of c ds p) (templates_of c ds p) (hosts_of c ds p) (files_of c ds p) (sym (or_true p.whoami) i) (count_of ds p))
 
 all : (c : Context) (ds : List Directive) (p : Places) → placed c ds p ≡ with_all c ds p
 all c [] p =
-    λ i. fields (sym (or_false p.errors) i) (sym (append-nil p.logs) i) (sym (append-nil p.acls) i) (sym (or_false p.any) i) (sym (append-nil p.hosts) i) (sym (append-nil p.files) i) (sym (or_false p.whoami) i)
+    λ i. fields (sym (or_false p.errors) i) (sym (append-nil p.logs) i) (sym (append-nil p.acls) i) (sym (or_false p.any) i) (sym (append-nil p.rewrites) i) (sym (append-nil p.templates) i) (sym (append-nil p.hosts) i) (sym (append-nil p.files) i) (sym (or_false p.whoami) i) (sym (plus_none p.patterns) i)
 all c (d ∷ ds) p = all c ds (placed_by (rank_of d.name) c d p) ∙ step c d ds p (rank_of d.name) refl
 
 -- the plans of `file` that were read of directives
-pub files-placed : (c : Context) (ds : List Directive) → (placed c ds no_places).files ≡ file_plans c ds
-files-placed c ds = ap (λ (p : Places). p.files) (all c ds no_places)
+pub files-placed : (c : Context) (ds : List Directive) (n : ℕ) → (placed c ds (no_places n)).files ≡ file_plans c ds
+files-placed c ds n = ap (λ (p : Places). p.files) (all c ds (no_places n))
+
+-- how many patterns stand behind them
+pub patterns-placed : (c : Context) (ds : List Directive) (n : ℕ) → (placed c ds (no_places n)).patterns ≡ n + length (patterns_in ds)
+patterns-placed c ds n = ap (λ (p : Places). p.patterns) (all c ds (no_places n))
 
 placed_more : (c : Context) (before ds : List Directive) (p : Places) → placed c (before ++ ds) p ≡ placed c ds (placed c before p)
 placed_more c [] ds p = refl
@@ -81,16 +102,16 @@ pub placed-push : (c : Context) (before : List Directive) (d : Directive) (p : P
 placed-push c before d p = placed_more c before (d ∷ []) p
 
 -- the steps of what was read of a block are its chain
-pub places-steps : (files : List FileText) (block : Block) (places : Places) → places ≡ placed (context_of files block) block.directives no_places
+pub places-steps : (files : List FileText) (block : Block) (n : ℕ) (places : Places) → places ≡ placed (context_of files block) block.directives (no_places n)
     → front_in places ++ back_in places ≡ steps_of files block
 unfolding steps_of
-places-steps files block places is =
-    let read = is ∙ all (context_of files block) block.directives no_places in
+places-steps files block n places is =
+    let read = is ∙ all (context_of files block) block.directives (no_places n) in
     λ i. ap front_in read i ++ ap back_in read i
 
 -- and so are the compiled ones
-pub steps-placed : (files : List FileText) (block : Block) (front : List FrontStep) (back : List BackAnswerer) (places : Places) → places ≡ placed (context_of files block) block.directives no_places
-    → map front_of front ≡ front_in places → map back_of back ≡ back_in places → whole front back ≡ steps_of files block
-steps-placed files block front back places is f b =
-    let compiled : whole front back ≡ front_in places ++ back_in places = λ i. f i ++ b i in
-    compiled ∙ places-steps files block places is
+pub steps-placed : (files : List FileText) (block : Block) (n : ℕ) (front : List FrontStep) (back : List BackAnswerer) (places : Places) → places ≡ placed (context_of files block) block.directives (no_places n)
+    → map front_of front ≡ front_in places → map back_of back ≡ answers_in places → whole front places.rewrites back ≡ steps_of files block
+steps-placed files block n front back places is f b =
+    let compiled : whole front places.rewrites back ≡ front_in places ++ back_in places = λ i. f i ++ (rewrite_steps places.rewrites ++ b i) in
+    compiled ∙ places-steps files block n places is

@@ -11,7 +11,7 @@ use Rattle.chain_build.specs.Compiled.{whole}
 
 -- the steps of a block's chain
 abbrev pub steps_in : BlockChain → List Step
-steps_in chain = whole chain.front chain.back
+steps_in chain = whole chain.front chain.rewrites chain.back
 
 -- a bundle, and what was made of it once
 pub record PlansData : Type 0 where

@@ -1,32 +1,93 @@
--- What the parts of reading a directive do.
-use Rattle.std.specs.Prelude.{◌≡◌, Some, None, Result, Ok, Err}
+-- What the parts of reading a directive do, and what they leave of the maker of patterns.
+use Rattle.std.specs.Prelude.{◌≡◌, ℕ, ◌+◌, Bool, true, false, Some, None, Result, Ok, Err}
+use Rattle.std.specs.Prelude.{if◌then◌else◌}
+use Rattle.outside.specs.{WatchState, raised, with_refusals}
 use Rattle.dns_data.specs.declared.directive.Directive.{Directive}
 use Rattle.plugin_api.specs.declared.fault.DirectiveFault.{DirectiveFault}
 use Rattle.plugin_api.specs.declared.ranks.Rank.{Rank}
+use Rattle.plugin_api.specs.declared.ranks.Rank.TheVariants as rank
 use Rattle.file_plugin.specs.declared.fault.FileFault.{FileFault}
-use Rattle.chain_meaning.specs.Accepting.{reader_refusal, refused_by, refused_by_file}
-use Rattle.chain_meaning.specs.Steps.{Context}
+use Rattle.pattern_judging.specs.{IsFault, IsWell, Task}
+use Rattle.plugin_api.specs.declared.fault.DirectiveFault.TheVariants as directive
+use Rattle.chain_meaning.specs.Accepting.{fixed_refusal, rank_patterns, reader_refusal, refused_by}
+use Rattle.chain_meaning.specs.Accepting.{refused_by_file, told}
+use Rattle.chain_meaning.specs.Accepting.{Behind}
+use Rattle.chain_meaning.specs.declared.refusal.Refusal.{Refusal}
+use Rattle.chain_meaning.specs.declared.refusal.Refusal.TheVariants as refusal
+use Rattle.plugin_api.specs.declared.fault.DirectiveWhy.TheVariants as why
 use Rattle.chain_build.specs.declared.fault.CheckFault.{CheckFault}
 use Rattle.chain_build.specs.declared.fault.CheckFault.TheVariants as fault
 use Rattle.chain_build.specs.declared.places.Places.{Places}
 use Rattle.chain_build.specs.Places.{placed_by}
 
--- reading a directive of this rank
-abbrev pub ReadsAs : Rank → Context → Directive → Places → Places
-    → Result (Unit {0}) CheckFault → Type 0
-ReadsAs rank context d old new (Ok done) =
-    (reader_refusal rank old.files d context ≡ None)
-    × (new ≡ placed_by (Some rank) context d old)
-ReadsAs rank context d old new (Err (fault.Refused why)) =
-    reader_refusal rank old.files d context ≡ Some why
-ReadsAs rank context d old new (Err fault.NoMemory) = Unit {0}
+-- whether a refusal is that of a pattern
+abbrev pub is_of_pattern : Refusal → Bool
+is_of_pattern (refusal.Directive line why.Pattern) = true
+is_of_pattern (refusal.Directive line why.PatternSize) = true
+is_of_pattern other = false
 
--- a fault of a directive is a refusal, unless it is want of memory
+-- the refusals of a maker behind a fault: they rise by one where it refused a pattern
+abbrev pub refusals_behind : CheckFault → ℕ → ℕ
+refusals_behind (fault.Refused refused) before =
+    if is_of_pattern refused then raised before else before
+refusals_behind fault.NoMemory before = before
+
+-- a maker behind a check: nothing but its refusals is another
+abbrev pub check_behind : {X : Type 0} → Result X CheckFault → WatchState → WatchState
+check_behind (Ok x) state = state
+check_behind (Err refused) state =
+    with_refusals state (refusals_behind refused state.refusals)
+
+-- whether the directives of a rank have no patterns
+abbrev pub IsFixed : Rank → Type 0
+IsFixed rank.Rewrite = ⊥
+IsFixed rank.Template = ⊥
+IsFixed other = Unit {0}
+
+-- reading a directive of this rank, which has no patterns
+abbrev pub ReadsAs : Rank → Behind → Directive → Places → Places
+    → Result (Unit {0}) CheckFault → Type 0
+ReadsAs rank b d old new (Ok done) =
+    (fixed_refusal rank b d ≡ None) × (new ≡ placed_by (Some rank) b.context d old)
+ReadsAs rank b d old new (Err (fault.Refused refused)) =
+    (fixed_refusal rank b d ≡ Some refused) × (is_of_pattern refused ≡ false)
+ReadsAs rank b d old new (Err fault.NoMemory) = Unit {0}
+
+-- a fault of a directive without patterns is a refusal, unless it is want of memory
 abbrev pub RefusesAs : DirectiveFault → CheckFault → Type 0
-RefusesAs why (fault.Refused refused) = refused_by (Some why) ≡ Some refused
-RefusesAs why fault.NoMemory = refused_by (Some why) ≡ None
+RefusesAs why (fault.Refused refused) =
+    (refused_by (Some why) ≡ Some refused) × (is_of_pattern refused ≡ false)
+RefusesAs why fault.NoMemory = Unit {0}
 
 -- the same of `file`
 abbrev pub RefusesFileAs : FileFault → CheckFault → Type 0
-RefusesFileAs why (fault.Refused refused) = refused_by_file (Some why) ≡ Some refused
-RefusesFileAs why fault.NoMemory = refused_by_file (Some why) ≡ None
+RefusesFileAs why (fault.Refused refused) =
+    (refused_by_file (Some why) ≡ Some refused) × (is_of_pattern refused ≡ false)
+RefusesFileAs why fault.NoMemory = Unit {0}
+
+-- so many more patterns are read
+abbrev pub CountsOn : ℕ → Places → Places → Result (Unit {0}) CheckFault → Type 0
+CountsOn count old new (Ok done) = new ≡ record old { patterns = old.patterns + count }
+CountsOn count old new (Err refused) = refused ≡ fault.NoMemory
+
+-- a fault of a directive with patterns is a refusal, unless it is want of memory
+abbrev pub RefusesWith : DirectiveFault → CheckFault → Type 0
+RefusesWith why (fault.Refused refused) = refused_by (Some why) ≡ Some refused
+RefusesWith why fault.NoMemory = why ≡ directive.NoMemory
+
+-- why a directive of this rank is refused, by what becomes of its patterns
+abbrev pub reader_task : Rank → Behind → Directive → Task Refusal
+reader_task rank b d = record {
+  number = b.patterns;
+  patterns = rank_patterns (Some rank) d;
+  fault = λ judgement. reader_refusal judgement rank b d;
+}
+
+-- reading a directive of this rank
+abbrev pub ReadsRank : Rank → Behind → Directive → Places → Places
+    → Result (Unit {0}) CheckFault → Type 0
+ReadsRank rank b d old new (Ok done) =
+    IsWell (reader_task rank b d) × (new ≡ placed_by (Some rank) b.context d old)
+ReadsRank rank b d old new (Err (fault.Refused refused)) =
+    IsFault told (reader_task rank b d) refused
+ReadsRank rank b d old new (Err fault.NoMemory) = Unit {0}

@@ -2,12 +2,14 @@
 use Rattle.std.specs.Prelude.{◌≡◌, List, Option, Some, None, Result, Ok, Err}
 use Rattle.dns_lists.specs.declared.memory.NoMemory.{NoMemory}
 use Rattle.dns_data.specs.Message.{AnswerData}
+use Rattle.dns_data.specs.declared.directive.Directive.{Directive}
 use Rattle.dns_data.specs.declared.query.Query.{Query}
 use Rattle.outside.specs.Meanings.{Done}
 use Rattle.outside.specs.declared.mark.Mark.{Mark}
 use Rattle.chain_meaning.specs.declared.decision.Decision.{Decision}
 use Rattle.chain_meaning.specs.declared.decision.Decision.TheVariants as decision
-use Rattle.chain_meaning.specs.Mean.{answer_of}
+use Rattle.rewrite_plugin.specs.declared.plan_data.Changed.{Changed}
+use Rattle.chain_meaning.specs.Mean.{answer_of, restored_in}
 use Rattle.chain_meaning.specs.Steps.{Answerer}
 use Rattle.chain_build.specs.declared.ended.Ended.{Ended}
 use Rattle.chain_build.specs.declared.ended.Ended.TheVariants as ended
@@ -30,3 +32,9 @@ Answered plugin q old new (Ok None) =
 Answered plugin q old new (Ok (Some e)) =
     (left : List Mark) → answer_of plugin q left ≡ Done (Some (decision_of e new)) left
 Answered plugin q old new (Err e) = Unit {0}
+
+-- the reply of the rest was restored by the rules that were applied
+abbrev pub Restored : List Directive → Changed → Decision → AnswerData → Result Ended NoMemory
+    → Type 0
+Restored ds changed v slot (Ok e) = restored_in ds changed v ≡ decision_of e slot
+Restored ds changed v slot (Err e) = Unit {0}

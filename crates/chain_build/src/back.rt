@@ -1,34 +1,113 @@
 ghost use Rattle.std.specs.Prelude.{◌≡◌, map};
 ghost use Rattle.dns_data.specs.Message.{no_answer};
 ghost use Rattle.outside.specs.Taking.{Asks};
-ghost use Rattle.chain_meaning.specs.Mean.{mean};
-ghost use Rattle.chain_build.specs.Compiled.{back_answerer, back_of};
-ghost use Rattle.chain_build.specs.Walking.{Answered, decided};
+ghost use Rattle.rewrite_plugin.specs.{changed_by};
+ghost use Rattle.chain_meaning.specs.Mean.{mean, rewritten};
+ghost use Rattle.chain_build.specs.Compiled.{back_answerer, back_of, back_steps};
+ghost use Rattle.chain_build.specs.Walking.{Answered, Restored, decided, decision_of};
 
 use crate::ended::Ended;
+use crate::room::PluginRoom;
 use dns_data::{NoMemory, Query, Seq, Slot};
 use file_plugin::{FilePlan, FileSay};
 use hosts_plugin::{HostsPlan, HostsSay};
 use outside::{Kept, Side};
 use plain_plugins::whoami_answer;
 use plugin_api::{Cause, Code};
+use rewrite_plugin::{Changed, RewritePlan, RewriteRoom, change, restore};
 use std::alloc::Global;
+use template_plugin::{TemplatePlan, TemplateRoom, TemplateSay};
 
 /// A plugin behind a cache, which answers or goes on, and notes nothing.
-#[derive(Debug, Drop)]
+#[derive(Drop)]
 pub enum BackAnswerer {
+    Template(Seq<TemplatePlan>),
     Hosts(HostsPlan),
     File(Seq<FilePlan>),
     Whoami,
 }
 
-/// Runs the steps behind a cache. The slot is clear.
+/// Runs what stands behind a cache: the rest is asked what the rules make of the query, and its
+/// reply is restored. The slot is clear.
+pub fn run_behind<S: Side>(
+    alloc: Global,
+    rewrites: &[RewritePlan],
+    back: &[BackAnswerer],
+    query: &Query,
+    side: &mut S,
+    kept: &mut Kept,
+    room: &mut PluginRoom,
+    slot: &mut Slot,
+) -> Result<Ended, NoMemory>
+    requires clear { slot.old ≡ no_answer }
+    ensures { Asks (mean (back_steps rewrites.now back.now) query.now) (decided result slot.new)
+        (S.state side.old) (S.state side.new) kept.old kept.new }
+{
+    if rewrites.len() == 0 {
+        return run_back(alloc, back, query, side, kept, &mut room.template, slot);
+    }
+    run_rewritten(alloc, rewrites, back, query, side, kept, room, slot)
+}
+
+// Runs the rest on what the rules make of the query, and restores its reply.
+fn run_rewritten<S: Side>(
+    alloc: Global,
+    rewrites: &[RewritePlan],
+    back: &[BackAnswerer],
+    query: &Query,
+    side: &mut S,
+    kept: &mut Kept,
+    room: &mut PluginRoom,
+    slot: &mut Slot,
+) -> Result<Ended, NoMemory>
+    requires clear { slot.old ≡ no_answer }
+    ensures { Asks
+        (rewritten (mean (map back_of back.now)) rewrites.now (changed_by rewrites.now query.now))
+        (decided result slot.new) (S.state side.old) (S.state side.new) kept.old kept.new }
+{
+    change(alloc, rewrites, query, &mut room.rewrite, &mut room.changed)?;
+    let changed = &room.changed;
+    let ended = run_back(
+        alloc,
+        back,
+        &changed.query,
+        side,
+        kept,
+        &mut room.template,
+        slot,
+    )?;
+    restore_reply(alloc, rewrites, changed, ended, &mut room.rewrite, slot)
+}
+
+// Restores the reply in the slot, where the rest ended with one.
+fn restore_reply(
+    alloc: Global,
+    rewrites: &[RewritePlan],
+    changed: &Changed,
+    ended: Ended,
+    room: &mut RewriteRoom,
+    slot: &mut Slot,
+) -> Result<Ended, NoMemory>
+    ensures { Restored rewrites.now changed.now (decision_of ended slot.old) slot.new result }
+{
+    match ended {
+        Ended::Reply => {
+            restore(alloc, rewrites, changed, room, slot)?;
+            Ok(Ended::Reply)
+        }
+        Ended::Code(code, cause) => Ok(Ended::Code(code, cause)),
+        Ended::Drop => Ok(Ended::Drop),
+    }
+}
+
+/// Runs the plugins that answer, behind a cache and the rules of `rewrite`. The slot is clear.
 pub fn run_back<S: Side>(
     alloc: Global,
     steps: &[BackAnswerer],
     query: &Query,
     side: &mut S,
     kept: &mut Kept,
+    room: &mut TemplateRoom,
     slot: &mut Slot,
 ) -> Result<Ended, NoMemory>
     requires clear { slot.old ≡ no_answer }
@@ -38,9 +117,9 @@ pub fn run_back<S: Side>(
     let Some((plugin, rest)) = steps.split_first() else {
         return Ok(Ended::Code(Code::ServFail, Cause::EndOfChain));
     };
-    match answer(alloc, plugin, query, slot)? {
+    match answer(alloc, plugin, query, room, slot)? {
         Some(ended) => Ok(ended),
-        None => run_back(alloc, rest, query, side, kept, slot),
+        None => run_back(alloc, rest, query, side, kept, room, slot),
     }
 }
 
@@ -50,12 +129,21 @@ fn answer(
     alloc: Global,
     plugin: &BackAnswerer,
     query: &Query,
+    room: &mut TemplateRoom,
     slot: &mut Slot,
 ) -> Result<Option<Ended>, NoMemory>
     requires clear { slot.old ≡ no_answer }
     ensures { Answered (back_answerer plugin.now) query.now slot.old slot.new result }
 {
     match plugin {
+        BackAnswerer::Template(plans) => {
+            match template_plugin::decide(alloc, plans.as_slice(), query, room, slot)? {
+                TemplateSay::Reply => Ok(Some(Ended::Reply)),
+                TemplateSay::Next => Ok(None),
+                TemplateSay::NoMatch => Ok(Some(Ended::Code(Code::ServFail, Cause::NoMatch))),
+                TemplateSay::NotRecord => Ok(Some(Ended::Code(Code::ServFail, Cause::NotRecord))),
+            }
+        }
         BackAnswerer::Hosts(plan) => match hosts_plugin::decide(alloc, plan, query, slot)? {
             HostsSay::Reply => Ok(Some(Ended::Reply)),
             HostsSay::Next => Ok(None),

@@ -2,8 +2,8 @@ ghost use Rattle.std.specs.Prelude.{◌≡◌, None, Some, Ok, Err, IfOk};
 ghost use Rattle.std.specs.List.{All};
 ghost use Rattle.corefile_blocks.specs.{IsReadable, ReadsBlocks};
 ghost use Rattle.corefile_blocks.specs.Readable.{HasShortBytes};
-ghost use Rattle.chain_meaning.specs.Accepting.{bundle_says};
 ghost use Rattle.chain_build.specs.Chains.{MakesBlock, MakesBlocks, MakesPlans};
+ghost use Rattle.chain_build.specs.Reading.{check_behind};
 
 use crate::compiling::{BlockChain, compile};
 use crate::fault::CheckFault;
@@ -12,14 +12,20 @@ use crate::plans::Plans;
 use chain_meaning::Refusal;
 use corefile_blocks::{Bundle, CorefileFault, ports, read_blocks};
 use dns_data::{Block, FileText, Seq};
+use outside::PatternMaker;
 use plugin_api::BlockIndex;
 use std::alloc::Global;
 
-/// What a bundle serves by, or its first refusal.
-#[tactic(auto, unfolding(chain_meaning::specs::Accepting::bundle_says))]
-pub fn check(alloc: Global, bundle: Bundle, default_port: u16) -> Result<Plans, CheckFault>
+/// What a bundle serves by, or its first refusal. The maker makes its patterns.
+pub fn check<M: PatternMaker>(
+    alloc: Global,
+    bundle: Bundle,
+    default_port: u16,
+    maker: &mut M,
+) -> Result<Plans, CheckFault>
     requires { IsReadable bundle }
-    ensures { MakesPlans bundle default_port result }
+    ensures plans { MakesPlans bundle default_port result }
+    ensures maker { M.state maker.new ≡ check_behind result (M.state maker.old) }
 {
     let blocks = match read_blocks(alloc, &bundle, default_port) {
         Ok(blocks) => blocks,
@@ -32,7 +38,7 @@ pub fn check(alloc: Global, bundle: Bundle, default_port: u16) -> Result<Plans, 
     if u32::MAX as usize <= blocks.len() {
         return Err(CheckFault::NoMemory);
     }
-    let chains = block_chains(alloc, bundle.files.as_slice(), blocks.as_slice())?;
+    let chains = block_chains(alloc, bundle.files.as_slice(), blocks.as_slice(), maker)?;
     let index = BlockIndex::new(alloc, &blocks)?;
     let ports = Seq::of(ports(alloc, &blocks)?);
     Ok(Plans {
@@ -46,28 +52,49 @@ pub fn check(alloc: Global, bundle: Bundle, default_port: u16) -> Result<Plans, 
 }
 
 // The chains of blocks in a bundle with these files.
-fn block_chains(
+fn block_chains<M: PatternMaker>(
     alloc: Global,
     files: &[FileText],
     blocks: &[Block],
+    maker: &mut M,
 ) -> Result<Seq<BlockChain>, CheckFault>
     requires { All HasShortBytes files.now }
-    ensures { MakesBlocks files.now blocks.now result }
+    ensures made { MakesBlocks files.now blocks.now result }
+    ensures maker { M.state maker.new ≡ check_behind result (M.state maker.old) }
 {
     let mut chains = Seq::with_capacity(alloc, blocks.len())?;
+    let mut patterns = 0;
     let mut rest = blocks;
     while let Some((block, behind)) = rest.split_first() {
-        chains.push(block_chain(alloc, files, block)?)?;
+        let made = block_chain(alloc, patterns, files, block, maker)?;
+        chains.push(made.chain)?;
+        patterns = made.patterns;
         rest = behind;
     }
     Ok(chains)
 }
 
-// The chain of a block.
-fn block_chain(alloc: Global, files: &[FileText], block: &Block) -> Result<BlockChain, CheckFault>
+/// What a block makes: its chain, and how many patterns of the configuration stand behind it.
+#[derive(Drop)]
+pub(crate) struct Made {
+    pub chain: BlockChain,
+    pub patterns: usize,
+}
+
+// The chain of a block, behind so many patterns.
+fn block_chain<M: PatternMaker>(
+    alloc: Global,
+    patterns: usize,
+    files: &[FileText],
+    block: &Block,
+    maker: &mut M,
+) -> Result<Made, CheckFault>
     requires { All HasShortBytes files.now }
-    ensures { MakesBlock files.now block.now result }
+    ensures made { MakesBlock patterns files.now block.now result }
+    ensures maker { M.state maker.new ≡ check_behind result (M.state maker.old) }
 {
-    let places = read_block(alloc, files, block)?;
-    Ok(compile(alloc, places)?)
+    let places = read_block(alloc, patterns, files, block, maker)?;
+    let patterns = places.patterns;
+    let chain = compile(alloc, places)?;
+    Ok(Made { chain, patterns })
 }

@@ -1,9 +1,10 @@
 ghost use Rattle.std.specs.Prelude.{◌≡◌, ◌++◌, map, IfOk, OnOk};
 ghost use Rattle.plugin_api.specs.{PlanData};
 ghost use Rattle.chain_meaning.specs.Steps.{acl_steps, any_steps, error_steps, log_steps};
-ghost use Rattle.chain_meaning.specs.Steps.{file_steps, hosts_steps, whoami_steps};
+ghost use Rattle.chain_meaning.specs.Steps.{file_steps, hosts_steps, template_steps};
+ghost use Rattle.chain_meaning.specs.Steps.{whoami_steps};
 ghost use Rattle.chain_build.specs.Compiled.{back_of, front_of};
-ghost use Rattle.chain_build.specs.Places.{back_in, front_in};
+ghost use Rattle.chain_build.specs.Places.{answers_in, front_in};
 
 use crate::back::BackAnswerer;
 use crate::front::{FrontAnswerer, FrontStep};
@@ -13,28 +14,36 @@ use dns_data::{NoMemory, Seq};
 use file_plugin::FilePlan;
 use hosts_plugin::HostsPlan;
 use plain_plugins::PlainPlan;
+use rewrite_plugin::RewritePlan;
 use std::alloc::Global;
+use template_plugin::TemplatePlan;
 
 /// The chain of a block, as it runs.
-#[derive(Debug, Drop)]
+#[derive(Drop)]
 pub struct BlockChain {
     pub front: Seq<FrontStep>,
+    /// The rules that change the query for the plugins behind them.
+    pub rewrites: Seq<RewritePlan>,
     pub back: Seq<BackAnswerer>,
 }
 
 /// Lists what was read rank by rank.
 pub fn compile(alloc: Global, places: Places) -> Result<BlockChain, NoMemory>
     ensures front { IfOk result (λ chain. map front_of chain.front ≡ front_in places) }
-    ensures back { IfOk result (λ chain. map back_of chain.back ≡ back_in places) }
+    ensures rewrites { IfOk result (λ chain. chain.rewrites ≡ places.rewrites) }
+    ensures back { IfOk result (λ chain. map back_of chain.back ≡ answers_in places) }
 {
     let Places {
         errors,
         logs,
         acls,
         any,
+        rewrites,
+        templates,
         hosts,
         files,
         whoami,
+        patterns: _,
     } = places;
     let mut front = Seq::new(alloc);
     push_errors(&mut front, errors)?;
@@ -42,10 +51,15 @@ pub fn compile(alloc: Global, places: Places) -> Result<BlockChain, NoMemory>
     push_acls(&mut front, acls)?;
     push_any(&mut front, any)?;
     let mut back = Seq::new(alloc);
+    push_templates(&mut back, templates)?;
     push_hosts(&mut back, hosts)?;
     push_files(&mut back, files)?;
     push_whoami(&mut back, whoami)?;
-    Ok(BlockChain { front, back })
+    Ok(BlockChain {
+        front,
+        rewrites,
+        back,
+    })
 }
 
 fn push_errors(steps: &mut Seq<FrontStep>, errors: bool) -> Result<(), NoMemory>
@@ -85,6 +99,19 @@ fn push_any(steps: &mut Seq<FrontStep>, any: bool) -> Result<(), NoMemory>
 {
     if any {
         return steps.push(FrontStep::Answers(FrontAnswerer::Any));
+    }
+    Ok(())
+}
+
+fn push_templates(
+    steps: &mut Seq<BackAnswerer>,
+    templates: Seq<TemplatePlan>,
+) -> Result<(), NoMemory>
+    ensures { OnOk result
+        (map back_of steps.new ≡ map back_of steps.old ++ template_steps templates) }
+{
+    if templates.len() > 0 {
+        return steps.push(BackAnswerer::Template(templates));
     }
     Ok(())
 }

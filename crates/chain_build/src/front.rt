@@ -7,13 +7,15 @@ ghost use Rattle.chain_meaning.specs.Mean.{mean, nothing};
 ghost use Rattle.chain_build.specs.Compiled.{front_answerer, whole};
 ghost use Rattle.chain_build.specs.Walking.{Answered, decided};
 
-use crate::back::{BackAnswerer, run_back};
+use crate::back::{BackAnswerer, run_behind};
 use crate::ended::Ended;
 use crate::noting::{note_error, note_query};
+use crate::room::PluginRoom;
 use acl_plugin::{AclPlan, AclSay, decide};
 use dns_data::{NoMemory, Query, Seq, Slot, kind, rcode};
 use outside::{Kept, Side};
 use plain_plugins::{PlainPlan, any_answer};
+use rewrite_plugin::RewritePlan;
 use std::alloc::Global;
 
 /// A plugin in front of a cache that answers or goes on.
@@ -35,31 +37,33 @@ pub enum FrontStep {
 pub fn run_front<S: Side>(
     alloc: Global,
     front: &[FrontStep],
+    rewrites: &[RewritePlan],
     back: &[BackAnswerer],
     query: &Query,
     side: &mut S,
+    room: &mut PluginRoom,
     slot: &mut Slot,
 ) -> Result<Ended, NoMemory>
     requires clear { slot.old ≡ no_answer }
-    ensures { Takes (mean (whole front.now back.now) query.now) (decided result slot.new)
-        (S.state side.old) (S.state side.new) }
+    ensures { Takes (mean (whole front.now rewrites.now back.now) query.now)
+        (decided result slot.new) (S.state side.old) (S.state side.new) }
 {
     let Some((step, rest)) = front.split_first() else {
         let mut kept = Kept::Off;
-        return run_back(alloc, back, query, side, &mut kept, slot);
+        return run_behind(alloc, rewrites, back, query, side, &mut kept, room, slot);
     };
     match step {
         FrontStep::Errors => {
-            let ended = run_front(alloc, rest, back, query, side, slot)?;
+            let ended = run_front(alloc, rest, rewrites, back, query, side, room, slot)?;
             note_error(alloc, query, ended, side)
         }
         FrontStep::Log(plan) => {
-            let ended = run_front(alloc, rest, back, query, side, slot)?;
+            let ended = run_front(alloc, rest, rewrites, back, query, side, room, slot)?;
             note_query(alloc, plan, query, ended, slot, side)
         }
         FrontStep::Answers(plugin) => match answer(alloc, plugin, query, slot)? {
             Some(ended) => Ok(ended),
-            None => run_front(alloc, rest, back, query, side, slot),
+            None => run_front(alloc, rest, rewrites, back, query, side, room, slot),
         },
     }
 }

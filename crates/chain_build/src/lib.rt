@@ -19,7 +19,7 @@ mod serving;
 pub use asking::{
     header_reply, is_known_version, limit_of, opt_reply, query_of, reply_message, upper_code,
 };
-pub use back::{BackAnswerer, run_back};
+pub use back::{BackAnswerer, run_back, run_behind};
 pub use chain::{Chain, build};
 pub use checking::check;
 pub use compiling::{BlockChain, compile};
@@ -28,5 +28,5 @@ pub use fault::CheckFault;
 pub use front::{FrontAnswerer, FrontStep, run_front};
 pub use places::{Places, read_block};
 pub use plans::Plans;
-pub use room::Room;
+pub use room::{PluginRoom, Room};
 pub use serving::serve;

@@ -1,13 +1,18 @@
-ghost use Rattle.std.specs.Prelude.{◌≡◌, None, Some, true, map, IfOk, OnOk};
+ghost use Rattle.std.specs.Prelude.{◌≡◌, None, Some, true, List, map, IfOk, OnOk};
+ghost use Rattle.dns_data.specs.declared.directive.Directive.{Directive};
+ghost use Rattle.dns_data.specs.declared.file.FileText.{FileText};
+ghost use Rattle.chain_meaning.specs.Steps.{Context};
 ghost use Rattle.plugin_api.specs.declared.ranks.Rank.TheVariants as rank;
 ghost use Rattle.plain_plugins.specs.{IsPlain};
 ghost use Rattle.chain_meaning.specs.Accepting.{is_built, stands_in};
 ghost use Rattle.std.specs.List.{All};
 ghost use Rattle.corefile_blocks.specs.Readable.{HasShortBytes};
 ghost use Rattle.chain_meaning.specs.Steps.{file_plans, file_word, hosts_word};
-ghost use Rattle.chain_build.specs.Places.{ReadsBlock, ReadsMore, context_in, no_places};
-ghost use Rattle.chain_build.specs.Places.{placed_plain};
-ghost use Rattle.chain_build.specs.Reading.{ReadsAs, RefusesAs, RefusesFileAs};
+ghost use Rattle.plugin_api.specs.declared.fault.DirectiveFault.TheVariants as directive;
+ghost use Rattle.chain_build.specs.Places.{ReadsBlock, ReadsMore, behind_in, context_in};
+ghost use Rattle.chain_build.specs.Places.{no_places, placed_plain};
+ghost use Rattle.chain_build.specs.Reading.{CountsOn, IsFixed, ReadsAs, ReadsRank, RefusesAs};
+ghost use Rattle.chain_build.specs.Reading.{RefusesFileAs, RefusesWith, check_behind};
 ghost use Rattle.chain_build.specs.declared.fault.CheckFault.TheVariants as fault;
 ghost use Rattle.chain_meaning.specs.declared.refusal.Refusal.TheVariants as refusal;
 
@@ -18,48 +23,74 @@ use corefile_blocks::file_of;
 use dns_data::{Block, BlockKey, Copies, Directive, FileText, Names, NoMemory, Seq, Text};
 use file_plugin::{FileFault, FilePlan};
 use hosts_plugin::HostsPlan;
+use outside::PatternMaker;
 use plain_plugins::PlainPlan;
 use plugin_api::{DirectiveFault, DirectiveWhy, Rank, rank};
+use rewrite_plugin::RewritePlan;
 use std::alloc::Global;
+use template_plugin::TemplatePlan;
 
 /// What was read of a block's directives, each rank in a place of its own.
-#[derive(Debug, Drop)]
+#[derive(Drop)]
 pub struct Places {
     pub errors: bool,
     pub logs: Seq<PlainPlan>,
     pub acls: Seq<AclPlan>,
     pub any: bool,
+    pub rewrites: Seq<RewritePlan>,
+    pub templates: Seq<TemplatePlan>,
     pub hosts: Seq<HostsPlan>,
     pub files: Seq<FilePlan>,
     pub whoami: bool,
+    /// How many patterns of the configuration stand behind these directives.
+    pub patterns: usize,
 }
 
 impl Places {
-    fn new(alloc: Global) -> Places
-        ensures { result ≡ no_places }
+    // Nothing was read, behind so many patterns.
+    fn new(alloc: Global, patterns: usize) -> Places
+        ensures { result ≡ no_places patterns }
     {
         Places {
             errors: false,
             logs: Seq::new(alloc),
             acls: Seq::new(alloc),
             any: false,
+            rewrites: Seq::new(alloc),
+            templates: Seq::new(alloc),
             hosts: Seq::new(alloc),
             files: Seq::new(alloc),
             whoami: false,
+            patterns,
         }
     }
 }
 
-/// Reads the directives of a block in a bundle with these files.
-pub fn read_block(alloc: Global, files: &[FileText], block: &Block) -> Result<Places, CheckFault>
+/// Reads the directives of a block in a bundle with these files, behind so many patterns.
+pub fn read_block<M: PatternMaker>(
+    alloc: Global,
+    patterns: usize,
+    files: &[FileText],
+    block: &Block,
+    maker: &mut M,
+) -> Result<Places, CheckFault>
     requires { All HasShortBytes files.now }
-    ensures { ReadsBlock files.now block.now result }
+    ensures reads { ReadsBlock patterns files.now block.now result }
+    ensures maker { M.state maker.new ≡ check_behind result (M.state maker.old) }
 {
     let zones = key_zones(alloc, block.keys.as_slice())?;
     let all = block.directives.as_slice();
-    let mut places = Places::new(alloc);
+    let mut places = Places::new(alloc, patterns);
     for (index, directive) in all.iter().enumerate() {
-        read_more(alloc, &zones, files, &all[..index], directive, &mut places)?;
+        read_more(
+            alloc,
+            &zones,
+            files,
+            &all[..index],
+            directive,
+            maker,
+            &mut places,
+        )?;
     }
     Ok(places)
 }
@@ -78,18 +109,20 @@ fn key_zones(alloc: Global, keys: &[BlockKey]) -> Result<Names, NoMemory>
 }
 
 // Reads one more directive.
-fn read_more(
+fn read_more<M: PatternMaker>(
     alloc: Global,
     zones: &Names,
     files: &[FileText],
     before: &[Directive],
     directive: &Directive,
+    maker: &mut M,
     places: &mut Places,
 ) -> Result<(), CheckFault>
     requires short { All HasShortBytes files.now }
     requires plans { places.old.files ≡ file_plans (context_in zones.now files.now) before.now }
-    ensures { ReadsMore (context_in zones.now files.now) before.now directive.now
+    ensures reads { ReadsMore (context_in zones.now files.now) before.now directive.now
         places.old places.new result }
+    ensures maker { M.state maker.new ≡ check_behind result (M.state maker.old) }
 {
     let Some(rank) = rank(&directive.name) else {
         return Err(unknown(directive));
@@ -103,7 +136,78 @@ fn read_more(
             why: DirectiveWhy::Twice,
         }));
     }
-    read_as(alloc, rank, zones, files, directive, places)
+    match rank {
+        Rank::Rewrite => read_rewrite(alloc, directive, maker, places),
+        Rank::Template => read_template(alloc, zones, directive, maker, places),
+        _ => read_as(alloc, rank, zones, files, before, directive, places),
+    }
+}
+
+// Reads a directive `rewrite`. Neither zones nor files matter to it, nor what stands before.
+fn read_rewrite<M: PatternMaker>(
+    alloc: Global,
+    directive: &Directive,
+    maker: &mut M,
+    places: &mut Places,
+) -> Result<(), CheckFault>
+    ensures reads { (context : Context) (before : List Directive) → ReadsRank rank.Rewrite
+        (behind_in context before places.old) directive.now places.old places.new result }
+    ensures maker { M.state maker.new ≡ check_behind result (M.state maker.old) }
+{
+    match RewritePlan::read(alloc, directive, places.patterns, maker) {
+        Ok(plan) => {
+            let count = plan.pattern_count();
+            places.rewrites.push(plan)?;
+            add_patterns(count, places)
+        }
+        Err(fault) => Err(refused_with(fault)),
+    }
+}
+
+// Reads a directive `template`. No file matters to it, nor what stands before.
+fn read_template<M: PatternMaker>(
+    alloc: Global,
+    zones: &Names,
+    directive: &Directive,
+    maker: &mut M,
+    places: &mut Places,
+) -> Result<(), CheckFault>
+    ensures reads { (files : List FileText) (before : List Directive) → ReadsRank rank.Template
+        (behind_in (context_in zones.now files) before places.old) directive.now places.old
+        places.new result }
+    ensures maker { M.state maker.new ≡ check_behind result (M.state maker.old) }
+{
+    match TemplatePlan::read(alloc, directive, zones, places.patterns, maker) {
+        Ok(plan) => {
+            let count = plan.pattern_count();
+            places.templates.push(plan)?;
+            add_patterns(count, places)
+        }
+        Err(fault) => Err(refused_with(fault)),
+    }
+}
+
+// So many more patterns are read. More than can be counted have no room, and are never read.
+fn add_patterns(count: usize, places: &mut Places) -> Result<(), CheckFault>
+    ensures { CountsOn count places.old places.new result }
+{
+    let Some(patterns) = places.patterns.checked_add(count) else {
+        return Err(CheckFault::NoMemory);
+    };
+    places.patterns = patterns;
+    Ok(())
+}
+
+fn refused_with(fault: DirectiveFault) -> CheckFault
+    ensures { RefusesWith fault result }
+{
+    match fault {
+        DirectiveFault::Why { line, why } => CheckFault::Refused(Refusal::Directive { line, why }),
+        DirectiveFault::TooMany { what, number } => {
+            CheckFault::Refused(Refusal::TooMany { what, number })
+        }
+        DirectiveFault::NoMemory => CheckFault::NoMemory,
+    }
 }
 
 fn unknown(directive: &Directive) -> CheckFault
@@ -119,7 +223,8 @@ fn is_built(rank: Rank) -> bool
 {
     match rank {
         Rank::Passive | Rank::Reload | Rank::Errors | Rank::Log => true,
-        Rank::Acl | Rank::Any | Rank::Hosts | Rank::File | Rank::Whoami => true,
+        Rank::Acl | Rank::Any | Rank::Rewrite | Rank::Template => true,
+        Rank::Hosts | Rank::File | Rank::Whoami => true,
         _ => false,
     }
 }
@@ -136,23 +241,26 @@ fn stands_in(before: &[Directive], name: &Text) -> bool
     false
 }
 
-// Reads a directive of this rank.
+// Reads a directive of this rank, which has no patterns. How many stand before it is no matter.
 fn read_as(
     alloc: Global,
     rank: Rank,
     zones: &Names,
     files: &[FileText],
+    before: &[Directive],
     directive: &Directive,
     places: &mut Places,
 ) -> Result<(), CheckFault>
     requires built { is_built rank ≡ true }
+    requires fixed { IsFixed rank }
     requires short { All HasShortBytes files.now }
-    ensures { ReadsAs rank (context_in zones.now files.now) directive.now places.old places.new
-        result }
+    requires plans { places.old.files ≡ file_plans (context_in zones.now files.now) before.now }
+    ensures { ReadsAs rank (behind_in (context_in zones.now files.now) before.now places.old)
+        directive.now places.old places.new result }
 {
     match rank {
-        Rank::File => read_file(alloc, zones, files, directive, places),
-        Rank::Hosts => read_hosts(alloc, zones, files, directive, places),
+        Rank::File => read_file(alloc, zones, files, before, directive, places),
+        Rank::Hosts => read_hosts(alloc, zones, files, before, directive, places),
         Rank::Acl => match AclPlan::read(alloc, directive, zones) {
             Ok(plan) => {
                 places.acls.push(plan)?;
@@ -177,13 +285,15 @@ fn read_hosts(
     alloc: Global,
     zones: &Names,
     files: &[FileText],
+    before: &[Directive],
     directive: &Directive,
     places: &mut Places,
 ) -> Result<(), CheckFault>
     requires { All HasShortBytes files.now }
-    ensures { ReadsAs rank.Hosts (context_in zones.now files.now) directive.now places.old
-        places.new result }
+    ensures { ReadsAs rank.Hosts (behind_in (context_in zones.now files.now) before.now places.old)
+        directive.now places.old places.new result }
 {
+    let _before = before;
     let file = file_of(files, hosts_word(directive.args.as_slice()));
     match HostsPlan::read(alloc, directive, zones, file) {
         Ok(plan) => {
@@ -209,12 +319,14 @@ fn read_file(
     alloc: Global,
     zones: &Names,
     files: &[FileText],
+    before: &[Directive],
     directive: &Directive,
     places: &mut Places,
 ) -> Result<(), CheckFault>
-    requires { All HasShortBytes files.now }
-    ensures { ReadsAs rank.File (context_in zones.now files.now) directive.now places.old
-        places.new result }
+    requires short { All HasShortBytes files.now }
+    requires plans { places.old.files ≡ file_plans (context_in zones.now files.now) before.now }
+    ensures { ReadsAs rank.File (behind_in (context_in zones.now files.now) before.now places.old)
+        directive.now places.old places.new result }
 {
     let file = file_of(files, file_word(directive.args.as_slice()));
     match FilePlan::read(alloc, directive, zones, places.files.as_slice(), file) {
@@ -240,7 +352,7 @@ fn refused_file(fault: FileFault) -> CheckFault
     ensures { RefusesFileAs fault result }
 {
     match fault {
-        FileFault::Why { line, why } => CheckFault::Refused(Refusal::Directive { line, why }),
+        FileFault::Why { line, why } => told(line, why),
         FileFault::Zone { line, at, why } => CheckFault::Refused(Refusal::Zone { line, at, why }),
         FileFault::TooMany { what, number } => {
             CheckFault::Refused(Refusal::TooMany { what, number })
@@ -253,11 +365,21 @@ fn refused(fault: DirectiveFault) -> CheckFault
     ensures { RefusesAs fault result }
 {
     match fault {
-        DirectiveFault::Why { line, why } => CheckFault::Refused(Refusal::Directive { line, why }),
+        DirectiveFault::Why { line, why } => told(line, why),
         DirectiveFault::TooMany { what, number } => {
             CheckFault::Refused(Refusal::TooMany { what, number })
         }
         DirectiveFault::NoMemory => CheckFault::NoMemory,
+    }
+}
+
+// The fault of a directive without patterns, which is never that of one.
+fn told(line: u32, why: DirectiveWhy) -> CheckFault
+    ensures { RefusesAs (directive.Why line why) result }
+{
+    match why {
+        DirectiveWhy::Pattern | DirectiveWhy::PatternSize => CheckFault::NoMemory,
+        _ => CheckFault::Refused(Refusal::Directive { line, why }),
     }
 }
 

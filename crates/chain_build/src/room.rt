@@ -2,15 +2,37 @@ ghost use Rattle.std.specs.Prelude.{◌≡◌, []};
 ghost use Rattle.dns_data.specs.Message.{no_answer};
 
 use dns_data::{Bytes, Slot};
+use rewrite_plugin::{Changed, RewriteRoom};
 use std::alloc::Global;
 use std::mem;
+use template_plugin::TemplateRoom;
 
 /// What a worker keeps from one query to the next, so that the next takes no memory for it: the
-/// bytes of a reply that was sent, and the room of an answer's records.
-#[derive(Debug, Drop)]
+/// bytes of a reply that was sent, the room of an answer's records, and what plugins write in.
+#[derive(Drop)]
 pub struct Room {
     pub reply: Bytes,
     pub slot: Slot,
+    pub plugins: PluginRoom,
+}
+
+/// What plugins write in while they serve a query. It keeps nothing that the next query reads.
+#[derive(Drop)]
+pub struct PluginRoom {
+    pub template: TemplateRoom,
+    pub rewrite: RewriteRoom,
+    /// The query behind the rules of `rewrite`.
+    pub changed: Changed,
+}
+
+impl PluginRoom {
+    pub fn new(alloc: Global) -> PluginRoom {
+        PluginRoom {
+            template: TemplateRoom::new(alloc),
+            rewrite: RewriteRoom::new(alloc),
+            changed: Changed::new(alloc),
+        }
+    }
 }
 
 impl Room {
@@ -21,6 +43,7 @@ impl Room {
         Room {
             reply: Bytes::new(alloc),
             slot: Slot::new(alloc),
+            plugins: PluginRoom::new(alloc),
         }
     }
 
@@ -28,7 +51,7 @@ impl Room {
     #[inline]
     pub fn take_reply(&mut self, alloc: Global) -> Bytes
         ensures bytes { result ≡ self.old.reply }
-        ensures rest { self.new ≡ record { reply = []; slot = self.old.slot } }
+        ensures rest { self.new ≡ record self.old { reply = [] } }
     {
         mem::replace(&mut self.reply, Bytes::new(alloc))
     }

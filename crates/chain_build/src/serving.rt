@@ -21,7 +21,7 @@ use crate::compiling::BlockChain;
 use crate::ended::Ended;
 use crate::front::run_front;
 use crate::plans::Plans;
-use crate::room::Room;
+use crate::room::{PluginRoom, Room};
 use chain_meaning::{Served, Silence, number};
 use dns_data::{NoMemory, Opt, Query, Slot, class, rcode};
 use dns_wire::{Asked, QueryFault, read_asked, write_parts};
@@ -86,7 +86,8 @@ fn reply<S: Side>(
     let (id, class, opt) = (asked.id, asked.question.class, asked.opt);
     let limit = limit_of(datagram.by, opt);
     let query = query_of(datagram, asked);
-    let Ok(ended) = decide(alloc, opt, class, plans, &query, side, &mut room.slot) else {
+    let (plugins, slot) = (&mut room.plugins, &mut room.slot);
+    let Ok(ended) = decide(alloc, opt, class, plans, &query, side, plugins, slot) else {
         return Served::NoMemory;
     };
     if !settle(ended, &mut room.slot) {
@@ -134,6 +135,7 @@ fn decide<S: Side>(
     plans: &Plans,
     query: &Query,
     side: &mut S,
+    room: &mut PluginRoom,
     slot: &mut Slot,
 ) -> Result<Ended, NoMemory>
     ensures { Takes
@@ -142,7 +144,7 @@ fn decide<S: Side>(
 {
     slot.clear();
     if is_known_version(opt) {
-        return decide_class(alloc, class, plans, query, side, slot);
+        return decide_class(alloc, class, plans, query, side, room, slot);
     }
     Ok(Ended::Reply)
 }
@@ -153,6 +155,7 @@ fn decide_class<S: Side>(
     plans: &Plans,
     query: &Query,
     side: &mut S,
+    room: &mut PluginRoom,
     slot: &mut Slot,
 ) -> Result<Ended, NoMemory>
     requires clear { slot.old ≡ no_answer }
@@ -161,7 +164,7 @@ fn decide_class<S: Side>(
         (decided result slot.new) (S.state side.old) (S.state side.new) }
 {
     if class == class::IN {
-        return decide_block(alloc, plans, query, side, slot);
+        return decide_block(alloc, plans, query, side, room, slot);
     }
     set_code(slot, rcode::REFUSED);
     Ok(Ended::Reply)
@@ -172,6 +175,7 @@ fn decide_block<S: Side>(
     plans: &Plans,
     query: &Query,
     side: &mut S,
+    room: &mut PluginRoom,
     slot: &mut Slot,
 ) -> Result<Ended, NoMemory>
     requires clear { slot.old ≡ no_answer }
@@ -180,7 +184,7 @@ fn decide_block<S: Side>(
         (decided result slot.new) (S.state side.old) (S.state side.new) }
 {
     if let Some(steps) = chain_of(plans, query) {
-        return run_chain(alloc, steps, query, side, slot);
+        return run_chain(alloc, steps, query, side, room, slot);
     }
     set_code(slot, rcode::REFUSED);
     Ok(Ended::Reply)
@@ -205,6 +209,7 @@ fn run_chain<S: Side>(
     chain: &BlockChain,
     query: &Query,
     side: &mut S,
+    room: &mut PluginRoom,
     slot: &mut Slot,
 ) -> Result<Ended, NoMemory>
     requires clear { slot.old ≡ no_answer }
@@ -212,11 +217,9 @@ fn run_chain<S: Side>(
         (decided result slot.new) (S.state side.old) (S.state side.new) }
 {
     let (front, back) = (chain.front.as_slice(), chain.back.as_slice());
-    if 0 < front.len() {
-        return run_front(alloc, front, back, query, side, slot);
-    }
-    if 0 < back.len() {
-        return run_front(alloc, front, back, query, side, slot);
+    let rewrites = chain.rewrites.as_slice();
+    if 0 < front.len() || 0 < rewrites.len() || 0 < back.len() {
+        return run_front(alloc, front, rewrites, back, query, side, room, slot);
     }
     set_code(slot, rcode::REFUSED);
     Ok(Ended::Reply)

@@ -1,11 +1,13 @@
-use Rattle.std.proofs.Common.{◌≡◌, [], drop, take}
-use Rattle.chain_meaning.specs.Accepting.{directives_refusal}
+use Rattle.std.proofs.Common.{◌≡◌, drop, take}
+use Rattle.pattern_judging.specs.Tasks.{Carries}
+use Rattle.chain_meaning.specs.Accepting.{block_task, directives_task, told}
 use Rattle.chain_meaning.specs.Steps.{context_of}
-use Rattle.chain_build.specs.Places.{no_places, placed}
+use Rattle.chain_build.specs.Places.{behind_in, no_places, placed}
 use Rattle.chain_build.proofs.places.read_block.Given as goal
 
 abbrev pub invariant-loop-index : goal.invariant-loop-index
-invariant-loop-index l = record {
-  fits : directives_refusal (context_of l.files l.block) (take l.index l.all) (drop l.index l.all) ≡ directives_refusal (context_of l.files l.block) [] l.block.directives;
-  before : l.places ≡ placed (context_of l.files l.block) (take l.index l.all) no_places;
+invariant-loop-index g l = record {
+  carried : Carries told (directives_task (behind_in (context_of l.files l.block) (take l.index l.all) l.places) (drop l.index l.all)) (block_task l.patterns l.files l.block);
+  before : l.places ≡ placed (context_of l.files l.block) (take l.index l.all) (no_places l.patterns);
+  state : g.M.PatternMaker.state l.maker ≡ g.M.PatternMaker.state l.fn.maker;
 }

@@ -1,0 +1,23 @@
+use Rattle.std.proofs.Common.{◌≡◌, ◌∙◌, Err, map, rules}
+use Rattle.chain_meaning.specs.Accepting.{blocks_task}
+use Rattle.chain_meaning.specs.Steps.{steps_of}
+use Rattle.chain_build.specs.Plans.{steps_in}
+use Rattle.chain_build.proofs.BlocksMaking.{blocks_carried, blocks_err, made_more}
+use Rattle.chain_build.proofs.checking.block_chains.Goals as goal
+
+pub returns-in_err-made-clause-made : goal.returns-in_err-made-clause-made
+returns-in_err-made-clause-made g c =
+    let e = c.in_err-made.field-0.0 in
+    let is : c.from_residual-in_err-made.result ≡ Err e = search rules in
+    rw is (blocks_err c.loop-block.patterns c.args.files.now c.args.blocks.now c.loop-block.rest.now c.in-Some.block.now c.in-Some.behind.now e c.in-Some.ensures.cases.0 c.loop-block.invariant.carried c.in_err-made.ensures.made)
+
+pub loop-block-preserved : goal.loop-block-preserved
+loop-block-preserved g c =
+    let made = c.in_ok-made.ensures.made in
+    record {
+      carried = blocks_carried c.loop-block.patterns c.in_ok-made.made.patterns c.args.files.now c.loop-block.rest.now c.in-Some.block.now c.in-Some.behind.now (blocks_task 0 c.args.files.now c.args.blocks.now)
+          c.in-Some.ensures.cases.0 made.count made.well c.loop-block.invariant.carried;
+      made = made_more steps_in (steps_of c.args.files.now) c.loop-block.chains c.push.new.self c.in_ok-made.made.chain c.loop-block.rest.now c.in-Some.behind.now c.in-Some.block.now
+          (map (steps_of c.args.files.now) c.args.blocks.now) c.in_ok-push.ensures.ok made.steps c.in-Some.ensures.cases.0 c.loop-block.invariant.made;
+      state = c.in_ok-made.ensures.maker ∙ c.loop-block.invariant.state;
+    }

@@ -1,3 +1,4 @@
+pub mod BlocksRead
 pub mod Rules
 pub mod Tails
 pub mod Chosen

@@ -1,7 +1,8 @@
 -- What the steps of each rank mean, with the steps behind them.
-use Rattle.std.proofs.Common.{◌≡◌, Bool, true, false, List, [], ◌∷◌, ◌++◌, Option, Some, None, option_map, Result, Ok, Err, refl, sym, ap, ◌∙◌, if◌then◌else◌}
+use Rattle.std.proofs.Common.{◌≡◌, ◌<◌, arith, length, Bool, true, false, List, [], ◌∷◌, ◌++◌, Option, Some, None, option_map, Result, Ok, Err, refl, sym, ap, ◌∙◌, if◌then◌else◌}
 use Rattle.std.specs.Prelude.{IfOk}
 use Rattle.dns_lists.specs.declared.memory.NoMemory.{NoMemory}
+use Rattle.dns_data.specs.declared.directive.Directive.{Directive}
 use Rattle.dns_data.specs.declared.query.Query.{Query}
 use Rattle.outside.specs.Meanings.{Meaning, Done, onward}
 use Rattle.outside.specs.declared.mark.Mark.{Mark}
@@ -9,13 +10,15 @@ use Rattle.acl_plugin.specs.{acl_say}
 use Rattle.file_plugin.specs.Zones.{FileData, file_say}
 use Rattle.hosts_plugin.specs.{HostsData, hosts_say}
 use Rattle.plain_plugins.specs.{whoami_of}
+use Rattle.rewrite_plugin.specs.{changed_by}
+use Rattle.template_plugin.specs.Template.{template_say}
 use Rattle.plugin_api.specs.{PlanData}
 use Rattle.plugin_api.specs.declared.verdict.Cause.TheVariants as cause
 use Rattle.plugin_api.specs.declared.verdict.Code.TheVariants as code
 use Rattle.chain_meaning.specs.declared.decision.Decision.{Decision}
 use Rattle.chain_meaning.specs.declared.decision.Decision.TheVariants as decision
-use Rattle.chain_meaning.specs.Mean.{acl_answer, answer_of, any_answer, error_noted, hosts_answer, mean, or_rest, query_noted, rule}
-use Rattle.chain_meaning.specs.Steps.{Step, acl_steps, any_steps, error_steps, file_steps, hosts_steps, log_steps, whoami_steps}
+use Rattle.chain_meaning.specs.Mean.{acl_answer, answer_of, any_answer, error_noted, hosts_answer, mean, or_rest, query_noted, reply_restored, rule, template_answer}
+use Rattle.chain_meaning.specs.Steps.{Step, acl_steps, any_steps, error_steps, file_steps, hosts_steps, log_steps, rewrite_steps, template_steps, whoami_steps}
 use Rattle.plain_chain.specs.Meant.{meaning_of}
 use Rattle.plain_chain.specs.declared.meant.Meant as declared
 
@@ -50,6 +53,22 @@ pub files-mean : (plans : List FileData) (rest : List Step) (q : Query) (marks :
 unfolding mean rule answer_of file_say
 files-mean [] rest q marks = refl
 files-mean (plan ∷ plans) rest q marks = refl
+
+pub templates-mean : (plans : List PlanData) (rest : List Step) (q : Query) (marks : List Mark)
+    → mean (template_steps plans ++ rest) q marks ≡ or_rest (mean rest) q (template_answer (template_say plans q)) marks
+unfolding mean rule answer_of template_say
+templates-mean [] rest q marks = refl
+templates-mean (plan ∷ plans) rest q marks = refl
+
+pub rewrites-mean : (ds : List Directive) (rest : List Step) (q : Query) (marks : List Mark) → 0 < length ds
+    → mean (rewrite_steps ds ++ rest) q marks ≡ onward (mean rest (changed_by ds q).query marks) (reply_restored ds (changed_by ds q))
+unfolding mean rule
+rewrites-mean [] rest q marks some = absurd (omega (arith, some))
+rewrites-mean (d ∷ ds) rest q marks some = refl
+
+pub none-rewritten : (ds : List Directive) (rest : List Step) (q : Query) (marks : List Mark) → length ds ≡ 0 → mean rest q marks ≡ mean (rewrite_steps ds ++ rest) q marks
+none-rewritten [] rest q marks none = refl
+none-rewritten (d ∷ ds) rest q marks none = absurd (omega (arith, none))
 
 pub whoami-means : (q : Query) (marks : List Mark) → mean (whoami_steps true) q marks ≡ Done (decision.Reply (whoami_of q)) marks
 unfolding mean rule answer_of

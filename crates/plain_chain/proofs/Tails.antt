@@ -11,12 +11,13 @@ use Rattle.outside.specs.declared.mark.Mark.{Mark}
 use Rattle.outside.specs.declared.mark.Mark.TheVariants as mark
 use Rattle.plain_plugins.specs.{log_line, plain_zones}
 use Rattle.plugin_api.specs.{PlanData}
+use Rattle.rewrite_plugin.specs.{changed_by}
 use Rattle.zone_words.specs.{is_in}
 use Rattle.chain_meaning.specs.declared.decision.Decision.{Decision}
 use Rattle.chain_meaning.specs.declared.decision.Decision.TheVariants as decision
-use Rattle.chain_meaning.specs.Mean.{answer_of, error_noted, mean, or_rest, outcome_of, query_noted, rule, take_note}
+use Rattle.chain_meaning.specs.Mean.{answer_of, error_noted, mean, or_rest, outcome_of, query_noted, reply_restored, rule, take_note}
 use Rattle.chain_meaning.specs.Serving.{block_decides, block_of, chain_decides, class_decides, is_known_version, query_decides}
-use Rattle.chain_meaning.specs.Steps.{Answerer, Acl, Any, Hosts, File, Whoami, Step, Errors, Log, Answers, steps_of}
+use Rattle.chain_meaning.specs.Steps.{Answerer, Acl, Any, Template, Hosts, File, Whoami, Step, Errors, Log, Rewrite, Answers, steps_of}
 use Rattle.plain_chain.specs.Meant.{IsTail}
 
 -- what is left are the last of these marks
@@ -74,6 +75,7 @@ answer-tails : (plugin : Answerer) (q : Query) (marks : List Mark) → Tails mar
 unfolding answer_of
 answer-tails (Acl plans) q marks = tail-whole marks
 answer-tails Any q marks = tail-whole marks
+answer-tails (Template plans) q marks = tail-whole marks
 answer-tails (Hosts plan) q marks = tail-whole marks
 answer-tails (File plans) q marks = tail-whole marks
 answer-tails Whoami q marks = tail-whole marks
@@ -86,6 +88,8 @@ rule-tails : (step : Step) (rest : Query → List Mark → Meaning Decision) (q 
 unfolding rule
 rule-tails Errors rest q tails marks = behind marks (rest q marks) (error_noted q) (tails q marks) (error-tails q)
 rule-tails (Log plan) rest q tails marks = behind marks (rest q marks) (query_noted plan q) (tails q marks) (query-tails plan q)
+rule-tails (Rewrite ds) rest q tails marks =
+    behind marks (rest (changed_by ds q).query marks) (reply_restored ds (changed_by ds q)) (tails (changed_by ds q).query marks) (λ v left. tail-whole left)
 rule-tails (Answers plugin) rest q tails marks = behind marks (answer_of plugin q marks) (or_rest rest q) (answer-tails plugin q marks) (rest-tails rest q (tails q))
 
 mean-tails : (steps : List Step) (q : Query) (marks : List Mark) → Tails marks (mean steps q marks)

@@ -17,7 +17,7 @@ meaning_of meant.Off = Off
 abbrev pub Gives : Meaning Decision → Result declared.Meant PlainFault → Type 0
 Gives meaning (Ok m) = meaning_of m ≡ meaning
 Gives meaning (Err fault.NoMemory) = Unit {0}
-Gives meaning (Err fault.Refused) = ⊥
+Gives meaning (Err (fault.Refused why)) = ⊥
 Gives meaning (Err fault.Short) = ⊥
 
 -- the first list is the end of the second

@@ -14,7 +14,7 @@ use Rattle.outside.specs.Meanings.{Done, More, Off}
 use Rattle.outside.specs.declared.datagram.Datagram.{Datagram}
 use Rattle.outside.specs.declared.mark.Mark.{Mark}
 use Rattle.corefile_blocks.specs.declared.bundle.Bundle.{Bundle}
-use Rattle.chain_meaning.specs.Accepting.{IsAccepted}
+use Rattle.chain_meaning.specs.Accepting.{IsAccepted, IsRefused}
 use Rattle.chain_meaning.specs.Serving.{AnswersFormErr, AnswersNotImp, Replies, answer_in}
 use Rattle.chain_meaning.specs.Serving.{asked_decides}
 use Rattle.chain_meaning.specs.declared.decision.Decision.{Decision}
@@ -76,7 +76,7 @@ abbrev pub BlocksServe : List FileText → List Block → Datagram → List Mark
     → Result Plain PlainFault → Type 0
 BlocksServe files blocks d marks (Ok plain) =
     GivesReply files blocks d marks plain.used plain.reply
-BlocksServe files blocks d marks (Err fault.Refused) = ⊥
+BlocksServe files blocks d marks (Err (fault.Refused why)) = ⊥
 BlocksServe files blocks d marks (Err fault.Short) = IsShort files blocks d marks
 BlocksServe files blocks d marks (Err fault.NoMemory) = Unit {0}
 
@@ -91,8 +91,8 @@ abbrev pub PlainServes : Bundle → ℕ → Datagram → List Mark → Result Pl
 PlainServes bundle default_port d marks (Ok plain) =
     IsServed bundle default_port
     (λ blocks. GivesReply bundle.files blocks d marks plain.used plain.reply)
-PlainServes bundle default_port d marks (Err fault.Refused) =
-    (blocks : List Block) → IsAccepted default_port bundle blocks → ⊥
+PlainServes bundle default_port d marks (Err (fault.Refused why)) =
+    IsRefused default_port bundle why
 PlainServes bundle default_port d marks (Err fault.Short) =
     IsServed bundle default_port (λ blocks. IsShort bundle.files blocks d marks)
 PlainServes bundle default_port d marks (Err fault.NoMemory) = Unit {0}

@@ -1,18 +1,16 @@
-ghost use Rattle.std.specs.Prelude.{◌≡◌, ◌<◌, ◌^◌, None, length, option_map};
-ghost use Rattle.std.specs.List.{All};
-ghost use Rattle.corefile_blocks.specs.Readable.{HasShortBytes};
-ghost use Rattle.chain_meaning.specs.Accepting.{block_refusal, blocks_refusal};
-ghost use Rattle.chain_meaning.specs.Serving.{block_of, chain_decides, query_decides};
+ghost use Rattle.std.specs.Prelude.{◌≡◌, ◌<◌, ◌^◌, IfOk, length, map, option_and_then, option_map};
+ghost use Rattle.std.specs.Prelude.{slice_get};
+ghost use Rattle.plugin_api.specs.{picked};
+ghost use Rattle.chain_meaning.specs.Serving.{chain_decides, query_decides};
 ghost use Rattle.chain_meaning.specs.Steps.{steps_of};
 ghost use Rattle.plain_chain.specs.Behind.{from_errors, has_none};
-ghost use Rattle.plain_chain.specs.Meant.{Gives};
+ghost use Rattle.plain_chain.specs.Meant.{Gives, meaning_of};
 
 use crate::evaluating::evaluate;
 use crate::fault::PlainFault;
 use crate::meant::{Meant, bare};
-use crate::reading::read;
 use chain_build::{Places, is_known_version};
-use dns_data::{Block, Blocks, FileText, Opt, Query, class, rcode};
+use dns_data::{Blocks, FileText, NoMemory, Opt, Query, class, rcode};
 use outside::Mark;
 use plugin_api::pick;
 use std::alloc::Global;
@@ -22,15 +20,15 @@ use std::alloc::Global;
 pub(crate) fn decide<'a>(
     alloc: Global,
     files: &[FileText],
+    read: &[Places],
     blocks: &Blocks,
     opt: Option<Opt>,
     class: u16,
     query: &Query,
     marks: &'a [Mark],
 ) -> Result<Meant<'a>, PlainFault>
-    requires short { All HasShortBytes files.now }
     requires few { length blocks.now < 2 ^ 32 }
-    requires accepted { blocks_refusal files.now blocks.now ≡ None }
+    requires read { map from_errors read.now ≡ map (steps_of files.now) blocks.now }
     ensures { Gives (query_decides opt class files.now blocks.now query.now marks.now) result }
 {
     if !is_known_version(opt) {
@@ -39,38 +37,38 @@ pub(crate) fn decide<'a>(
     if class != class::IN {
         return Ok(bare(alloc, rcode::REFUSED, marks));
     }
-    let Some(block) = block_for(blocks, query) else {
+    // The bundle's files are in what was read.
+    let _files = files;
+    let Some(places) = places_for(blocks, read, query) else {
         return Ok(bare(alloc, rcode::REFUSED, marks));
     };
-    decide_by(alloc, files, block, query, marks)
+    Ok(decide_by(alloc, places, query, marks)?)
 }
 
-// The block with the longest zone on the port at which the query came.
-fn block_for<'a>(blocks: &'a Blocks, query: &Query) -> Option<&'a Block>
+// What was read of the block with the longest zone on the port at which the query came.
+fn places_for<'a>(blocks: &Blocks, read: &'a [Places], query: &Query) -> Option<&'a Places>
     requires few { length blocks.now < 2 ^ 32 }
-    ensures { option_map (λ block. block.now) result ≡ block_of blocks.now query.now }
+    ensures { option_map (λ places. places.now) result
+        ≡ option_and_then (slice_get read.now) (picked blocks.now query.now.local query.now.name) }
 {
     let number = pick(blocks, query.local, &query.name)?;
-    blocks.as_slice().get(number as usize)
+    read.get(number as usize)
 }
 
-// What the chain of a block decides. One without a step refuses.
+// What the chain of a block decides, of which this was read. One without a step refuses.
 fn decide_by<'a>(
     alloc: Global,
-    files: &[FileText],
-    block: &Block,
+    places: &Places,
     query: &Query,
     marks: &'a [Mark],
-) -> Result<Meant<'a>, PlainFault>
-    requires short { All HasShortBytes files.now }
-    requires accepted { block_refusal files.now block.now ≡ None }
-    ensures { Gives (chain_decides (steps_of files.now block.now) query.now marks.now) result }
+) -> Result<Meant<'a>, NoMemory>
+    ensures { IfOk result (λ m. meaning_of m
+        ≡ chain_decides (from_errors places.now) query.now marks.now) }
 {
-    let places = read(alloc, files, block)?;
-    if has_none(&places) {
+    if has_none(places) {
         return Ok(bare(alloc, rcode::REFUSED, marks));
     }
-    Ok(evaluate(alloc, &places, query, marks)?)
+    evaluate(alloc, places, query, marks)
 }
 
 // Whether there is no step.
@@ -90,6 +88,12 @@ fn has_none(places: &Places) -> bool
         return false;
     }
     if places.acls.len() > 0 {
+        return false;
+    }
+    if places.rewrites.len() > 0 {
+        return false;
+    }
+    if places.templates.len() > 0 {
         return false;
     }
     if places.hosts.len() > 0 {

@@ -5,12 +5,13 @@ ghost use Rattle.std.specs.Prelude.{◌≡◌, ◌++◌, IfOk};
 ghost use Rattle.chain_meaning.specs.Mean.{mean};
 ghost use Rattle.chain_meaning.specs.Steps.{hosts_steps, log_steps};
 ghost use Rattle.plain_chain.specs.Behind.{from_acls, from_any, from_errors, from_files};
-ghost use Rattle.plain_chain.specs.Behind.{from_whoami};
+ghost use Rattle.plain_chain.specs.Behind.{from_rewrites, from_templates, from_whoami};
 ghost use Rattle.plain_chain.specs.Meant.{meaning_of};
 
 use crate::meant::Meant;
 use crate::noting::{behind_errors, behind_log};
-use crate::saying::{acl_says, any_says, file_says, hosts_says, whoami_says};
+use crate::restoring::behind_rewrite;
+use crate::saying::{acl_says, any_says, file_says, hosts_says, template_says, whoami_says};
 use chain_build::Places;
 use chain_meaning::Decision;
 use dns_data::{NoMemory, Query};
@@ -18,6 +19,7 @@ use hosts_plugin::HostsPlan;
 use outside::Mark;
 use plain_plugins::PlainPlan;
 use plugin_api::{Cause, Code};
+use rewrite_plugin::{Changed, RewriteRoom, change};
 use std::alloc::Global;
 
 /// What all steps mean.
@@ -80,6 +82,42 @@ fn from_any<'a>(
         (λ m. meaning_of m ≡ mean (from_any places.now) query.now marks.now) }
 {
     match any_says(alloc, places.any, query)? {
+        Some(decision) => Ok(Meant::Done(decision, marks)),
+        None => from_rewrites(alloc, places, query, marks),
+    }
+}
+
+// The rest is evaluated for the query behind the rules, and its reply is restored.
+fn from_rewrites<'a>(
+    alloc: Global,
+    places: &Places,
+    query: &Query,
+    marks: &'a [Mark],
+) -> Result<Meant<'a>, NoMemory>
+    ensures { IfOk result
+        (λ m. meaning_of m ≡ mean (from_rewrites places.now) query.now marks.now) }
+{
+    let rules = places.rewrites.as_slice();
+    if rules.len() == 0 {
+        return from_templates(alloc, places, query, marks);
+    }
+    let mut room = RewriteRoom::new(alloc);
+    let mut changed = Changed::new(alloc);
+    change(alloc, rules, query, &mut room, &mut changed)?;
+    let meant = from_templates(alloc, places, &changed.query, marks)?;
+    behind_rewrite(alloc, rules, &changed, &mut room, meant)
+}
+
+fn from_templates<'a>(
+    alloc: Global,
+    places: &Places,
+    query: &Query,
+    marks: &'a [Mark],
+) -> Result<Meant<'a>, NoMemory>
+    ensures { IfOk result
+        (λ m. meaning_of m ≡ mean (from_templates places.now) query.now marks.now) }
+{
+    match template_says(alloc, places.templates.as_slice(), query)? {
         Some(decision) => Ok(Meant::Done(decision, marks)),
         None => from_hosts(alloc, places, places.hosts.as_slice(), query, marks),
     }

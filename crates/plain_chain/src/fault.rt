@@ -1,10 +1,11 @@
+use chain_meaning::Refusal;
 use dns_data::NoMemory;
 
 /// Why a datagram has no meaning.
 #[derive(Clone, Copy, Debug, PartialEq, Eq)]
 pub enum PlainFault {
-    /// The bundle is not accepted.
-    Refused,
+    /// The bundle is refused.
+    Refused(Refusal),
     /// The marks end too early, or one is another than what is taken there.
     Short,
     NoMemory,

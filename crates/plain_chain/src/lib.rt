@@ -8,6 +8,7 @@ mod fault;
 mod meant;
 mod noting;
 mod reading;
+mod restoring;
 mod saying;
 mod serving;
 #[cfg(test)]

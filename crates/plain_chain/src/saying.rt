@@ -5,7 +5,9 @@ ghost use Rattle.acl_plugin.specs.{acl_say};
 ghost use Rattle.file_plugin.specs.{file_say};
 ghost use Rattle.hosts_plugin.specs.{hosts_say};
 ghost use Rattle.plain_plugins.specs.{whoami_of};
+ghost use Rattle.template_plugin.specs.{template_say};
 ghost use Rattle.chain_meaning.specs.Mean.{acl_answer, any_answer, hosts_answer};
+ghost use Rattle.chain_meaning.specs.Mean.{template_answer};
 ghost use Rattle.chain_meaning.specs.declared.decision.Decision.TheVariants as decision;
 
 use crate::meant::bare_reply;
@@ -17,6 +19,7 @@ use hosts_plugin::{HostsPlan, HostsSay};
 use plain_plugins::{any_answer, whoami_answer};
 use plugin_api::{Cause, Code};
 use std::alloc::Global;
+use template_plugin::{TemplatePlan, TemplateRoom, TemplateSay};
 
 pub(crate) fn acl_says(alloc: Global, plans: &[AclPlan], query: &Query) -> Option<Decision>
     ensures { result ≡ acl_answer (acl_say plans.now query.now) }
@@ -46,6 +49,25 @@ pub(crate) fn any_says(
     let mut slot = Slot::new(alloc);
     any_answer(alloc, query, &mut slot)?;
     Ok(Some(Decision::Reply(slot.to_answer(alloc)?)))
+}
+
+/// Its searches are made in room of its own.
+pub(crate) fn template_says(
+    alloc: Global,
+    plans: &[TemplatePlan],
+    query: &Query,
+) -> Result<Option<Decision>, NoMemory>
+    ensures { IfOk result
+        (λ said. said ≡ template_answer (template_say plans.now query.now)) }
+{
+    let mut room = TemplateRoom::new(alloc);
+    let mut slot = Slot::new(alloc);
+    match template_plugin::decide(alloc, plans, query, &mut room, &mut slot)? {
+        TemplateSay::Reply => Ok(Some(Decision::Reply(slot.to_answer(alloc)?))),
+        TemplateSay::Next => Ok(None),
+        TemplateSay::NoMatch => Ok(Some(Decision::Code(Code::ServFail, Cause::NoMatch))),
+        TemplateSay::NotRecord => Ok(Some(Decision::Code(Code::ServFail, Cause::NotRecord))),
+    }
 }
 
 pub(crate) fn hosts_says(

@@ -1,23 +1,23 @@
-ghost use Rattle.std.specs.Prelude.{◌≡◌, ◌<◌, ◌^◌, Some, None, IfOk, length};
-ghost use Rattle.std.specs.List.{All};
+ghost use Rattle.std.specs.Prelude.{◌≡◌, ◌<◌, ◌^◌, Some, None, IfOk, length, map};
 ghost use Rattle.corefile_blocks.specs.{IsReadable};
-ghost use Rattle.corefile_blocks.specs.Readable.{HasShortBytes};
 ghost use Rattle.dns_data.specs.Message.{no_answer};
 ghost use Rattle.dns_wire.specs.{QueriesThis};
-ghost use Rattle.chain_meaning.specs.Accepting.{blocks_refusal};
+ghost use Rattle.chain_meaning.specs.Steps.{steps_of};
+ghost use Rattle.plain_chain.specs.Behind.{from_errors};
 ghost use Rattle.plain_chain.specs.Meant.{IsTail};
+ghost use Rattle.plain_chain.specs.Reading.{plain_behind};
 ghost use Rattle.plain_chain.specs.Serving.{AreLeft, BlocksServe, GivesAnswer, PlainServes};
 
 use crate::deciding::decide;
 use crate::fault::PlainFault;
 use crate::meant::Meant;
-use crate::reading::accept;
-use chain_build::{header_reply, limit_of, opt_reply, query_of, reply_message, upper_code};
-use chain_meaning::{Decision, number};
+use crate::reading::read_all;
+use chain_build::{Places, header_reply, limit_of, opt_reply, query_of, reply_message, upper_code};
+use chain_meaning::{Decision, Refusal, number};
 use corefile_blocks::{Bundle, CorefileFault, read_blocks};
 use dns_data::{Blocks, Bytes, FileText, NoMemory, Slot, rcode};
 use dns_wire::{Asked, QueryFault, read_asked, write_parts};
-use outside::{Datagram, Mark};
+use outside::{Datagram, Mark, PatternMaker};
 use std::alloc::Global;
 
 /// What a datagram means by a list of marks.
@@ -29,48 +29,52 @@ pub struct Plain {
     pub used: u32,
 }
 
-/// What a datagram means under a bundle by a list of marks. All texts are read anew.
-#[tactic(auto, unfolding(chain_meaning::specs::Accepting::bundle_says))]
-pub fn plain_serve(
+/// What a datagram means under a bundle by a list of marks. All texts are read anew, and the maker
+/// makes their patterns.
+pub fn plain_serve<M: PatternMaker>(
     alloc: Global,
     bundle: &Bundle,
     default_port: u16,
     datagram: &Datagram,
     marks: &[Mark],
+    maker: &mut M,
 ) -> Result<Plain, PlainFault>
     requires { IsReadable bundle.now }
-    ensures { PlainServes bundle.now default_port datagram.now marks.now result }
+    ensures serves { PlainServes bundle.now default_port datagram.now marks.now result }
+    ensures maker { M.state maker.new ≡ plain_behind result (M.state maker.old) }
 {
     let blocks = match read_blocks(alloc, bundle, default_port) {
         Ok(blocks) => blocks,
         Err(fault) => match fault {
             CorefileFault::NoMemory => return Err(PlainFault::NoMemory),
-            _ => return Err(PlainFault::Refused),
+            _ => return Err(PlainFault::Refused(Refusal::Corefile(fault))),
         },
     };
     // So many blocks have no room, and are never read.
     if u32::MAX as usize <= blocks.len() {
         return Err(PlainFault::NoMemory);
     }
-    accept(alloc, bundle.files.as_slice(), blocks.as_slice())?;
-    serve_by(alloc, bundle.files.as_slice(), &blocks, datagram, marks)
+    let files = bundle.files.as_slice();
+    let read = read_all(alloc, files, blocks.as_slice(), maker)?;
+    serve_by(alloc, files, read.as_slice(), &blocks, datagram, marks)
 }
 
-// What it means under blocks that are accepted, in a bundle with these files.
+// What it means under blocks that are accepted, in a bundle with these files; this was read of
+// their directives.
 fn serve_by(
     alloc: Global,
     files: &[FileText],
+    read: &[Places],
     blocks: &Blocks,
     datagram: &Datagram,
     marks: &[Mark],
 ) -> Result<Plain, PlainFault>
-    requires short { All HasShortBytes files.now }
     requires few { length blocks.now < 2 ^ 32 }
-    requires accepted { blocks_refusal files.now blocks.now ≡ None }
+    requires read { map from_errors read.now ≡ map (steps_of files.now) blocks.now }
     ensures { BlocksServe files.now blocks.now datagram.now marks.now result }
 {
     match read_asked(alloc, datagram.bytes.as_slice()) {
-        Ok(asked) => reply(alloc, files, blocks, datagram, asked, marks),
+        Ok(asked) => reply(alloc, files, read, blocks, datagram, asked, marks),
         Err(QueryFault::Short) => Ok(silent()),
         Err(QueryFault::Response) => Ok(silent()),
         Err(QueryFault::NotImp(head)) => { Ok(header(header_reply(alloc, head, rcode::NOTIMP)?)) }
@@ -101,21 +105,21 @@ fn header(bytes: Bytes) -> Plain
 fn reply(
     alloc: Global,
     files: &[FileText],
+    read: &[Places],
     blocks: &Blocks,
     datagram: &Datagram,
     asked: Asked,
     marks: &[Mark],
 ) -> Result<Plain, PlainFault>
-    requires short { All HasShortBytes files.now }
     requires few { length blocks.now < 2 ^ 32 }
-    requires accepted { blocks_refusal files.now blocks.now ≡ None }
+    requires read { map from_errors read.now ≡ map (steps_of files.now) blocks.now }
     requires asks { QueriesThis datagram.now.bytes asked }
     ensures { BlocksServe files.now blocks.now datagram.now marks.now result }
 {
     let (id, class, opt) = (asked.id, asked.question.class, asked.opt);
     let limit = limit_of(datagram.by, opt);
     let query = query_of(datagram, asked);
-    let (decision, left) = match decide(alloc, files, blocks, opt, class, &query, marks)? {
+    let (decision, left) = match decide(alloc, files, read, blocks, opt, class, &query, marks)? {
         Meant::Done(decision, left) => (decision, left),
         Meant::More => return Err(PlainFault::Short),
         Meant::Off => return Err(PlainFault::Short),

@@ -1,9 +1,11 @@
 ghost use Rattle.std.specs.Prelude.{◌<◌, ◌^◌, length};
 
 use super::*;
+use chain_meaning::Refusal;
 use corefile_blocks::Bundle;
 use dns_data::{Addr, Bytes, NoMemory, Seq, Transport, kind, rcode};
-use outside::{Datagram, Mark};
+use outside::{Datagram, Mark, RegexMaker};
+use plugin_api::DirectiveWhy;
 use std::alloc::Global;
 use std::test::Fail;
 
@@ -20,6 +22,17 @@ const WHOAMI: [u8; 69] = [
     0x01, 0x00, 0x01, 0x00, 0x00, 0x00, 0x00, 0x00, 0x04, 0x7f, 0x00, 0x00, 0x01, 0x04, 0x5f, 0x75,
     0x64, 0x70, 0xc0, 0x0c, 0x00, 0x21, 0x00, 0x01, 0x00, 0x00, 0x00, 0x00, 0x00, 0x07, 0x00, 0x00,
     0x00, 0x00, 0x0f, 0xa0, 0x00,
+];
+
+const RULES: &[u8] = b". {\ntemplate IN A {\nmatch ^h(?P<n>7)[.]\n\
+    answer \"{{ .Name }} 60 IN A 192.0.2.{{ .Group.n }}\"\n}\n\
+    rewrite name example.org h7.example answer auto\n}\n";
+
+// NOERROR with AA: 192.0.2.7 at example.org, for 60 seconds.
+const RESTORED: [u8; 45] = [
+    0x12, 0x34, 0x85, 0x00, 0x00, 0x01, 0x00, 0x01, 0x00, 0x00, 0x00, 0x00, 0x07, 0x65, 0x78, 0x61,
+    0x6d, 0x70, 0x6c, 0x65, 0x03, 0x6f, 0x72, 0x67, 0x00, 0x00, 0x01, 0x00, 0x01, 0xc0, 0x0c, 0x00,
+    0x01, 0x00, 0x01, 0x00, 0x00, 0x00, 0x3c, 0x00, 0x04, 0xc0, 0x00, 0x02, 0x07,
 ];
 
 const LOCALHOST: u32 = 0x7f00_0001;
@@ -91,10 +104,34 @@ fn the_query_line_stands_before_the_error_line(rt: HostRuntime) -> Result<(), Fa
 }
 
 #[test]
+fn a_template_answers_what_a_rule_makes_of_the_name(rt: HostRuntime) -> Result<(), Fail> {
+    let said = meant(rt.alloc(), RULES, kind::A, LOCALHOST, &[])?;
+    let plain = said.ok().ok_or("a meaning")?;
+    let reply = plain.reply.ok_or("a reply")?;
+    assert_eq!(rt; reply.as_slice(), RESTORED.as_slice());
+    Ok(())
+}
+
+#[test]
+fn a_pattern_that_is_none_is_refused_at_its_line(rt: HostRuntime) -> Result<(), Fail> {
+    let conf = b". {\ntemplate IN A {\nmatch (\n}\n}\n";
+    let fault = meant(rt.alloc(), conf, kind::A, LOCALHOST, &[])?.err();
+    let refused = Refusal::Directive {
+        line: 3,
+        why: DirectiveWhy::Pattern,
+    };
+    assert_eq!(rt; fault, Some(PlainFault::Refused(refused)));
+    Ok(())
+}
+
+#[test]
 fn a_bundle_that_is_refused_means_nothing(rt: HostRuntime) -> Result<(), Fail> {
     let conf = b". {\nreload\nwhoamy\n}\n";
     let fault = meant(rt.alloc(), conf, kind::A, LOCALHOST, &[])?.err();
-    assert_eq!(rt; fault, Some(PlainFault::Refused));
+    assert_eq!(rt;
+        fault,
+        Some(PlainFault::Refused(Refusal::Unknown { line: 3 }))
+    );
     Ok(())
 }
 
@@ -127,7 +164,8 @@ fn meant(
     for line in lines {
         marks.push(Mark::Noted(Bytes::from_slice(alloc, line)?, true))?;
     }
-    Ok(plain_serve(alloc, &bundle, 53, &datagram, &marks))
+    let mut maker = RegexMaker::new();
+    Ok(plain_serve(alloc, &bundle, 53, &datagram, &marks, &mut maker))
 }
 
 // The RCODE of the reply, where there is one.

@@ -1,8 +1,17 @@
-use Rattle.std.proofs.Common.{sym}
+use Rattle.std.proofs.Common.{◌≡◌, ◌∙◌, true, nat_eq, rules}
+use Rattle.dns_data.specs.declared.class.TheConstants as classes
 use Rattle.plugin_api.specs.{picked}
-use Rattle.plain_chain.proofs.Chosen.{by-number}
+use Rattle.chain_meaning.specs.Serving.{is_known_version}
+use Rattle.plain_chain.proofs.Chosen.{asked-decides, read-decides}
 use Rattle.plain_chain.proofs.deciding.decide.Goals as goal
 
-pub decide_by-requires-clause-accepted : goal.decide_by-requires-clause-accepted
-decide_by-requires-clause-accepted c =
-    by-number c.args.files.now c.args.blocks.now (picked c.args.blocks.now c.args.query.now.local c.args.query.now.name) c.in-Some.block.now c.requires.accepted (sym c.in-Some.ensures)
+pub returns : goal.returns
+returns c =
+    let files = c.args.files.now in
+    let blocks = c.args.blocks.now in
+    let q = c.args.query.now in
+    let known : is_known_version c.args.opt ≡ true = search rules in
+    let own : nat_eq c.args.class classes.IN ≡ true = search rules in
+    c.in_ok-decide_by.ensures
+    ∙ read-decides files c.args.read.now blocks c.requires.read (picked blocks q.local q.name) q c.args.marks.now c.in-Some.places.now c.in-Some.ensures
+    ∙ asked-decides c.args.opt c.args.class files blocks q c.args.marks.now known own

@@ -184,7 +184,7 @@ serves setup before after how fresh read published plans places sides left is_fr
         accepted = (record { blocks = plans.blocks; accepted = accepted }, looks_accepted setup.source setup.default_port (plans.bundle ∷ []) by.looks by.are);
         handed = left.watch;
         watch_is = refl;
-        script = by.stays.script ∙ kept ∙ script;
+        script = by.goes.script ∙ kept ∙ script;
         looks = by.looks;
         watched = record {
           published = refl;

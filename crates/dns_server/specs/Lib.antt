@@ -8,7 +8,7 @@ pub mod Report
 pub mod Roles
 pub mod Telling
 -- what public clauses cite
-pub use Rattle.chain_meaning.specs.Accepting.{IsAccepted, bundle_says}
+pub use Rattle.chain_meaning.specs.Accepting.{IsAccepted, IsRefused}
 pub use Rattle.dns_server.specs.Report.{RunData}
 pub use Rattle.dns_server.specs.States.{RunSetup, SideRun}
 pub use Rattle.dns_server.specs.Telling.{IsToldRun, TellsStatus}

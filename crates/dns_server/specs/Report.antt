@@ -9,7 +9,8 @@ use Rattle.outside.specs.declared.mark.WatchMark.{WatchMark}
 use Rattle.outside.specs.Causes.{Rose, RoseBy, RoseJust, HostCounts}
 use Rattle.outside.specs.Hosts.{HostState, HostTold, IsFreshWatch, OpenedSide, SupplyData, AddsHost}
 use Rattle.outside.specs.Script.{SideScriptData, WatchScriptData}
-use Rattle.outside.specs.States.{SideState, WatchState, WatchStays}
+use Rattle.outside.specs.States.{SideState, WatchState}
+use Rattle.reload_watch.specs.{WatchGoesOn}
 use Rattle.outside.specs.WatchMarks.{AddsWatch}
 use Rattle.corefile_blocks.specs.declared.bundle.Bundle.{Bundle}
 use Rattle.dns_data.specs.declared.block.Block.{Block}
@@ -97,7 +98,7 @@ pub record Finishes (setup : RunSetup) (first : Bundle) (sides : List SideState)
   pub ends : EndsWatch setup.default_port (bundles_of first looks) ending
   pub count : length (bundles_of first looks) ≡ left.published
   pub starved : RoseJust (all_starved looks) 0 left.starved
-  pub stays : WatchStays watch left.watch
+  pub goes : WatchGoesOn watch left.watch
   pub scripts : map (λ side. side.state.script) left.sides ≡ scripts_of sides
   pub pinned : List (List ℕ)
   pub tell : TellEach setup (bundles_of first looks) pinned left.sides

@@ -6,7 +6,8 @@ use Rattle.std.specs.Vec.{vec_capacity}
 use Rattle.dns_data.specs.declared.limit.TheConstants as limits
 use Rattle.outside.specs.Hosts.{IsFreshSide}
 use Rattle.std.specs.List.{AllByRecursion}
-use Rattle.outside.specs.States.{SideState, WatchState, WatchStays}
+use Rattle.outside.specs.States.{SideState, WatchState}
+use Rattle.reload_watch.specs.{WatchGoesOn}
 use Rattle.corefile_bundle.specs.Gathering.{Source}
 use Rattle.chain_build.specs.declared.chain.Chain.{Chain}
 use Rattle.pin_table.specs.declared.passes.Pass.{Pass}
@@ -72,7 +73,7 @@ pub record HasWatched {W : Type 0} (state : W → WatchState) (task : Task) (old
   pub workers : new.workers ≡ old.workers
   pub end : WatchEnd
   pub watches : Watches task.source (watcher_state state old) (watcher_state state new) end
-  pub stays : WatchStays (state old.watch) (state new.watch)
+  pub goes : WatchGoesOn (state old.watch) (state new.watch)
 
 -- what a role has behind it
 abbrev pub Becomes : {S W : Type 0} → (S → SideState) → (W → WatchState) → Task → Role S W

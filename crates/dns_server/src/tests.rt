@@ -1,5 +1,6 @@
 mod held;
 mod hosts;
+mod pinned;
 mod statuses;
 
 use hosts::{SERVE, finds, gets, ran, ran_once};

@@ -1,3 +1,4 @@
+pub mod Going
 pub mod Looks
 pub mod Placed
 pub mod Sweeping

@@ -1,4 +1,5 @@
 pub mod Filled
+pub mod Going
 pub mod Keeping
 pub mod Look
 pub mod Messages
@@ -13,6 +14,7 @@ pub mod WatchRun
 pub mod WatchTurn
 -- what public clauses cite
 pub use Rattle.reload_watch.specs.Filled.{AreFilledBy, EndsWith, IsOf}
+pub use Rattle.reload_watch.specs.Going.{CountsRefusals, WatchGoesOn, refusals_first}
 pub use Rattle.reload_watch.specs.Keeping.{IsCleared, IsKeeping}
 pub use Rattle.reload_watch.specs.Look.{LooksOnce, SearchesFirst, starved_by}
 pub use Rattle.reload_watch.specs.Messages.{look_text}

@@ -12,7 +12,7 @@ use Rattle.reload_watch.specs.declared.first.FirstFault.{FirstFault}
 use Rattle.reload_watch.specs.declared.first.FirstFault.TheVariants as fault
 use Rattle.chain_meaning.specs.declared.refusal.Refusal.{Refusal}
 use Rattle.chain_meaning.specs.declared.refusal.Refusal.TheVariants as refusal
-use Rattle.chain_meaning.specs.Accepting.{bundle_says}
+use Rattle.chain_meaning.specs.Accepting.{IsRefused}
 
 -- the reads of a gathering, whatever it came to
 pub record IsReading (source : Source) (journal : List WatchMark) : Type 0 where
@@ -30,7 +30,7 @@ pub record GathersThat (source : Source) (before after : WatchState)
 
 -- what a gathering gave is refused for this
 abbrev pub Refuses : ℕ → Result Bundle GatherFault → Refusal → Type 0
-Refuses default_port (Ok bundle) why = bundle_says default_port bundle ≡ Err why
+Refuses default_port (Ok bundle) why = IsRefused default_port bundle why
 Refuses default_port (Err unread.NoCorefile) why = why ≡ refusal.NoCorefile
 Refuses default_port (Err (unread.ReadFailed name)) why = ⊥
 Refuses default_port (Err (unread.TooMany what number)) why = why ≡ refusal.TooMany what number

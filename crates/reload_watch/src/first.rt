@@ -1,4 +1,5 @@
-ghost use Rattle.outside.specs.States.{WatchStays};
+ghost use Rattle.std.specs.Prelude.{◌≡◌};
+ghost use Rattle.reload_watch.specs.Going.{WatchGoesOn, refusals_first};
 ghost use Rattle.reload_watch.specs.Opening.{ReadsFirst};
 ghost use Rattle.reload_watch.specs.States.{source_data};
 
@@ -28,10 +29,12 @@ pub fn read_first<W: Watch>(
 ) -> Result<Plans, FirstFault>
     ensures reads { ReadsFirst (source_data source.entry) default_port
         (W.state watch.old) (W.state watch.new) result }
-    ensures stays { WatchStays (W.state watch.old) (W.state watch.new) }
+    ensures goes { WatchGoesOn (W.state watch.old) (W.state watch.new) }
+    ensures refusals { (W.state watch.new).refusals
+        ≡ refusals_first result (W.state watch.old).refusals }
 {
     match gather(alloc, watch, source.conf, source.env) {
-        Ok(bundle) => match check(alloc, bundle, default_port) {
+        Ok(bundle) => match check(alloc, bundle, default_port, watch) {
             Ok(plans) => Ok(plans),
             Err(CheckFault::Refused(why)) => Err(FirstFault::Refused(why)),
             Err(CheckFault::NoMemory) => Err(FirstFault::NoMemory),

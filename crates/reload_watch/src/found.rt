@@ -2,6 +2,8 @@
 ghost use Rattle.std.specs.Prelude.{◌≡◌, ◌≢◌, IfOk, IsTrue, ◌↔◌, Ok};
 ghost use Rattle.corefile_blocks.specs.{IsReadable};
 ghost use Rattle.chain_build.specs.{ArePlans};
+ghost use Rattle.outside.specs.States.{WatchState};
+ghost use Rattle.reload_watch.specs.Going.{found_behind};
 ghost use Rattle.reload_watch.specs.Look.{Finds};
 
 use crate::looking::{Looking, Ports};
@@ -10,6 +12,7 @@ use chain_meaning::Refusal;
 use corefile_blocks::Bundle;
 use corefile_bundle::GatherFault;
 use dns_data::{NoMemory, Seq};
+use outside::Watch;
 use std::alloc::Global;
 
 /// What a gathering comes to: the answer of the look, or what is to serve next.
@@ -18,13 +21,19 @@ pub(crate) enum Found {
     Next(Plans),
 }
 
-pub(crate) fn find(alloc: Global, gathered: Result<Bundle, GatherFault>, current: &Plans) -> Found
+pub(crate) fn find<W: Watch>(
+    alloc: Global,
+    gathered: Result<Bundle, GatherFault>,
+    current: &Plans,
+    watch: &mut W,
+) -> Found
     requires current { ArePlans current.now }
     requires readable { IfOk gathered (λ bundle. IsReadable bundle) }
-    ensures { Finds current.now gathered result }
+    ensures finds { Finds current.now gathered result }
+    ensures watch { W.state watch.new ≡ found_behind result (W.state watch.old) }
 {
     match gathered {
-        Ok(bundle) => compare(alloc, bundle, current),
+        Ok(bundle) => compare(alloc, bundle, current, watch),
         Err(GatherFault::NoCorefile) => Found::Kept(Looking::Refused(Refusal::NoCorefile)),
         Err(GatherFault::ReadFailed { name }) => Found::Kept(Looking::ReadFailed(name)),
         Err(GatherFault::TooMany { what, number }) => {
@@ -35,15 +44,16 @@ pub(crate) fn find(alloc: Global, gathered: Result<Bundle, GatherFault>, current
 }
 
 // What a bundle comes to.
-fn compare(alloc: Global, bundle: Bundle, current: &Plans) -> Found
+fn compare<W: Watch>(alloc: Global, bundle: Bundle, current: &Plans, watch: &mut W) -> Found
     requires current { ArePlans current.now }
     requires readable { IsReadable bundle }
-    ensures { Finds current.now (Ok bundle) result }
+    ensures finds { Finds current.now (Ok bundle) result }
+    ensures watch { W.state watch.new ≡ found_behind result (W.state watch.old) }
 {
     if bundle.equals(&current.bundle) {
         return Found::Kept(Looking::Same);
     }
-    match check(alloc, bundle, current.default_port) {
+    match check(alloc, bundle, current.default_port, watch) {
         Ok(plans) => compare_ports(alloc, plans, current),
         Err(CheckFault::Refused(refusal)) => Found::Kept(Looking::Refused(refusal)),
         Err(CheckFault::NoMemory) => Found::Kept(Looking::NoMemory),
@@ -56,7 +66,8 @@ fn compare_ports(alloc: Global, plans: Plans, current: &Plans) -> Found
     requires are { ArePlans plans }
     requires port { plans.default_port ≡ current.now.default_port }
     requires differs { plans.bundle ≢ current.now.bundle }
-    ensures { Finds current.now (Ok plans.bundle) result }
+    ensures finds { Finds current.now (Ok plans.bundle) result }
+    ensures quiet { (state : WatchState) → found_behind result state ≡ state }
 {
     if is_same_ports(plans.ports.as_slice(), current.ports.as_slice()) {
         return Found::Next(plans);

@@ -1,7 +1,7 @@
 //! One look for a changed configuration.
 ghost use Rattle.std.specs.Prelude.{◌≡◌, ℕ, List};
 ghost use Rattle.outside.specs.Causes.{Rose};
-ghost use Rattle.outside.specs.States.{WatchStays};
+ghost use Rattle.reload_watch.specs.Going.{CountsRefusals, WatchGoesOn};
 ghost use Rattle.pin_table.specs.{SamePublisher, plan_of};
 ghost use Rattle.reload_watch.specs.Keeping.{IsKeeping};
 ghost use Rattle.reload_watch.specs.Look.{LooksOnce, SearchesFirst, starved_by};
@@ -40,7 +40,9 @@ pub fn look_once<W: Watch>(
     ensures sweeps { KeepsSweeps (plan_of watcher.old.publisher).sweeps
         (plan_of watcher.new.publisher).sweeps }
     ensures starved { watcher.new.starved ≡ starved_by result watcher.old.starved }
-    ensures stays { WatchStays (W.state watcher.old.watch) (W.state watcher.new.watch) }
+    ensures goes { WatchGoesOn (W.state watcher.old.watch) (W.state watcher.new.watch) }
+    ensures refusals { CountsRefusals result (W.state watcher.old.watch).refusals
+        (W.state watcher.new.watch).refusals }
     ensures read { (name : List ℕ) → result ≡ Looking.ReadFailed name
         → Rose (W.state watcher.old.watch).counts.reads (W.state watcher.new.watch).counts.reads }
 {
@@ -69,7 +71,9 @@ fn look<W: Watch>(
     ensures sweeps { KeepsSweeps (plan_of watcher.old.publisher).sweeps
         (plan_of watcher.new.publisher).sweeps }
     ensures starved { watcher.new.starved ≡ watcher.old.starved }
-    ensures stays { WatchStays (W.state watcher.old.watch) (W.state watcher.new.watch) }
+    ensures goes { WatchGoesOn (W.state watcher.old.watch) (W.state watcher.new.watch) }
+    ensures refusals { CountsRefusals result (W.state watcher.old.watch).refusals
+        (W.state watcher.new.watch).refusals }
     ensures read { (name : List ℕ) → result ≡ Looking.ReadFailed name
         → Rose (W.state watcher.old.watch).counts.reads (W.state watcher.new.watch).counts.reads }
 {
@@ -77,7 +81,7 @@ fn look<W: Watch>(
         return Looking::NoReload;
     }
     let gathered = gather(alloc, &mut watcher.watch, source.conf, source.env);
-    match find(alloc, gathered, &watcher.current) {
+    match find(alloc, gathered, &watcher.current, &mut watcher.watch) {
         Found::Kept(looking) => note_look(alloc, &mut watcher.watch, looking),
         Found::Next(plans) => publish_next(alloc, watcher, table, plans),
     }

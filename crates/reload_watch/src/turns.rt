@@ -1,6 +1,6 @@
 //! Looks until there are no more.
 ghost use Rattle.std.specs.Prelude.{◌≡◌};
-ghost use Rattle.outside.specs.States.{WatchStays};
+ghost use Rattle.reload_watch.specs.Going.{WatchGoesOn};
 ghost use Rattle.pin_table.specs.{SamePublisher, count_of, plan_of};
 ghost use Rattle.reload_watch.specs.Keeping.{IsKeeping};
 ghost use Rattle.reload_watch.specs.States.{source_data, watcher_state};
@@ -41,7 +41,7 @@ pub fn watch<R: Wait, W: Watch>(
     ensures workers { watcher.new.workers ≡ watcher.old.workers }
     ensures watches { Watches (source_data source.entry) (watcher_state W.state watcher.old)
         (watcher_state W.state watcher.new) result }
-    ensures stays { WatchStays (W.state watcher.old.watch) (W.state watcher.new.watch) }
+    ensures goes { WatchGoesOn (W.state watcher.old.watch) (W.state watcher.new.watch) }
 {
     for _ in rt.forever() {
         if let Some(end) = take_look(alloc, watcher, table, source) {
@@ -64,7 +64,7 @@ fn take_look<W: Watch>(
     ensures workers { watcher.new.workers ≡ watcher.old.workers }
     ensures takes { TakesLook (source_data source.entry) (watcher_state W.state watcher.old)
         (watcher_state W.state watcher.new) result }
-    ensures stays { WatchStays (W.state watcher.old.watch) (W.state watcher.new.watch) }
+    ensures goes { WatchGoesOn (W.state watcher.old.watch) (W.state watcher.new.watch) }
 {
     if !reloads(watcher.current.blocks.as_slice()) {
         return Some(WatchEnd::NoReload);

@@ -11,7 +11,7 @@ loop-init g c = record {
   own = search rules;
   workers = refl;
   watched = let k = c.requires.keeping in starts (source_data c.args.source) (watcher_state g.W.PatternMaker.state c.args.watcher.now) k.are c.requires.first (k.count ∙ c.requires.first) k.current;
-  stays = search rules;
+  goes = search rules;
 }
 
 pub loop-preserved : goal.loop-preserved
@@ -23,5 +23,5 @@ loop-preserved g c = record {
   workers = c.in_default.ensures.workers ∙ c.loop.invariant.workers;
   watched = looks_on (source_data c.args.source) (watcher_state g.W.PatternMaker.state c.args.watcher.now) (watcher_state g.W.PatternMaker.state c.loop.watcher)
       (watcher_state g.W.PatternMaker.state c.take_look.new.watcher) c.loop.invariant.watched c.in_default.ensures.takes;
-  stays = search rules;
+  goes = search rules;
 }

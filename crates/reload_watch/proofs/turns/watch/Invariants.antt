@@ -1,6 +1,6 @@
 use Rattle.std.proofs.Common.{◌≡◌}
-use Rattle.outside.specs.States.{WatchStays}
 use Rattle.pin_table.specs.{SamePublisher}
+use Rattle.reload_watch.specs.Going.{WatchGoesOn}
 use Rattle.reload_watch.specs.Keeping.{IsKeeping}
 use Rattle.reload_watch.specs.States.{source_data, watcher_state}
 use Rattle.reload_watch.proofs.Watching.{Watched}
@@ -14,5 +14,5 @@ invariant-loop g l = record {
   own : SamePublisher l.fn.watcher.publisher l.watcher.publisher;
   workers : l.watcher.workers ≡ l.fn.watcher.workers;
   watched : Watched (source_data l.source) (watcher_state g.W.PatternMaker.state l.fn.watcher) (watcher_state g.W.PatternMaker.state l.watcher);
-  stays : WatchStays (g.W.PatternMaker.state l.fn.watcher.watch) (g.W.PatternMaker.state l.watcher.watch);
+  goes : WatchGoesOn (g.W.PatternMaker.state l.fn.watcher.watch) (g.W.PatternMaker.state l.watcher.watch);
 }

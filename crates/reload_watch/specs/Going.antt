@@ -1,0 +1,39 @@
+-- How a watch goes on through calls that make patterns. This server's own rule.
+use Rattle.std.specs.Prelude.{◌≡◌, ◌≤◌, ◌⊎◌, ℕ, Result, Err, if◌then◌else◌}
+use Rattle.outside.specs.Causes.{WatchNoneFell, raised}
+use Rattle.outside.specs.States.{WatchState, with_refusals}
+use Rattle.chain_meaning.specs.declared.refusal.Refusal.{Refusal}
+use Rattle.chain_build.specs.{is_of_pattern}
+use Rattle.reload_watch.specs.declared.first.FirstFault.{FirstFault}
+use Rattle.reload_watch.specs.declared.first.FirstFault.TheVariants as first
+use Rattle.reload_watch.specs.declared.found.Found.{Found}
+use Rattle.reload_watch.specs.declared.found.Found.TheVariants.{Kept}
+use Rattle.reload_watch.specs.declared.looking.Looking.{Looking}
+use Rattle.reload_watch.specs.declared.looking.Looking.TheVariants as looking
+
+-- no count fell, the script is as it was, and no refusal of a pattern is gone
+pub record WatchGoesOn (before after : WatchState) : Type 0 where
+  pub later : WatchNoneFell before.counts after.counts
+  pub script : after.script ≡ before.script
+  pub refusals : before.refusals ≤ after.refusals
+
+-- the refusals of a maker behind a refusal: one more where it is that of a pattern
+abbrev pub refusals_by : Refusal → ℕ → ℕ
+refusals_by why before = if is_of_pattern why then raised before else before
+
+-- the same behind the first reading
+abbrev pub refusals_first : {X : Type 0} → Result X FirstFault → ℕ → ℕ
+refusals_first (Err (first.Refused why)) before = refusals_by why before
+refusals_first other before = before
+
+-- the same behind a look: one that met want of memory may have refused a pattern before
+abbrev pub CountsRefusals : Looking → ℕ → ℕ → Type 0
+CountsRefusals (looking.Refused why) before after = after ≡ refusals_by why before
+CountsRefusals looking.NoMemory before after = (after ≡ before) ⊎ (after ≡ raised before)
+CountsRefusals answer before after = after ≡ before
+
+-- a watch behind what a gathering came to: nothing but its refusals is another
+abbrev pub found_behind : Found → WatchState → WatchState
+found_behind (Kept (looking.Refused why)) state =
+    with_refusals state (refusals_by why state.refusals)
+found_behind other state = state

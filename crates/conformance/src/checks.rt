@@ -10,6 +10,7 @@ use crate::fields::{bytes_field, read_bytes, read_text};
 use chain_build::{CheckFault, check as check_bundle};
 use corefile_blocks::Bundle;
 use dns_data::{Bytes, FileText, FileTexts};
+use outside::RegexMaker;
 use std::alloc::Global;
 
 /// `ok`, or `refused` and the line that an operator sees.
@@ -27,7 +28,7 @@ pub fn check(alloc: Global, case: &Case<'_>) -> Result<String, CaseFault> {
         env: read_environment(alloc, environment)?,
         files: read_files(alloc, files)?,
     };
-    match check_bundle(alloc, bundle, port) {
+    match check_bundle(alloc, bundle, port, &mut RegexMaker::new()) {
         Ok(_) => Ok(String::from_str(alloc, "ok")?),
         Err(CheckFault::Refused(refusal)) => {
             let line = format!(in alloc; "{refusal}")?;

@@ -141,7 +141,8 @@ def take_query(run, rows, line, words, body):
     elif want and want[0].startswith("hex "):
         lines = ["hex " + got.hex()]
     else:
-        lines = [text for text in reply_lines(got) if not text.startswith("question ")]
+        asked = any(text.startswith("question ") for text in want)
+        lines = [text for text in reply_lines(got) if asked or not text.startswith("question ")]
     rows.row(line, lines == want, lines)
 
 

@@ -9,6 +9,7 @@ from program import Rows, TOP, corefile, free_port, needs_program  # noqa: E402
 
 TOOL = os.path.join(TOP, "tools", "check-corefile")
 NO_PLACE = 7
+OWNERS = "the owners of the answer stay those of the new name: answer auto restores them"
 
 # A Corefile, the status, and the lines, of which the page to read is left out.
 CASES = [
@@ -26,6 +27,34 @@ CASES = [
     (
         "hosts without its file", ".:{port} {\n    hosts /none/h {\n        fallthrough\n    }\n}\n", 0,
         ["{file}: accepted", "{file}:2: warning: there is no /none/h, which counts as empty"],
+    ),
+    (
+        "template that lets nothing go on",
+        ".:{port} {\n    template IN A {\n        match ^a\\.\n    }\n    template IN TXT a.test {\n        match ^b\n    }\n    whoami\n}\n", 0,
+        ["{file}: accepted",
+         "{file}:2: warning: a name of type A in which no pattern is found gets SERVFAIL and never reaches whoami: fallthrough lets it go on"],
+    ),
+    (
+        "patterns that find no name",
+        ".:{port} {\n    template IN A {\n        match ^a\\.org$ ^B\\. \\D[A-Z]$ \\pL(?i)C \\x2E\\PL$ \\D$\n        fallthrough\n    }\n    whoami\n}\n", 0,
+        ["{file}: accepted", "{file}:3: warning: ^a\\.org$ finds no name: a name ends in a dot, \\.$",
+         "{file}:3: warning: ^B\\. finds no name: names are in small letters"],
+    ),
+    (
+        "rules that leave the owners",
+        ".:{port} {\n    rewrite name a.test b.test\n    rewrite name regex ^c\\.(.*)\\.$ {1} answer auto\n"
+        "    rewrite {\n        name d.test e.test\n        answer value d e\n    }\n"
+        "    rewrite stop {\n        name f.test g.test\n        answer name ^g g.f.test\n    }\n    rewrite type A TXT\n}\n", 0,
+        ["{file}: accepted", "{file}:2: warning: " + OWNERS, "{file}:4: warning: " + OWNERS],
+    ),
+    (
+        "a match word with one word", ".:{port} {\n    rewrite name suffix a.test\n    rewrite ttl exact 5\n}\n", 0,
+        ["{file}: accepted", "{file}:2: warning: suffix is read as the name, since one word stands behind it", "{file}:2: warning: " + OWNERS,
+         "{file}:3: warning: exact is read as the name, since one word stands behind it"],
+    ),
+    (
+        "a pattern that is none", ".:{port} {\n    template IN A {\n        match (\n    }\n}\n", 1,
+        ["{file}:3: directive: pattern", "            match ("],
     ),
     ("an open quote", '.:{port} {\n    whoami\n}\n"a\n', 1, ["{file}:4: open quote", '    "a']),
 ]

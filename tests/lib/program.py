@@ -98,9 +98,9 @@ class Served:
         self.process.wait(SECONDS)
         return self.process.stderr.read().decode().splitlines()
 
-    def is_serving(self, query):
-        """Whether a query is answered, asked again while the program starts."""
-        end = time.monotonic() + SECONDS
+    def is_serving(self, query, seconds=SECONDS):
+        """Whether a query is answered in time, asked again while the program starts."""
+        end = time.monotonic() + seconds
         while time.monotonic() < end and self.process.poll() is None:
             with Client(self.port) as client:
                 if client.ask(query, 0.2) is not None:

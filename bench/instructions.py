@@ -47,6 +47,10 @@ DB = "\n".join([
 
 HOSTS = ".:%d {\n\thosts FOLDER/hosts\n}\n"
 MANY_HOSTS = ".:%d {\n\thosts FOLDER/many\n}\n"
+TEMPLATE = ".:%d {\n\ttemplate IN A {\n\t\tmatch \"^h(?P<n>[0-9]+)\\.example\\.org\\.$\"\n\t\tanswer \"{{ .Name }} 60 IN A 10.9.2.{{ .Group.n }}\"\n\t}\n}\n"
+REWRITE = ".:%d {\n\trewrite name suffix .pub.test .example.org answer auto\n\thosts FOLDER/hosts\n}\n"
+NUMBERED = name(b"h105", b"example", b"org")
+PUBLIC = name(b"h617", b"pub", b"test")
 
 
 def hosts(count):
@@ -69,6 +73,9 @@ CASES = [
     ("a hosts file of 1,000 names: A", HOSTS, query(HOST)),
     ("the same of 40,000 names", MANY_HOSTS, query(HOST)),
     ("the same: a name that isn't listed, SERVFAIL", MANY_HOSTS, query(ABSENT)),
+    ("a template of one pattern with a group and one answer: A", TEMPLATE, query(NUMBERED)),
+    ("the same: a name that the pattern doesn't match, SERVFAIL", TEMPLATE, query(ABSENT)),
+    ("a rewrite of a suffix, with answer auto, in front of a hosts file of 1,000 names: A", REWRITE, query(PUBLIC)),
     ("a response, which gets no reply", WHOAMI, query(TWO)[:2] + b"\x81" + query(TWO)[3:]),
 ]
 

@@ -14,6 +14,7 @@ mod fields;
 mod marks;
 mod messages;
 mod names;
+mod plain;
 mod records;
 mod reports;
 mod runs;

@@ -6,8 +6,11 @@ ghost use Rattle.outside_mem.specs.Unused.{IsUnusedSide};
 use crate::fault::CaseFault;
 use crate::fields::bytes_field;
 use crate::marks::{mark_text, watch_text};
+use crate::plain::{Sources, count_differences};
 use crate::runs::RunCase;
-use dns_data::NoMemory;
+use command_line::{Command, DEFAULT_PORT, read_command};
+use corefile_words::Pair;
+use dns_data::{NoMemory, Text};
 use dns_server::{Report, Status, run};
 use outside::SideScript;
 use outside_mem::{MemHost, MemSide, MemWatch};
@@ -18,7 +21,7 @@ use std::sync::Wait;
 use std::thread::Threads;
 
 /// Runs what a case gives, and prints its status, the lines that were told, and the marks of each
-/// side and of the watch.
+/// side and of the watch; and where the plain evaluator says another thing of some turns, how many.
 pub fn print<R: Threads + Wait + Sync, W: Write>(
     rt: &R,
     alloc: Global,
@@ -50,6 +53,7 @@ fn outcome<R: Threads + Wait + Sync>(
     put_status(alloc, &mut text, &report, &host)?;
     put_sides(alloc, &mut text, &report)?;
     put_watch(alloc, &mut text, &report)?;
+    put_differences(alloc, &mut text, &report, &words, &env)?;
     text.push_str("end\n")?;
     Ok(text)
 }
@@ -99,6 +103,36 @@ fn put_watch(alloc: Global, text: &mut String, report: &Report<MemHost>) -> Resu
     for mark in watch.journal().unwrap_or(&[]) {
         let mark = watch_text(alloc, mark)?;
         put_line(text, format!(in alloc; "mark {}", mark.as_str())?)?;
+    }
+    Ok(())
+}
+
+// A line for each side some of whose turns the plain evaluator answers otherwise.
+fn put_differences(
+    alloc: Global,
+    text: &mut String,
+    report: &Report<MemHost>,
+    words: &[Text],
+    env: &[Pair],
+) -> Result<(), CaseFault> {
+    let Some(watch) = &report.watch else {
+        return Ok(());
+    };
+    let port = match read_command(words) {
+        Some(Command::Serve(serve)) => serve.port,
+        _ => DEFAULT_PORT,
+    };
+    let sources = Sources {
+        env,
+        port,
+        watch: watch.journal().unwrap_or(&[]),
+    };
+    for (number, done) in report.sides.iter().enumerate() {
+        let marks = done.side.journal().unwrap_or(&[]);
+        let count = count_differences(alloc, &sources, marks)?;
+        if 0 < count {
+            put_line(text, format!(in alloc; "differs {number} {count}")?)?;
+        }
     }
     Ok(())
 }

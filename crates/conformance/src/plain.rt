@@ -1,0 +1,146 @@
+//! A run that was made, held against the plain evaluator: what each turn sent is what its datagram
+//! means under the bundle of its generation, by just the marks of that turn.
+ghost use Rattle.std.specs.Prelude.{◌≤◌, length};
+
+use crate::fault::CaseFault;
+use corefile_blocks::Bundle;
+use corefile_words::{Pair, Pairs};
+use dns_data::{Bytes, Copies, FileText, FileTexts};
+use dns_server::Report;
+use outside::{Datagram, Mark, ReadOut, RegexMaker, WatchMark};
+use outside_mem::MemHost;
+use plain_chain::{PlainFault, plain_serve};
+use std::alloc::Global;
+
+/// What the bundles of a run's generations are read from.
+#[derive(Drop)]
+pub struct Sources<'a> {
+    pub env: &'a [Pair],
+    /// The port of keys that name none.
+    pub port: u16,
+    pub watch: &'a [WatchMark],
+}
+
+/// How many turns of a side the plain evaluator answers otherwise.
+pub fn count_differences(
+    alloc: Global,
+    sources: &Sources<'_>,
+    marks: &[Mark],
+) -> Result<u64, CaseFault> {
+    let mut count = 0u64;
+    let mut rest = marks;
+    while let Some((mark, behind)) = rest.split_first() {
+        if let Mark::Got(datagram) = mark {
+            if !is_meant(alloc, sources, datagram, behind)? {
+                count = count.saturating_add(1);
+            }
+        }
+        rest = behind;
+    }
+    Ok(count)
+}
+
+// Whether the turn that begins with these marks is what its datagram means.
+fn is_meant(
+    alloc: Global,
+    sources: &Sources<'_>,
+    datagram: &Datagram,
+    marks: &[Mark],
+) -> Result<bool, CaseFault> {
+    let Some((Mark::Pinned(serial), turn)) = marks.split_first() else {
+        return Ok(false);
+    };
+    let Some(bundle) = bundle_of(alloc, sources, *serial)? else {
+        return Ok(false);
+    };
+    if !bundle.is_readable() {
+        return Ok(false);
+    }
+    let (taken, end) = turn.split_at(taken_of(turn));
+    let sent = match end.first() {
+        Some(Mark::Sent(bytes, _)) => Some(bytes),
+        _ => None,
+    };
+    let mut maker = RegexMaker::new();
+    match plain_serve(alloc, &bundle, sources.port, datagram, taken, &mut maker) {
+        Ok(plain) => Ok(plain.used as usize == taken.len() && is_same(sent, &plain.reply)),
+        Err(PlainFault::NoMemory) => Err(CaseFault::NoMemory),
+        Err(_) => Ok(false),
+    }
+}
+
+// How many marks stand in front of the reply, or of the unpin where there is none.
+fn taken_of(turn: &[Mark]) -> usize
+    ensures { result ≤ length turn.now }
+{
+    for (index, mark) in turn.iter().enumerate() {
+        if matches!(mark, Mark::Sent(_, _) | Mark::Unpinned(_)) {
+            return index;
+        }
+    }
+    turn.len()
+}
+
+fn is_same(sent: Option<&Bytes>, meant: &Option<Bytes>) -> bool {
+    match (sent, meant) {
+        (Some(sent), Some(meant)) => sent.as_slice() == meant.as_slice(),
+        (None, None) => true,
+        _ => false,
+    }
+}
+
+// The bundle of a generation: what was read behind the last look before it was published.
+fn bundle_of(
+    alloc: Global,
+    sources: &Sources<'_>,
+    serial: u64,
+) -> Result<Option<Bundle>, CaseFault> {
+    let mut group = sources.watch;
+    let mut rest = sources.watch;
+    while let Some((mark, behind)) = rest.split_first() {
+        match mark {
+            WatchMark::Look(_, _) => group = behind,
+            WatchMark::Published(other) => {
+                if *other == serial {
+                    return bundle_in(alloc, sources.env, group);
+                }
+            }
+            _ => {}
+        }
+        rest = behind;
+    }
+    Ok(None)
+}
+
+// The bundle that the reads at the front of these marks give: the first is of the Corefile.
+fn bundle_in(
+    alloc: Global,
+    env: &[Pair],
+    marks: &[WatchMark],
+) -> Result<Option<Bundle>, CaseFault> {
+    let Some((WatchMark::Read(_, ReadOut::Got(conf)), mut rest)) = marks.split_first() else {
+        return Ok(None);
+    };
+    let mut files = FileTexts::new(alloc);
+    while let Some((mark, behind)) = rest.split_first() {
+        let WatchMark::Read(name, out) = mark else {
+            break;
+        };
+        let bytes = match out {
+            ReadOut::Got(bytes) => Some(bytes.copy(alloc)?),
+            _ => None,
+        };
+        let name = name.copy(alloc)?;
+        files.push(FileText { name, bytes })?;
+        rest = behind;
+    }
+    let mut pairs = Pairs::new(alloc);
+    for pair in env {
+        pairs.push(pair.copy(alloc)?)?;
+    }
+    Ok(Some(Bundle {
+        conf: conf.copy(alloc)?,
+        env: pairs,
+        files,
+    }))
+}

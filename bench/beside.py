@@ -5,6 +5,7 @@ that exist, names below a wildcard, names that don't exist and names below a del
 Each server has one worker, or one process that serves. A client in C keeps them busy. The order of the servers turns in each round, and
 the least of the rounds counts. Wants NSD and Knot, which are left out where they aren't installed. Nothing here is a test.
 """
+import itertools
 import os
 import subprocess
 import sys
@@ -17,7 +18,8 @@ from message import query_bytes  # noqa: E402
 from program import PROGRAM  # noqa: E402
 from servers import KNOT, NSD, dnschain, knot, nsd, write  # noqa: E402
 
-HOSTS, MANY = 1_000, 72_000 - 7
+HOSTS, MANY = 1_000, 36_000
+LETTERS = "abcdefghijklmnopqrstuvwxyz0123456789"
 ROUNDS, ASKED, THREADS, SOCKETS, WINDOW = 3, 1_000_000, 1, 16, 64
 ORIGIN = "example.org."
 HEAD = """$TTL 300
@@ -34,6 +36,13 @@ CASES = [("a host", "host{}"), ("a name below a wildcard", "x{}.w"), ("a name th
 def zone(room, count):
     name = os.path.join(room, f"zone-{count}")
     return write(room, name, HEAD + "".join(f"host{number} A 192.0.2.{number % 250}\n" for number in range(count)))
+
+
+def full_zone(room, count):
+    """A zone of so many owners of three letters with two addresses each, short enough for a file of 1 MiB."""
+    owners = ("".join(letters) for letters in itertools.islice(itertools.product(LETTERS, repeat=3), count))
+    lines = "".join(f"{owner} A 1.{number % 200}.0.1\n A 1.{number % 200}.0.2\n" for number, owner in enumerate(owners))
+    return write(room, "zone-full", HEAD + lines)
 
 
 def servers(room, path):
@@ -82,7 +91,7 @@ def print_queries(folder, room, asks):
 
 
 def print_starts(room):
-    made = servers(room, zone(room, MANY))
+    made = servers(room, full_zone(room, MANY))
     costs, sizes = {each: [] for each in made}, {}
     for turn in range(ROUNDS):
         names = list(made)

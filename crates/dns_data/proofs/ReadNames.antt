@@ -1,13 +1,13 @@
 -- Reading a name character by character.
-use Rattle.std.proofs.Common.{◌≡◌, ◌≢◌, ℕ, zero, suc, ◌+◌, ◌<◌, ◌≤◌, true, false, eqb, ltb, List, [], ◌∷◌, ◌++◌, length, drop, Option, Some, None, option_map, option_and_then, Result, Ok, Err, refl, sym, ap, ◌∙◌, append_assoc, arith}
-use Rattle.std.proofs.lemmas.List.{nil_from_length}
+use Rattle.std.proofs.Common.{◌≡◌, ◌≢◌, ℕ, zero, suc, ◌+◌, ◌<◌, ◌≤◌, true, false, eqb, ltb, List, [], ◌∷◌, ◌++◌, length, take, drop, get_or, Option, Some, None, option_map, option_and_then, Result, Ok, Err, refl, sym, ap, subst, ◌∙◌, append_assoc, arith}
+use Rattle.std.proofs.lemmas.List.{append-nil, drop_more, length-drop, nil_from_length, take_all}
 use Rattle.std.proofs.lemmas.Bool.{ltb-true, and_parts, eq-eqb, ne_eqb, false_from_ne_true}
 use Rattle.std.specs.List.{AllByRecursion}
 use Rattle.dns_data.specs.Name.{IsLabel, IsName, wire_length}
 use Rattle.dns_data.specs.NameLaws.{wire_length-push}
 use Rattle.dns_data.specs.declared.name_read.NameFault.{NameFault}
 use Rattle.dns_data.specs.declared.name_read.NameFault.TheVariants.{Bad, NoMemory}
-use Rattle.dns_data.specs.NameText.{Character, dot, byte, byte_at, byte_then, characters, byte_first, parted, completed, placed, is_label, are_labels, is_name, if_name, is_dot, name_of, Fits, ReadsName, Completes}
+use Rattle.dns_data.specs.NameText.{Character, dot, byte, byte_at, byte_then, characters, byte_first, parted, completed, placed, is_label, are_labels, is_name, if_name, is_dot, name_of, Fits, IsRun, ReadsName, Completes}
 use Rattle.dns_data.specs.NameTextLaws.{completed_end, name_test}
 
 -- bytes at the front of the first label
@@ -67,6 +67,27 @@ after_byte whole name label more rest behind after first value size says is ne f
     byte_step rest behind first is ne ∙ ap (λ o. byte_then o (λ skip. characters skip behind)) found ∙ ap (option_map (λ cs. byte value ∷ cs)) (characters-skip size behind) in
     (λ i. labels_with name (m i) (a i)) ∙ sym (at_byte name label value (characters 0 (drop size behind)))
     ∙ ap (option_map (λ cs. name ++ bytes_first label (parted cs))) (sym step) ∙ says
+
+-- behind a run of bytes that stand for themselves
+after_run : (size : ℕ) (rest label : List ℕ) (name : List (List ℕ)) → IsRun size rest → size ≤ length rest → labels_with name label rest ≡ labels_with name (label ++ take size rest) (drop size rest)
+after_run zero rest label name run inside = ap (λ (l : List ℕ). labels_with name l rest) (sym (append-nil label))
+after_run (suc size) [] label name run inside = absurd (omega (arith, inside))
+after_run (suc size) (x ∷ rest) label name run inside =
+    let here = run 0 (omega arith) in
+    let found : byte_at x rest ≡ Some (x, 0) = rw (ne_eqb x 92 here.1) refl in
+    sym (after_byte (labels_with name label (x ∷ rest)) name label (label ++ x ∷ []) (x ∷ rest) rest rest x x 0 refl refl here.0 found refl refl)
+    ∙ after_run size rest (label ++ x ∷ []) name (λ k lt. run (suc k) (omega (arith, lt))) (omega (arith, inside))
+    ∙ ap (λ (l : List ℕ). labels_with name l (drop size rest)) (append_assoc label (x ∷ []) (take size rest))
+
+run_says : (whole : Option (List (List ℕ))) (size : ℕ) (rest : List ℕ) (name : List (List ℕ)) → labels_with name [] rest ≡ whole → IsRun size rest → size ≤ length rest → labels_with name (take size rest) (drop size rest) ≡ whole
+run_says whole size rest name says run inside = sym (after_run size rest [] name run inside) ∙ says
+
+-- behind a run and a dot
+pub run_dot : (whole : Option (List (List ℕ))) (name new : List (List ℕ)) (label rest behind : List ℕ) (size : ℕ) → labels_with name [] rest ≡ whole → IsRun size rest → size < length rest
+    → get_or rest size 0 ≡ 46 → label ≡ take size rest → new ≡ name ++ label ∷ [] → behind ≡ drop (size + 1) rest → labels_with new [] behind ≡ whole
+run_dot whole name new label rest behind size says run inside stop l n b =
+    after_dot whole name new (take size rest) [] (drop size rest) behind (get_or rest size 0) (run_says whole size rest name says run (omega (arith, inside)))
+    (drop_more rest size 0 inside ∙ ap (λ (t : List ℕ). get_or rest size 0 ∷ t) (sym b)) stop (n ∙ ap (λ (t : List ℕ). name ++ t ∷ []) l) refl
 
 -- a name, by the labels of its text
 abbrev pub name_by : List (List ℕ) → Option (List (List ℕ)) → Option (List (List ℕ))
@@ -244,3 +265,19 @@ pub reads_completed : (text : List ℕ) (origin name : List (List ℕ)) (label :
 reads_completed text origin name label (Ok made) e h = sym e ∙ h
 reads_completed text origin name label (Err Bad) e h = sym e ∙ h
 reads_completed text origin name label (Err NoMemory) e h = h
+
+-- a run before a dot that is no label of the name
+pub run_misfit : (text rest label : List ℕ) (name origin : List (List ℕ)) (size : ℕ) → is_dot text ≡ false → labels_with name [] rest ≡ labels_with [] [] text → IsRun size rest → size < length rest
+    → get_or rest size 0 ≡ 46 → label ≡ take size rest → IsName name → (Fits name label → ⊥) → name_of text origin ≡ None
+run_misfit text rest label name origin size no_dot says run inside stop l n h =
+    bad_label text (drop size rest) (take size rest) (drop (size + 1) rest) name origin (get_or rest size 0) no_dot (run_says (labels_with [] [] text) size rest name says run (omega (arith, inside)))
+    (drop_more rest size 0 inside) stop n (λ f. h (subst (Fits name) (sym l) f))
+
+-- a run that ends the text
+pub run_ends : (text rest : List ℕ) (name origin : List (List ℕ)) (size : ℕ) (result : Result (List (List ℕ)) NameFault) → is_dot text ≡ false → labels_with name [] rest ≡ labels_with [] [] text → IsRun size rest
+    → size ≡ length rest → Completes name rest origin result → ReadsName text origin result
+run_ends text rest name origin size result no_dot says run e h =
+    let all : take size rest ≡ rest = take_all size rest (omega (arith, e)) in
+    let none : length (drop size rest) ≡ 0 = omega (arith, length-drop size rest, e) in
+    reads_completed text origin name rest result
+    (ap (λ (l : List ℕ). if_name (placed origin (name ++ l ∷ []))) (sym all) ∙ at_end text (drop size rest) (take size rest) name origin no_dot (run_says (labels_with [] [] text) size rest name says run (omega (arith, e))) none) h

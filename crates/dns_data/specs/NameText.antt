@@ -1,6 +1,6 @@
 -- Names in presentation format (RFC 1035, section 5.1). Bytes by number: 34 `"`, 36 `$`, 40 `(`,
 -- 41 `)`, 46 `.`, 48 `0`, 59 `;`, 64 `@`, 92 `\`.
-use Rattle.std.specs.Prelude.{◌≡◌, ℕ, zero, suc, ◌+◌, ◌-◌, ◌≤◌, ◌*◌, ◌/◌, ◌%◌, ◌==◌, nat_lt, Bool, true, false, ◌&&◌, ◌||◌, List, [], ◌∷◌, ◌++◌, length, Option, Some, None, option_map, option_and_then, Result, Ok, Err, if◌then◌else◌}
+use Rattle.std.specs.Prelude.{◌≡◌, ℕ, zero, suc, ◌+◌, ◌-◌, ◌≤◌, ◌<◌, ◌≢◌, ◌*◌, ◌/◌, ◌%◌, ◌==◌, nat_lt, Bool, true, false, ◌&&◌, ◌||◌, List, [], ◌∷◌, ◌++◌, length, slice_index, Option, Some, None, option_map, option_and_then, Result, Ok, Err, if◌then◌else◌}
 use Rattle.std.specs.List.{flat_map}
 use Rattle.std.specs.Char.{is_ascii_digit, is_ascii_graphic}
 use Rattle.dns_data.specs.declared.limit.TheConstants as limits
@@ -135,6 +135,10 @@ abbrev pub ReadsName : List ℕ → List (List ℕ) → Result (List (List ℕ))
 ReadsName text origin (Ok name) = name_of text origin ≡ Some name
 ReadsName text origin (Err Bad) = name_of text origin ≡ None
 ReadsName text origin (Err NoMemory) = Unit {0}
+
+-- none of the first bytes is a dot or a backslash
+abbrev pub IsRun : ℕ → List ℕ → Type 0
+IsRun size text = (k : ℕ) → k < size → (slice_index text k ≢ 46) × (slice_index text k ≢ 92)
 
 -- a name has room for one more label
 abbrev pub Fits : List (List ℕ) → List ℕ → Type 0

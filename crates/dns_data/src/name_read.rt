@@ -1,8 +1,8 @@
-ghost use Rattle.std.specs.Prelude.{◌≡◌, ◌≤◌, ◌+◌, ◌↔◌, [], ◌∷◌, ◌++◌, true, length, IfSome, IfOk};
+ghost use Rattle.std.specs.Prelude.{◌≡◌, ◌≤◌, ◌+◌, ◌↔◌, [], ◌∷◌, ◌++◌, true, false, length, IfSome};
 ghost use Rattle.std.specs.Prelude.{OnOk, IsTrue};
 ghost use Rattle.std.specs.Char.{is_ascii_digit};
 ghost use Rattle.dns_data.specs.NameText.{ReadsName, Completes, Fits, byte_at, escaped, is_dot};
-ghost use Rattle.dns_data.specs.NameText.{numbered};
+ghost use Rattle.dns_data.specs.NameText.{IsRun, numbered};
 
 use crate::limit::{LABEL_BYTES, NAME_BYTES};
 use crate::{Name, NoMemory};
@@ -38,26 +38,65 @@ impl Name {
             return Ok(Name::root(alloc));
         }
         let mut name = Name::with_capacity(alloc, room_for(text, origin))?;
-        let mut label = room_for_a_label(alloc)?;
         let mut rest = text;
-        while let Some((byte, behind)) = rest.split_first() {
-            if *byte == b'.' {
-                if !has_room(&name, &label) {
-                    return Err(NameFault::Bad);
-                }
-                name.push(&label)?;
-                label.clear();
-                rest = behind;
-            } else {
-                let Some((value, size)) = byte_at(*byte, behind) else {
-                    return Err(NameFault::Bad);
-                };
-                push_byte(&mut label, value)?;
-                rest = &behind[size..];
+        loop {
+            let size = run_len(rest);
+            if size == rest.len() {
+                return completed(name, rest, origin);
             }
+            if rest[size] != b'.' {
+                return read_escaped(alloc, text, origin);
+            }
+            let label = &rest[..size];
+            if !has_room(&name, label) {
+                return Err(NameFault::Bad);
+            }
+            name.push(label)?;
+            rest = &rest[size + 1..];
         }
-        completed(name, &label, origin)
     }
+}
+
+// The name that a text with a backslash spells, read byte by byte.
+#[cold]
+#[inline(never)]
+fn read_escaped(alloc: Global, text: &[u8], origin: &Name) -> Result<Name, NameFault>
+    requires { is_dot text.now ≡ false }
+    ensures { ReadsName text.now origin.now result }
+{
+    let mut name = Name::root(alloc);
+    let mut label = Vec::new(alloc);
+    let mut rest = text;
+    while let Some((byte, behind)) = rest.split_first() {
+        if *byte == b'.' {
+            if !has_room(&name, &label) {
+                return Err(NameFault::Bad);
+            }
+            name.push(&label)?;
+            label.clear();
+            rest = behind;
+        } else {
+            let Some((value, size)) = byte_at(*byte, behind) else {
+                return Err(NameFault::Bad);
+            };
+            push_byte(&mut label, value)?;
+            rest = &behind[size..];
+        }
+    }
+    completed(name, &label, origin)
+}
+
+// How many bytes stand before the first dot or backslash.
+fn run_len(text: &[u8]) -> usize
+    ensures inside { result ≤ length text.now }
+    ensures run { IsRun result text.now }
+{
+    for index in 0..text.len() {
+        if text[index] == b'.' || text[index] == b'\\' {
+            return index;
+        }
+    }
+    text.len()
 }
 
 // The name whose last label was read. That is empty where a dot ended the text.
@@ -81,19 +120,15 @@ fn completed(mut name: Name, label: &[u8], origin: &Name) -> Result<Name, NameFa
     Ok(name)
 }
 
-// Bytes in wire format, where no byte is escaped.
+// Bytes in wire format without the final zero byte, where no byte is escaped.
 fn room_for(text: &[u8], origin: &Name) -> usize {
-    if text.len() < NAME_BYTES {
-        text.len() + origin.wire_len()
-    } else {
-        NAME_BYTES
+    if NAME_BYTES < text.len() {
+        return NAME_BYTES;
     }
-}
-
-fn room_for_a_label(alloc: Global) -> Result<Vec<u8>, NoMemory>
-    ensures { IfOk result (λ label. label.items ≡ []) }
-{
-    Ok(Vec::with_capacity(alloc, LABEL_BYTES)?)
+    match text.last() {
+        Some(b'.') => text.len(),
+        _ => text.len() + origin.wire_len(),
+    }
 }
 
 fn push_byte(label: &mut Vec<u8>, byte: u8) -> Result<(), NoMemory>

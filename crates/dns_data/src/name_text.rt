@@ -1,4 +1,7 @@
-ghost use Rattle.std.specs.Prelude.{◌≡◌, ◌<◌, ℕ, List, ◌++◌, slice_index, Some, OnOk, IfOk};
+ghost use Rattle.std.specs.Prelude.{◌≡◌, ◌<◌, ℕ, List, [], ◌∷◌, ◌++◌, slice_index, Some, OnOk, IfOk};
+ghost use Rattle.std.specs.Prelude.{IsTrue};
+ghost use Rattle.std.specs.List.{flat_map};
+ghost use Rattle.dns_data.specs.Name.{lowered};
 ghost use Rattle.dns_data.specs.NameText.{byte_text, is_special, label_text, name_text, name_of};
 
 use crate::{Name, NoMemory, Text};
@@ -13,17 +16,41 @@ impl Name {
         ensures read { IfOk result (λ text.
             (origin : List (List ℕ)) → name_of text origin ≡ Some self.now) }
     {
+        are_bytes(self.as_wire());
+        let mut bytes = Vec::new(alloc);
+        self.print(&mut bytes)?;
+        Ok(Text::of(String::from_utf8(bytes).unwrap()))
+    }
+
+    /// A text becomes the name in presentation format with every ASCII capital made small, in the
+    /// room that is there.
+    pub fn write_lower(&self, alloc: Global, text: &mut Text) -> Result<(), NoMemory>
+        ensures ok { OnOk result (text.new ≡ name_text (lowered self.now)) }
+    {
+        are_bytes(self.as_wire());
+        let mut bytes = text.take(alloc).into_bytes();
+        bytes.clear();
+        self.print(&mut bytes)?;
+        bytes.make_ascii_lowercase();
+        *text = Text::of(String::from_utf8(bytes).unwrap());
+        Ok(())
+    }
+
+    // Adds the name in presentation format.
+    fn print(&self, text: &mut Vec<u8>) -> Result<(), NoMemory>
+        ensures { OnOk result (text.new.items ≡ text.old.items ++ name_text self.now) }
+    {
         let wire = self.as_wire();
         if wire.len() == 0 {
-            return Text::from_str(alloc, ".");
+            text.push(b'.')?;
+            return Ok(());
         }
-        are_bytes(wire);
-        let mut text = Vec::with_capacity(alloc, wire.len())?;
+        text.reserve(wire.len())?;
         let mut labels = self.labels();
         while let Some(label) = labels.next() {
-            put_label(&mut text, label)?;
+            put_label(text, label)?;
         }
-        Ok(Text::of(String::from_utf8(text).unwrap()))
+        Ok(())
     }
 }
 
@@ -35,10 +62,43 @@ fn are_bytes(items: &[u8])
 fn put_label(text: &mut Vec<u8>, label: &[u8]) -> Result<(), NoMemory>
     ensures { OnOk result (text.new.items ≡ text.old.items ++ label_text label.now) }
 {
+    if is_plain(label) {
+        text.extend_from_slice(label)?;
+    } else {
+        put_bytes(text, label)?;
+    }
+    text.push(b'.')?;
+    Ok(())
+}
+
+// Whether each byte of the label is printed as it is.
+fn is_plain(label: &[u8]) -> bool
+    ensures { IsTrue result → flat_map byte_text label.now ≡ label.now }
+{
+    for byte in label {
+        if !is_common(*byte) {
+            if is_special(*byte) || !byte.is_ascii_graphic() {
+                return false;
+            }
+        }
+    }
+    true
+}
+
+// Whether a byte is one of those of which most names are made. They are printed as they are.
+#[inline]
+fn is_common(byte: u8) -> bool
+    ensures { IsTrue result → byte_text byte ≡ byte ∷ [] }
+{
+    byte.is_ascii_lowercase() || byte.is_ascii_digit() || byte == b'-'
+}
+
+fn put_bytes(text: &mut Vec<u8>, label: &[u8]) -> Result<(), NoMemory>
+    ensures { OnOk result (text.new.items ≡ text.old.items ++ flat_map byte_text label.now) }
+{
     for byte in label {
         put_byte(text, *byte)?;
     }
-    text.push(b'.')?;
     Ok(())
 }
 

@@ -84,6 +84,16 @@ impl RecordRoom {
     {
         self.items[index].set_owner(owner)
     }
+
+    /// Gives the record at an index another TTL.
+    #[inline]
+    pub fn set_ttl(&mut self, index: usize, ttl: u32)
+        requires index { index < length self.old }
+        requires ttl { ttl < 2 ^ 31 }
+        ensures { Changes (λ r. owned_by r.owner ttl r) index self.old self.new }
+    {
+        self.items[index].ttl = ttl;
+    }
 }
 
 impl RecordRoom {

@@ -37,6 +37,24 @@ fn a_name_changes_in_the_room_that_is_there(rt: HostRuntime) -> Result<(), Fail>
 }
 
 #[test]
+fn a_name_is_written_in_small_letters(rt: HostRuntime) -> Result<(), Fail> {
+    let mut text = Text::new(rt.alloc());
+    Name::root(rt.alloc()).write_lower(rt.alloc(), &mut text)?;
+    assert!(rt; text.is("."));
+    odd_name(rt.alloc())?.write_lower(rt.alloc(), &mut text)?;
+    assert!(rt; text.is("www-1.a\\.\\\\\\032\\193\\\"z\\@."));
+    Ok(())
+}
+
+// A label that is printed as it is, and one that isn't.
+fn odd_name(alloc: Global) -> Result<Name, NoMemory> {
+    let mut name = Name::root(alloc);
+    name.push(b"WwW-1")?;
+    name.push(b"A.\\ \xc1\"Z@")?;
+    Ok(name)
+}
+
+#[test]
 fn a_name_may_cross_threads() {
     may_cross::<Name>();
 }

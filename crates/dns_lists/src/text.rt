@@ -5,6 +5,7 @@ ghost use Rattle.std.specs.Char.{encode_utf8};
 use crate::{Copies, NoMemory};
 use std::alloc::Global;
 use std::marker::Model;
+use std::mem;
 
 /// Text in UTF-8, which contracts see as its bytes.
 #[derive(Debug, Drop)]
@@ -65,6 +66,15 @@ impl Text {
         ensures { self.new ≡ [] }
     {
         self.inner.clear();
+    }
+
+    /// Takes the `String` out, which leaves no bytes.
+    #[inline]
+    pub fn take(&mut self, alloc: Global) -> String
+        ensures taken { string_bytes result ≡ self.old }
+        ensures left { self.new ≡ [] }
+    {
+        mem::replace(&mut self.inner, String::new(alloc))
     }
 
     /// How many bytes.

@@ -1,10 +1,10 @@
 use Rattle.std.proofs.Common.{◌≡◌, ◌++◌, length}
 use Rattle.std.specs.List.{flat_map}
 use Rattle.dns_data.specs.NameText.{label_text}
-use Rattle.dns_data.proofs.name.Name.text.Given as goal
+use Rattle.dns_data.proofs.name.Name.print.Given as goal
 
 abbrev pub invariant-loop-label : goal.invariant-loop-label
-invariant-loop-label l = l.text.items ++ flat_map label_text l.labels ≡ flat_map label_text l.self
+invariant-loop-label l = l.text.items ++ flat_map label_text l.labels ≡ l.fn.text.items ++ flat_map label_text l.self
 
 abbrev pub decreases-loop-label : goal.decreases-loop-label
 decreases-loop-label l = length l.labels

@@ -63,11 +63,12 @@ earliest_of_both (p ∷ near) far suffix =
       | false ↦ earliest_of_both near far suffix
     ]
 
-take_less : (n m : ℕ) (ps : List Stored) → n ≤ m → take n (take m ps) ≡ take n ps
+-- of the first ones the first
+pub take_less : {X : Type 0} (n m : ℕ) (ps : List X) → n ≤ m → take n (take m ps) ≡ take n ps
 take_less zero m ps order = refl
 take_less (suc n) zero ps order = absurd (omega arith)
 take_less (suc n) (suc m) [] order = refl
-take_less (suc n) (suc m) (p ∷ ps) order = ap (λ (qs : List Stored). p ∷ qs) (take_less n m ps (omega arith))
+take_less {X} (suc n) (suc m) (p ∷ ps) order = ap (λ (qs : List X). p ∷ qs) (take_less n m ps (omega arith))
 
 -- fewer than stand near
 pub truncated_near : (count near : ℕ) (ps far : List Stored) → count ≤ near → near ≤ length ps → map offset_of (take count ps ++ []) ≡ take count (map offset_of (take near ps ++ far))

@@ -12,10 +12,13 @@ ghost use Rattle.dns_wire.specs.Putting.{AreKept};
 
 use crate::Flags;
 use crate::write_record::put_record;
-use crate::writer::{Writer, begun};
+use crate::writer::Writer;
 use dns_data::limit::{MESSAGE_BYTES, UDP_BYTES};
 use dns_data::{Bytes, Message, Name, NoMemory, Opt, Record, kind};
 use std::alloc::Global;
+
+// As many bytes as a message has room for from the start: most replies are shorter.
+const ROOM: usize = 192;
 
 // The length of an OPT record without data (RFC 6891, section 6.1.2).
 const OPT_BYTES: usize = 11;
@@ -93,11 +96,14 @@ pub fn write_parts(
     requires codes { AreCodes parts.now.flags.opcode parts.now.flags.rcode }
     ensures { IfOk result (Writes (message_of parts.now) limit) }
 {
-    let out = begun(room)?;
+    let mut out = room.into_vec();
+    if out.len() < ROOM {
+        out.resize(ROOM, 0)?;
+    }
     write_behind(alloc, out, parts, limit)
 }
 
-// Writes a message behind and into a header of zero bytes. It is a function of its own so that the
+// Writes a message in place of whatever bytes there are. It is a function of its own so that the
 // writer is made in one go.
 #[inline(always)]
 fn write_behind(
@@ -106,7 +112,7 @@ fn write_behind(
     parts: &MessageParts<'_>,
     limit: u32,
 ) -> Result<Bytes, NoMemory>
-    requires begun { vec_len out ≡ 12 }
+    requires room { 12 ≤ vec_len out }
     requires limit { (UDP_BYTES ≤ limit) × (limit ≤ MESSAGE_BYTES) }
     requires codes { AreCodes parts.now.flags.opcode parts.now.flags.rcode }
     ensures { IfOk result (Writes (message_of parts.now) limit) }
@@ -142,7 +148,7 @@ fn put_question<'a>(writer: &mut Writer<'a>, parts: &MessageParts<'a>) -> Result
     let kind = parts.kind.to_be_bytes();
     let class = parts.class.to_be_bytes();
     writer.put_first_name(parts.name)?;
-    writer.put(&[kind[0], kind[1], class[0], class[1]])
+    writer.put_few([kind[0], kind[1], class[0], class[1]])
 }
 
 // Puts records of one section after another, until one doesn't fit.
@@ -245,7 +251,7 @@ fn put_opt(writer: &mut Writer<'_>, opt: &Option<Opt>) -> Result<(), NoMemory>
             let kind = kind::OPT.to_be_bytes();
             let size = opt.size.to_be_bytes();
             let flags = 128 * opt.dnssec as u8;
-            writer.put(&[
+            writer.put_few([
                 0,
                 kind[0],
                 kind[1],

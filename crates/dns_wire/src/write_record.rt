@@ -19,7 +19,7 @@ pub fn put_record<'a>(writer: &mut Writer<'a>, rr: &'a Record) -> Result<(), NoM
         Rdata::A(addr) => put_address(writer, kind, class, ttl, *addr),
         Rdata::Aaaa(addr) => {
             put_head(writer, kind, class, ttl, 16)?;
-            writer.put(&addr.to_be_bytes())
+            writer.put_few(addr.to_be_bytes())
         }
         rdata => {
             put_head(writer, kind, class, ttl, 0)?;
@@ -48,7 +48,7 @@ fn put_head(
     let class = class.to_be_bytes();
     let ttl = ttl.to_be_bytes();
     let length = length.to_be_bytes();
-    writer.put(&[
+    writer.put_few([
         kind[0], kind[1], class[0], class[1], ttl[0], ttl[1], ttl[2], ttl[3], length[0], length[1],
     ])
 }
@@ -69,7 +69,7 @@ fn put_address(
     let class = class.to_be_bytes();
     let ttl = ttl.to_be_bytes();
     let addr = addr.to_be_bytes();
-    writer.put(&[
+    writer.put_few([
         kind[0], kind[1], class[0], class[1], ttl[0], ttl[1], ttl[2], ttl[3], 0, 4, addr[0],
         addr[1], addr[2], addr[3],
     ])
@@ -82,7 +82,7 @@ fn put_data<'a>(writer: &mut Writer<'a>, rdata: &'a Rdata) -> Result<(), NoMemor
     ensures { OnOk result (writer.new ≡ put_data writer.old rdata.now) }
 {
     match rdata {
-        Rdata::A(addr) => put_u32(writer, *addr),
+        Rdata::A(addr) => writer.put_few(addr.to_be_bytes()),
         Rdata::Ns(name) => writer.put_name(name),
         Rdata::Cname(name) => writer.put_name(name),
         Rdata::Soa(soa) => put_soa(writer, soa),
@@ -92,17 +92,18 @@ fn put_data<'a>(writer: &mut Writer<'a>, rdata: &'a Rdata) -> Result<(), NoMemor
             put_string(writer, os)
         }
         Rdata::Mx(preference, exchange) => {
-            writer.put_u16(*preference)?;
+            writer.put_few(preference.to_be_bytes())?;
             writer.put_name(exchange)
         }
         Rdata::Txt(strings) => put_strings(writer, strings.as_slice()),
-        Rdata::Aaaa(addr) => writer.put(&addr.to_be_bytes()),
+        Rdata::Aaaa(addr) => writer.put_few(addr.to_be_bytes()),
         Rdata::Srv(priority, weight, port, target) => {
             put_service(writer, *priority, *weight, *port)?;
-            writer.put_whole(target)
+            writer.put_labels(target.as_wire())?;
+            writer.put_few([0])
         }
         Rdata::Caa(flags, tag, value) => {
-            writer.put(&[*flags])?;
+            writer.put_few([*flags])?;
             put_string(writer, tag)?;
             writer.put(value.as_slice())
         }
@@ -115,11 +116,11 @@ fn put_soa<'a>(writer: &mut Writer<'a>, soa: &'a Soa) -> Result<(), NoMemory>
 {
     writer.put_name(&soa.mname)?;
     writer.put_name(&soa.rname)?;
-    put_u32(writer, soa.serial)?;
-    put_u32(writer, soa.refresh)?;
-    put_u32(writer, soa.retry)?;
-    put_u32(writer, soa.expire)?;
-    put_u32(writer, soa.minimum)
+    writer.put_few(soa.serial.to_be_bytes())?;
+    writer.put_few(soa.refresh.to_be_bytes())?;
+    writer.put_few(soa.retry.to_be_bytes())?;
+    writer.put_few(soa.expire.to_be_bytes())?;
+    writer.put_few(soa.minimum.to_be_bytes())
 }
 
 // What stands before the target of an SRV record.
@@ -135,7 +136,7 @@ fn put_service(
     let priority = priority.to_be_bytes();
     let weight = weight.to_be_bytes();
     let port = port.to_be_bytes();
-    writer.put(&[
+    writer.put_few([
         priority[0],
         priority[1],
         weight[0],
@@ -145,19 +146,12 @@ fn put_service(
     ])
 }
 
-// A number of 32 bits.
-fn put_u32(writer: &mut Writer<'_>, number: u32) -> Result<(), NoMemory>
-    ensures { OnOk result (writer.new ≡ put_u32 writer.old number) }
-{
-    writer.put(&number.to_be_bytes())
-}
-
 // A character-string behind its length.
 fn put_string(writer: &mut Writer<'_>, string: &Bytes) -> Result<(), NoMemory>
     requires { IsCharacterString string.now }
     ensures { OnOk result (writer.new ≡ put_string writer.old string.now) }
 {
-    writer.put(&[string.len() as u8])?;
+    writer.put_few([string.len() as u8])?;
     writer.put(string.as_slice())
 }
 

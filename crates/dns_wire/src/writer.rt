@@ -1,18 +1,14 @@
 ghost use Rattle.std.specs.Prelude.{◌≡◌, ◌<◌, ◌≤◌, ◌+◌, ◌-◌, ◌^◌, ◌++◌, [], length, take, drop};
-ghost use Rattle.std.specs.Prelude.{vec_len, OnOk, IfOk};
+ghost use Rattle.std.specs.Prelude.{vec_len, OnOk};
 ghost use Rattle.std.specs.Int.{w16, to_be_bytes};
 ghost use Rattle.dns_data.specs.Name.{IsName, IsWire, labels_of};
-ghost use Rattle.dns_wire.specs.Written.{size, put, put_u16, put_name, put_pointer, put_whole};
-ghost use Rattle.dns_wire.specs.Written.{keep};
+ghost use Rattle.dns_wire.specs.Written.{size, put, put_name, put_pointer, keep};
 
 use crate::offsets::Offsets;
 use dns_data::limit::{HEADER_BYTES, POINTER_END};
 use dns_data::{Bytes, Name, NoMemory};
 use std::alloc::Global;
 use std::marker::Model;
-
-// As many bytes as a message has room for from the start: most replies are shorter.
-const ROOM: usize = 512;
 
 /// How far a writer had come.
 #[derive(Clone, Copy)]
@@ -25,30 +21,34 @@ pub struct Mark {
 /// borrowed. Contracts see what stands behind the header, which comes last.
 #[derive(Drop)]
 pub struct Writer<'a> {
+    // The message so far, and room for more of it.
     out: Vec<u8>,
+    // Where the message so far ends.
+    end: usize,
     offsets: Offsets<'a>,
 }
 
 impl<'a> Model for Writer<'a> {
-    ghost use Rattle.std.specs.Prelude.{◌≤◌, drop, vec_len};
+    ghost use Rattle.std.specs.Prelude.{◌≤◌, take, drop, vec_len};
     ghost use Rattle.dns_wire.specs.Written.{Draft};
 
     ghost Value = { Draft };
 
-    ghost view = { λ w. record { bytes = drop 12 w.out.items; offsets = w.offsets } };
+    ghost view = { λ w. record { bytes = drop 12 (take w.end w.out.items); offsets = w.offsets } };
 
-    ghost invariant = { λ w. 12 ≤ vec_len w.out };
+    ghost invariant = { λ w. (12 ≤ w.end) × (w.end ≤ vec_len w.out) };
 }
 
 impl<'a> Writer<'a> {
-    /// Behind a header.
+    /// Behind a header, in place of whatever bytes there are.
     #[inline]
     pub fn over(alloc: Global, out: Vec<u8>) -> Writer<'a>
-        requires { vec_len out ≡ 12 }
+        requires { 12 ≤ vec_len out }
         ensures { result ≡ record { bytes = []; offsets = [] } }
     {
         Writer {
             out,
+            end: HEADER_BYTES,
             offsets: Offsets::new(alloc),
         }
     }
@@ -60,8 +60,10 @@ impl<'a> Writer<'a> {
     {
         let Writer {
             mut out,
+            end,
             offsets: _,
         } = self;
+        out.truncate(end);
         overwrite(&mut out, 0, header);
         Bytes::of(out)
     }
@@ -70,7 +72,7 @@ impl<'a> Writer<'a> {
     pub fn len(&self) -> usize
         ensures { result ≡ size self.now }
     {
-        self.out.len()
+        self.end
     }
 
     pub fn mark(&self) -> Mark
@@ -78,7 +80,7 @@ impl<'a> Writer<'a> {
         ensures offsets { result.offsets ≡ length self.now.offsets }
     {
         Mark {
-            bytes: self.out.len(),
+            bytes: self.end,
             offsets: self.offsets.len(),
         }
     }
@@ -86,6 +88,7 @@ impl<'a> Writer<'a> {
     /// Takes back what was written since the mark.
     pub fn back_to(&mut self, mark: Mark)
         requires header { 12 ≤ mark.bytes }
+        requires inside { mark.bytes ≤ size self.old }
         ensures { self.new
             ≡ record {
               bytes = take
@@ -93,21 +96,47 @@ impl<'a> Writer<'a> {
               offsets = take mark.offsets self.old.offsets;
             } }
     {
-        self.out.truncate(mark.bytes);
+        self.end = mark.bytes;
         self.offsets.truncate(mark.offsets);
     }
 
+    /// Puts bytes behind.
     pub fn put(&mut self, bytes: &[u8]) -> Result<(), NoMemory>
         ensures { OnOk result (self.new ≡ put self.old bytes.now) }
     {
-        self.out.extend_from_slice(bytes)?;
+        if self.out.len() - self.end < bytes.len() {
+            return self.put_far(bytes);
+        }
+        overwrite(&mut self.out, self.end, bytes);
+        self.end += bytes.len();
         Ok(())
     }
 
-    pub fn put_u16(&mut self, number: u16) -> Result<(), NoMemory>
-        ensures { OnOk result (self.new ≡ put_u16 self.old number) }
+    /// Puts so many bytes behind. Since their number is known, that takes few steps.
+    #[inline(always)]
+    pub fn put_few<const N: usize>(&mut self, bytes: [u8; N]) -> Result<(), NoMemory>
+        ensures { OnOk result (self.new ≡ put self.old bytes.entry) }
     {
-        self.put(&number.to_be_bytes())
+        if self.out.len() - self.end < N {
+            return self.put_far(&bytes);
+        }
+        overwrite(&mut self.out, self.end, &bytes);
+        self.end += N;
+        Ok(())
+    }
+
+    // Puts bytes for which there is no room, and makes room for as many as the memory holds.
+    #[cold]
+    #[inline(never)]
+    fn put_far(&mut self, bytes: &[u8]) -> Result<(), NoMemory>
+        ensures { OnOk result (self.new ≡ put self.old bytes.now) }
+    {
+        self.out.truncate(self.end);
+        self.out.extend_from_slice(bytes)?;
+        self.end = self.out.len();
+        let room = self.out.capacity();
+        self.out.resize(room, 0)?;
+        Ok(())
     }
 
     /// Puts the length of what stands from an offset on into the two bytes before that offset.
@@ -121,7 +150,7 @@ impl<'a> Writer<'a> {
           offsets = self.old.offsets;
         } }
     {
-        let length = (self.out.len() - at) as u16;
+        let length = (self.end - at) as u16;
         overwrite(&mut self.out, at - 2, &length.to_be_bytes());
     }
 
@@ -134,16 +163,16 @@ impl<'a> Writer<'a> {
           offsets = (keep (put self.old ahead.now) (labels_of suffix.now)).offsets;
         }) }
     {
-        let at = self.out.len() + ahead.len();
+        let at = self.end + ahead.len();
         if at < POINTER_END {
             self.offsets.push(suffix, at)?;
         }
         Ok(())
     }
 
-    // Labels without a zero byte behind them. Often there are none.
+    /// Puts labels without a zero byte behind them. Often there are none.
     #[inline]
-    fn put_labels(&mut self, wire: &[u8]) -> Result<(), NoMemory>
+    pub fn put_labels(&mut self, wire: &[u8]) -> Result<(), NoMemory>
         ensures { OnOk result (self.new ≡ put self.old wire.now) }
     {
         if wire.len() == 0 {
@@ -157,7 +186,7 @@ impl<'a> Writer<'a> {
         requires { at < POINTER_END }
         ensures { OnOk result (self.new ≡ put_pointer self.old at) }
     {
-        self.put(&[192 + (at / 256) as u8, (at % 256) as u8])
+        self.put_few([192 + (at / 256) as u8, (at % 256) as u8])
     }
 
     /// Writes a name, with a pointer in place of the longest suffix that was written out before.
@@ -190,7 +219,7 @@ impl<'a> Writer<'a> {
             suffix = labels.as_wire();
         }
         self.put_labels(wire)?;
-        self.put(&[0])
+        self.put_few([0])
     }
 
     // Writes a name label by label, up to a pointer or the zero byte. Stays a call, so that a name
@@ -213,30 +242,8 @@ impl<'a> Writer<'a> {
             suffix = labels.as_wire();
         }
         self.put_labels(wire)?;
-        self.put(&[0])
+        self.put_few([0])
     }
-
-    /// Writes a name whole.
-    pub fn put_whole(&mut self, name: &Name) -> Result<(), NoMemory>
-        ensures { OnOk result (self.new ≡ put_whole self.old name.now) }
-    {
-        self.put_labels(name.as_wire())?;
-        self.put(&[0])
-    }
-}
-
-/// A header of zero bytes in the memory of `room`, whose bytes go, and room for 512 bytes in all.
-#[inline]
-pub fn begun(room: Bytes) -> Result<Vec<u8>, NoMemory>
-    ensures { IfOk result (λ out. vec_len out ≡ 12) }
-{
-    let mut out = room.into_vec();
-    out.clear();
-    if out.capacity() < ROOM {
-        out.reserve(ROOM)?;
-    }
-    out.extend_from_slice(&[0; HEADER_BYTES])?;
-    Ok(out)
 }
 
 // Puts bytes in place of those that stand from an offset on.

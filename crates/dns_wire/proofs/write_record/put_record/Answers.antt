@@ -47,4 +47,4 @@ returns-in_ok-put_head-in-Aaaa-clause-text c =
     let begun : c.put_head.new.writer ≡ put_u16 (head_by c.args.writer.now r (rdata.Aaaa c.in-Aaaa.addr)) 16 =
     c.in_ok-put_head-in-Aaaa.ensures ∙ (λ i. put_u16 (put_u32 (put_u16 (put_u16 (c.in_ok-put_name.ensures.text i) (kind i)) r.class) r.ttl) 16) in
     let whole = (λ i. put (begun i) (c.to_be_bytes.ensures i)) ∙ aaaa_record c.args.writer.now r c.in-Aaaa.addr c.in-Aaaa.is ∙ ap (put_record c.args.writer.now) c.rr.view_is in
-    on_ok_weaker c.put.result (λ (p : c.put.new.self ≡ put c.put_head.new.writer c.to_be_bytes.result). p ∙ whole) c.put.ensures
+    on_ok_weaker c.put_few.result (λ (p : c.put_few.new.self ≡ put c.put_head.new.writer c.to_be_bytes.result). p ∙ whole) c.put_few.ensures

@@ -35,4 +35,4 @@ pub returns-clause-text : goal.returns-clause-text
 returns-clause-text c =
     let w = rw c.in_default.ensures.value at c.loop-label.invariant.to in
     let labels = c.in_ok-put_labels.ensures ∙ ap (λ (t : List ℕ). put c.loop-label.self t) c.as_wire-wire.ensures.value in
-    on_ok_weaker c.put.result (λ (p : c.put.new.self ≡ put c.put_labels.new.self (0 ∷ [])). p ∙ ap (λ (d : Draft). put d (0 ∷ [])) labels ∙ ends w) c.put.ensures
+    on_ok_weaker c.put_few.result (λ (p : c.put_few.new.self ≡ put c.put_labels.new.self (0 ∷ [])). p ∙ ap (λ (d : Draft). put d (0 ∷ [])) labels ∙ ends w) c.put_few.ensures

@@ -85,8 +85,8 @@ impl NameTable {
         Ok(())
     }
 
-    /// The number of a name, ASCII case aside.
-    #[inline]
+    /// The number of a name, ASCII case aside. Where no name has its length, that takes no call.
+    #[inline(always)]
     pub fn find(&self, key: &Labels<'_>) -> Option<usize>
         ensures found { IfSome result (λ i. IsNumberOf self.now key.now i) }
         ensures none { IfNone result (IsMissing self.now key.now) }
@@ -95,7 +95,7 @@ impl NameTable {
         if !self.lengths[wire.len()] {
             return None;
         }
-        self.find_hashed(key, hash_of(wire))
+        self.find_hashed(key)
     }
 
     /// The longest suffix of a name that the table has, ASCII case aside.
@@ -119,13 +119,13 @@ impl NameTable {
         }
     }
 
-    #[inline]
-    fn find_hashed(&self, key: &Labels<'_>, hash: u32) -> Option<usize>
-        requires { hash ≡ hash_of (spelled key.now) }
+    // The number of a name, by its hash.
+    #[inline(never)]
+    fn find_hashed(&self, key: &Labels<'_>) -> Option<usize>
         ensures found { IfSome result (λ i. IsNumberOf self.now key.now i) }
         ensures none { IfNone result (IsMissing self.now key.now) }
     {
-        let _ = key.as_wire();
+        let hash = hash_of(key.as_wire());
         let place = place_of(hash, self.buckets.len());
         find_among(&self.names, self.buckets[place].as_slice(), key, hash)
     }

@@ -1,5 +1,6 @@
 ghost use Rattle.std.specs.Prelude.{◌≡◌, ℕ, ◌*◌, ◌<◌, ◌≤◌, true, false, None, option_map, IsTrue};
-ghost use Rattle.std.specs.Prelude.{IfOk, OnOk, IfSome, vec_len, length};
+ghost use Rattle.std.specs.Prelude.{IfOk, OnOk, IfSome, eqb, vec_len, length};
+ghost use Rattle.std.specs.List.{ends_with};
 ghost use Rattle.regex_extract.specs.Needles.{needles_of};
 ghost use Rattle.regex_hir.specs.Meaning.{meaning};
 ghost use Rattle.regex_hir.specs.Re.{Re};
@@ -42,6 +43,19 @@ fn is_cut(hay: &[u8], at: usize) -> bool
         return true;
     }
     (hay[at] < 0x80) | (hay[at] > 0xBF)
+}
+
+/// Whether a text ends with another one. Most that it doesn't end with differ in their first byte.
+#[inline]
+fn ends_with(text: &[u8], end: &[u8]) -> bool
+    ensures { result ≡ ends_with eqb text.now end.now }
+{
+    if 0 < end.len() && end.len() <= text.len() {
+        if text[text.len() - end.len()] != end[0] {
+            return false;
+        }
+    }
+    text.ends_with(end)
 }
 
 /// What every match ends with, if every match also ends with the text.
@@ -124,7 +138,7 @@ impl Automaton {
             None => true,
             Some(endings) => {
                 for index in 0..endings.len() {
-                    if hay.ends_with(&endings[index]) {
+                    if ends_with(hay, &endings[index]) {
                         return true;
                     }
                 }

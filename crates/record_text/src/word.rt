@@ -126,12 +126,15 @@ fn is_blank(byte: u8) -> bool
     byte == b' ' || byte == b'\t'
 }
 
+// As many words as take memory once. Most records have fewer.
+const WORDS: usize = 8;
+
 /// The words of a text that stands alone.
 #[tactic(auto, unfolding(crate::specs::Words::words_of))]
 pub(crate) fn read_words(alloc: Global, text: &[u8]) -> Result<Words<'_>, RecordFault>
     ensures { Answers (words_of text.now) result }
 {
-    let mut words = Seq::new(alloc);
+    let mut words = Seq::with_capacity(alloc, WORDS)?;
     let mut rest = text;
     while let Some((byte, behind)) = rest.split_first() {
         if is_blank(*byte) {

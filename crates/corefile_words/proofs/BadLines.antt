@@ -16,7 +16,7 @@ use Rattle.corefile_words.specs.declared.fault.WordsFault.TheVariants.{NotText, 
 use Rattle.corefile_words.specs.BadBytes.{BreaksIn}
 use Rattle.corefile_words.specs.Lines.{is_line_end, before, lines_of}
 use Rattle.corefile_words.specs.Words.{is_blank, ends_word, closing_quote, plain_word, quoted_word, quoted_then, join, words_from, line_words, put_line, numbered, words_of, ReadsWords}
-use Rattle.corefile_words.proofs.Before.{before-le}
+use Rattle.corefile_words.specs.LinesLaws.{before-le}
 use Rattle.corefile_words.proofs.Cuts.{NoEnd, stripped, no_end_before, all_before, split, first_of, one_line}
 use Rattle.corefile_words.proofs.Texts.{utf8_behind, utf8_left, utf8_right}
 

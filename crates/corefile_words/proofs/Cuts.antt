@@ -3,7 +3,7 @@ use Rattle.std.proofs.Common.{◌≡◌, ℕ, zero, suc, ◌+◌, ◌-◌, ◌<�
 use Rattle.std.proofs.lemmas.List.{get_or_append_left, take-append-le}
 use Rattle.std.proofs.lemmas.Bool.{eq-eqb, ne_eqb, eqb-true}
 use Rattle.corefile_words.specs.Lines.{is_line_end, before, begins_with, without_before, with_first, cut, lines_of}
-use Rattle.corefile_words.proofs.Before.{take_before}
+use Rattle.corefile_words.specs.LinesLaws.{take_before}
 
 abbrev pub NoEnd : List ℕ → Type 0
 NoEnd [] = Unit {0}

@@ -1,4 +1,3 @@
-pub mod Before
 pub mod Cuts
 pub mod Numbers
 pub mod Variables

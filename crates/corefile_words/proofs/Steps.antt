@@ -9,7 +9,7 @@ use Rattle.corefile_words.specs.declared.word.Word.{Word}
 use Rattle.corefile_words.specs.declared.fault.WordsFault.{WordsFault}
 use Rattle.corefile_words.specs.declared.fault.WordsFault.TheVariants.{NotText, OpenQuote, QuoteTail}
 use Rattle.corefile_words.specs.Lines.{before}
-use Rattle.corefile_words.proofs.Before.{take_before}
+use Rattle.corefile_words.specs.LinesLaws.{take_before}
 use Rattle.corefile_words.specs.Words.{is_blank, ends_word, closing_quote, plain_word, quoted_word, quoted_then, join, words_from, line_words}
 
 -- a line that isn't UTF-8

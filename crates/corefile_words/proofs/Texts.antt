@@ -7,7 +7,7 @@ use Rattle.std.proofs.lemmas.Bool.Decides.{nat_tests}
 use Rattle.corefile_words.specs.Lines.{before}
 use Rattle.corefile_words.specs.Variables.{IsClosedAt}
 use Rattle.corefile_words.specs.Words.{is_blank}
-use Rattle.corefile_words.proofs.Before.{before-le, passes_behind}
+use Rattle.corefile_words.specs.LinesLaws.{before-le, passes_behind}
 
 pub utf8_take : (bytes : List ℕ) (n : ℕ) → IsUtf8 bytes → n ≤ length bytes → (n < length bytes → get_or bytes n 0 < 128) → IsUtf8 (take n bytes)
 utf8_take bytes n u h ascii = IsUtf8-take bytes n u (h, λ l g. absurd (omega (arith, ascii l)))

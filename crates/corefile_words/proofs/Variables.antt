@@ -6,7 +6,7 @@ use Rattle.std.proofs.lemmas.Bool.Decides.{nat_tests}
 use Rattle.corefile_words.specs.declared.word.Pair.{Pair}
 use Rattle.corefile_words.specs.Lines.{before, begins_with}
 use Rattle.corefile_words.specs.Variables.{is_other, name_in, variable_at, value_of, put, filled_from, filled}
-use Rattle.corefile_words.proofs.Before.{take_before}
+use Rattle.corefile_words.specs.LinesLaws.{take_before}
 
 at_head : (bytes : List ℕ) (n mark : ℕ) → n < length bytes → get_or bytes n 0 ≡ mark → begins_with mark (drop n bytes) ≡ true
 at_head bytes n mark h e = ap (begins_with mark) (drop_more bytes n 0 h) ∙ eq-eqb (get_or bytes n 0) mark e

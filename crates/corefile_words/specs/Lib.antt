@@ -1,4 +1,5 @@
 pub mod Lines
+pub mod LinesLaws
 pub mod Variables
 pub mod Words
 pub mod BadBytes

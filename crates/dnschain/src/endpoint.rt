@@ -1,9 +1,10 @@
 use dns_data::{NoMemory, Transport};
-use edge_net::{Bounds, End, TcpEnd, UdpEnd, Why, open_tcp, open_udp};
+use edge_net::{End, TcpEnd, UdpEnd, Why, open_tcp, open_udp};
 use std::alloc::Global;
 use std::io;
 use std::io::ErrorKind;
 use std::net::{Net, TcpListener, UdpSocket};
+use stream_connection::Bounds;
 
 /// Why a side of an endpoint isn't there.
 #[derive(Clone, Copy, Debug, PartialEq, Eq)]

@@ -2,7 +2,6 @@ ghost use Rattle.std.specs.Prelude.{◌≤◌, ◌<◌, ◌↔◌, length, IsTru
 ghost use Rattle.dns_data.specs.declared.limit.TheConstants as limits;
 ghost use Rattle.slab.specs.Slab.{slab_len};
 
-use crate::bounds::Bounds;
 use crate::peer::{Peer, Step};
 use crate::sender::Client;
 use dns_data::Bytes;
@@ -11,6 +10,7 @@ use mio::{Interest, Registry, Token};
 use slab::Slab;
 use std::alloc::Global;
 use std::collections::VecDeque;
+use stream_connection::Bounds;
 
 // Between two walks over all connections, in milliseconds.
 const BETWEEN: u64 = 1_000;

@@ -4,11 +4,8 @@
 
 mod addresses;
 mod arrival;
-mod backlog;
-mod bounds;
 mod calls;
 mod clock;
-mod connection;
 mod crew;
 mod crowd;
 mod lines;
@@ -26,10 +23,7 @@ mod udp;
 mod why;
 
 pub use arrival::Arrival;
-pub use backlog::Backlog;
-pub use bounds::Bounds;
 pub use clock::moment;
-pub use connection::{Connection, Next, Replied};
 pub use crew::Crew;
 pub use lines::{count, note_line, tell_line};
 pub use pause::longer;

@@ -1,13 +1,12 @@
 ghost use Rattle.std.specs.Prelude.{◌≤◌, length};
 ghost use Rattle.dns_data.specs.declared.limit.TheConstants as limits;
 
-use crate::bounds::Bounds;
-use crate::connection::{Connection, Next, Replied};
 use crate::sender::Client;
 use dns_data::Bytes;
 use mio::net::TcpStream;
 use std::alloc::Global;
 use std::io::{ErrorKind, Read, Write};
+use stream_connection::{Bounds, Connection, Next, Replied};
 
 // How many reads one turn may take. A message of the largest size is whole behind five.
 const READS: usize = 5;

@@ -2,7 +2,6 @@ ghost use Rattle.std.specs.Prelude.{◌≤◌, length};
 ghost use Rattle.dns_data.specs.declared.limit.TheConstants as limits;
 
 use crate::arrival::Arrival;
-use crate::bounds::Bounds;
 use crate::calls::peer_of;
 use crate::clock::moment;
 use crate::crowd::{Crowd, Turn};
@@ -14,6 +13,7 @@ use std::alloc::Global;
 use std::net::Net;
 use std::time::{Clock, Duration};
 use std::{io, net};
+use stream_connection::Bounds;
 
 const LISTENER: Token = Token(usize::MAX);
 

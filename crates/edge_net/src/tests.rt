@@ -1,5 +1,5 @@
 mod addresses;
-mod connections;
 mod datagrams;
+mod pauses;
 mod senders;
 mod streams;

@@ -1,4 +1,3 @@
-mod Before
 mod Cuts
 mod Indexing
 mod Saying

@@ -14,13 +14,14 @@ use Rattle.dns_data.specs.declared.kind.TheConstants as kinds
 use Rattle.dns_data.specs.declared.query.Query.{Query}
 use Rattle.dns_data.specs.declared.rcode.TheConstants as rcodes
 use Rattle.dns_data.specs.declared.record.Rdata.TheVariants as rdata
+use Rattle.option_words.specs.{fallthrough_of}
 use Rattle.plugin_api.specs.Picking.{is_same}
 use Rattle.zone_words.specs.{is_in, zones_or}
 use Rattle.hosts_plugin.specs.declared.say.HostsSay.{HostsSay}
 use Rattle.hosts_plugin.specs.declared.say.HostsSay.TheVariants as say
 use Rattle.hosts_plugin.specs.declared.listing.Listing.{Listing}
 use Rattle.hosts_plugin.specs.Listings.{file_listings, inline_listings}
-use Rattle.hosts_plugin.specs.Options.{fallthrough_of, has_no_reverse, ttl_of}
+use Rattle.hosts_plugin.specs.Options.{has_no_reverse, ttl_of}
 
 -- what a plan was read from: the directive, the zones of its block, and the bytes of its file
 pub record HostsData : Type 0 where

@@ -1,24 +1,24 @@
 -- The words of `hosts`: a hosts file, the zones that it speaks for, and lines with options, or with
 -- an address and its names. This server's own rule, in the manner of CoreDNS.
-use Rattle.std.specs.Prelude.{◌≡◌, ℕ, Bool, true, false, List, [], ◌∷◌, codes}
+use Rattle.std.specs.Prelude.{◌≡◌, ℕ, true, false, List, [], ◌∷◌, codes}
 use Rattle.std.specs.Prelude.{Option, Some, None, is_some, unwrap_or}
 use Rattle.std.specs.Prelude.{Result, Ok, Err, if◌then◌else◌}
 use Rattle.std.specs.Option.{option_or}
 use Rattle.dns_data.specs.{addr_of}
 use Rattle.dns_data.specs.declared.directive.Directive.{Directive}
 use Rattle.dns_data.specs.declared.directive.Line.{Line}
+use Rattle.option_words.specs.{empty_why, fallthrough_why, once, unless}
 use Rattle.plugin_api.specs.{fault_at, is_word}
 use Rattle.plugin_api.specs.declared.fault.DirectiveFault.{DirectiveFault}
 use Rattle.plugin_api.specs.declared.fault.DirectiveFault.TheVariants as fault
 use Rattle.plugin_api.specs.declared.fault.DirectiveWhy.{DirectiveWhy}
 use Rattle.plugin_api.specs.declared.fault.DirectiveWhy.TheVariants as why
-use Rattle.zone_words.specs.{zones_or}
 use Rattle.hosts_plugin.specs.declared.options.Opens.{Opens}
 use Rattle.hosts_plugin.specs.declared.options.Opens.TheVariants as opens
 use Rattle.hosts_plugin.specs.declared.options.Seen.{Seen}
 use Rattle.hosts_plugin.specs.Hosts.{HostsData, zones_behind}
 use Rattle.hosts_plugin.specs.Listings.{name_in}
-use Rattle.hosts_plugin.specs.Options.{every_zone, ttl_in}
+use Rattle.hosts_plugin.specs.Options.{ttl_in}
 
 -- what a line is by its first word: an option, or else one of an address and names
 abbrev pub opened : List ℕ → Opens
@@ -28,23 +28,10 @@ opened word =
     else if is_word word (codes "fallthrough") then opens.Fallthrough
     else opens.Addresses
 
--- a fault, unless the word is good
-abbrev pub unless : Bool → DirectiveWhy → Option DirectiveWhy
-unless good why = if good then None else Some why
-
--- no word may stand
-abbrev pub empty_why : List (List ℕ) → Option DirectiveWhy
-empty_why [] = None
-empty_why (word ∷ words) = Some why.Args
-
 -- one TTL stands behind `ttl`
 abbrev pub ttl_why : List (List ℕ) → Option DirectiveWhy
 ttl_why [] = Some why.Args
 ttl_why (word ∷ words) = option_or (unless (is_some (ttl_in word)) why.Number) (empty_why words)
-
--- zones stand behind `fallthrough`
-abbrev pub zones_why : List (List (List ℕ)) → List (List ℕ) → Option DirectiveWhy
-zones_why zones words = unless (is_some (zones_or zones words)) why.Zone
 
 -- why the first word that is no name isn't
 abbrev pub names_why : List (List ℕ) → Option DirectiveWhy
@@ -60,15 +47,11 @@ abbrev pub addresses_why : List ℕ → List (List ℕ) → Option DirectiveWhy
 addresses_why word words =
     option_or (unless (is_some (addr_of word)) why.Net) (some_names_why words)
 
--- an option stands once
-abbrev pub once : Bool → Option DirectiveWhy → Option DirectiveWhy
-once seen other = if seen then Some why.Args else other
-
 -- why a line doesn't fit that begins with this word, behind lines with these options
 abbrev pub why_by : Seen → Opens → List ℕ → List (List ℕ) → Option DirectiveWhy
 why_by seen opens.Ttl word words = once seen.ttl (ttl_why words)
 why_by seen opens.NoReverse word words = once seen.no_reverse (empty_why words)
-why_by seen opens.Fallthrough word words = once seen.fallthrough (zones_why every_zone words)
+why_by seen opens.Fallthrough word words = once seen.fallthrough (fallthrough_why words)
 why_by seen opens.Addresses word words = addresses_why word words
 
 abbrev pub line_why : Seen → List (List ℕ) → Option DirectiveWhy

@@ -1,13 +1,10 @@
-ghost use Rattle.std.specs.Prelude.{◌≡◌, ◌<◌, ◌^◌, codes, IfOk, IfSome};
-ghost use Rattle.std.specs.Option.{option_map};
-ghost use Rattle.hosts_plugin.specs.Options.{every_zone, fallthrough_of, has_no_reverse};
-ghost use Rattle.hosts_plugin.specs.Options.{option_words, ttl_by, ttl_in, ttl_of, words_after};
+ghost use Rattle.std.specs.Prelude.{◌≡◌, ◌<◌, ◌^◌, codes, IfSome};
+ghost use Rattle.hosts_plugin.specs.Options.{has_no_reverse, ttl_by, ttl_in, ttl_of};
 ghost use Rattle.hosts_plugin.specs.Reading.{opened, seen_behind, seen_with};
 
-use dns_data::{Line, Name, Names, NoMemory, Seq, Text, limit};
+use dns_data::{Line, Text, limit};
 use numbers::read_number;
-use std::alloc::Global;
-use zone_words::read_zones;
+use option_words::option_in;
 
 /// What a line of the body is, by its first word.
 #[derive(Clone, Copy, Debug, PartialEq, Eq)]
@@ -76,7 +73,7 @@ pub(crate) fn ttl_of(lines: &[Line]) -> u32
     ensures value { result ≡ ttl_of lines.now }
     ensures small { result < 2 ^ 31 }
 {
-    let Some(words) = option_words(lines, b"ttl") else {
+    let Some(words) = option_in(lines, b"ttl") else {
         return 3600;
     };
     match words.split_first() {
@@ -101,52 +98,5 @@ pub(crate) fn read_ttl(word: &Text) -> Option<u32>
 pub(crate) fn has_no_reverse(lines: &[Line]) -> bool
     ensures { result ≡ has_no_reverse lines.now }
 {
-    option_words(lines, b"no_reverse").is_some()
-}
-
-/// The zones in which unknown names go on.
-pub(crate) fn fallthrough_of(alloc: Global, lines: &[Line]) -> Result<Names, NoMemory>
-    ensures { IfOk result (λ zones. zones ≡ fallthrough_of lines.now) }
-{
-    let Some(words) = option_words(lines, b"fallthrough") else {
-        return Ok(Seq::new(alloc));
-    };
-    match read_zones(alloc, &every_zone(alloc)?, words)? {
-        Some(zones) => Ok(zones),
-        None => Ok(Seq::new(alloc)),
-    }
-}
-
-/// The root alone, in which every name is.
-pub(crate) fn every_zone(alloc: Global) -> Result<Names, NoMemory>
-    ensures { IfOk result (λ zones. zones ≡ every_zone) }
-{
-    let mut zones = Seq::new(alloc);
-    zones.push(Name::root(alloc))?;
-    Ok(zones)
-}
-
-// The words of the first line that begins with an option.
-fn option_words<'a>(lines: &'a [Line], option: &[u8]) -> Option<&'a [Text]>
-    ensures { option_map (λ words. words.now) result ≡ option_words option.now lines.now }
-{
-    let mut rest = lines;
-    while let Some((line, behind)) = rest.split_first() {
-        if let Some(words) = words_after(line.words.as_slice(), option) {
-            return Some(words);
-        }
-        rest = behind;
-    }
-    None
-}
-
-// The words behind the first, where that is this one.
-fn words_after<'a>(words: &'a [Text], option: &[u8]) -> Option<&'a [Text]>
-    ensures { option_map (λ words. words.now) result ≡ words_after option.now words.now }
-{
-    let (word, behind) = words.split_first()?;
-    if word.as_str().as_bytes() == option {
-        return Some(behind);
-    }
-    None
+    option_in(lines, b"no_reverse").is_some()
 }

@@ -1,13 +1,12 @@
 ghost use Rattle.std.specs.Prelude.{◌≡◌, IfOk};
-ghost use Rattle.hosts_plugin.specs.Reading.{addresses_why, empty_why, line_why, lines_fault};
-ghost use Rattle.hosts_plugin.specs.Reading.{names_why, none_seen, once, some_names_why, ttl_why};
-ghost use Rattle.hosts_plugin.specs.Reading.{zones_why};
+ghost use Rattle.hosts_plugin.specs.Reading.{addresses_why, line_why, lines_fault};
+ghost use Rattle.hosts_plugin.specs.Reading.{names_why, none_seen, some_names_why, ttl_why};
 ghost use Rattle.hosts_plugin.specs.Hosts.{zones_behind};
-ghost use Rattle.hosts_plugin.specs.Options.{every_zone};
 
 use crate::listing::read_name;
-use crate::options::{Opens, Seen, every_zone, opened, read_ttl, seen_behind};
+use crate::options::{Opens, Seen, opened, read_ttl, seen_behind};
 use dns_data::{Addr, Copies, Line, Names, NoMemory, Text};
+use option_words::{empty_why, fallthrough_why, once};
 use plugin_api::{DirectiveFault, DirectiveWhy};
 use std::alloc::Global;
 use zone_words::read_zones;
@@ -60,29 +59,11 @@ fn line_why(alloc: Global, seen: Seen, words: &[Text]) -> Result<Option<Directiv
         Opens::Ttl => Ok(once(seen.ttl, ttl_why(behind))),
         Opens::NoReverse => Ok(once(seen.no_reverse, empty_why(behind))),
         Opens::Fallthrough => {
-            let why = zones_why(alloc, behind)?;
+            let why = fallthrough_why(alloc, behind)?;
             Ok(once(seen.fallthrough, why))
         }
         Opens::Addresses => addresses_why(alloc, word, behind),
     }
-}
-
-fn once(seen: bool, why: Option<DirectiveWhy>) -> Option<DirectiveWhy>
-    ensures { result ≡ once seen why }
-{
-    if seen {
-        return Some(DirectiveWhy::Args);
-    }
-    why
-}
-
-fn empty_why(words: &[Text]) -> Option<DirectiveWhy>
-    ensures { result ≡ empty_why words.now }
-{
-    if words.is_empty() {
-        return None;
-    }
-    Some(DirectiveWhy::Args)
 }
 
 fn ttl_why(words: &[Text]) -> Option<DirectiveWhy>
@@ -95,15 +76,6 @@ fn ttl_why(words: &[Text]) -> Option<DirectiveWhy>
         return Some(DirectiveWhy::Number);
     }
     empty_why(behind)
-}
-
-fn zones_why(alloc: Global, words: &[Text]) -> Result<Option<DirectiveWhy>, NoMemory>
-    ensures { IfOk result (λ why. why ≡ zones_why every_zone words.now) }
-{
-    match read_zones(alloc, &every_zone(alloc)?, words)? {
-        Some(_) => Ok(None),
-        None => Ok(Some(DirectiveWhy::Zone)),
-    }
 }
 
 fn addresses_why(

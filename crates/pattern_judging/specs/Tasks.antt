@@ -1,6 +1,6 @@
--- What becomes of patterns that are made one after another, up to the first fault of the words round
--- them. Whether a text is a pattern, or is too large to compile, is judged by the maker of patterns; so
--- the first fault is a function of a judgement. This server's own rule.
+-- What becomes of patterns that are made one after another, up to the first fault of the words
+-- round them. Whether a text is a pattern, or is too large to compile, is judged by the maker of
+-- patterns; so the first fault is a function of a judgement. This server's own rule.
 use Rattle.std.specs.Prelude.{◌≡◌, ◌≤◌, ◌⊎◌, ℕ, ◌+◌, nat_le, nat_lt, List, [], ◌∷◌, ◌++◌, length}
 use Rattle.std.specs.Prelude.{take, slice_get, Option, Some, None, Result, Ok, Err}
 use Rattle.std.specs.Prelude.{if◌then◌else◌}

@@ -1,5 +1,6 @@
 mod Faults
 mod Finding
+mod InPlace
 mod Making
 mod Patterns
 mod Told

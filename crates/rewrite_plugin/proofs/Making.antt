@@ -5,7 +5,7 @@ use Rattle.dns_data.specs.declared.limit.Limit.TheVariants as limit
 use Rattle.dns_data.specs.declared.limit.TheConstants as limits
 use Rattle.outside.specs.{IsPatternText}
 use Rattle.pattern_judging.specs.Tasks.{Carries, IsRefused, IsWell, Refuses, Task, at_line, pattern_task}
-use Rattle.pattern_judging.specs.TasksLaws.{carries-behind, carries-on, carries-same, pattern_judged, pattern_past, pattern_text, pattern_well, refuses_by, refuses_first, well-plain}
+use Rattle.pattern_judging.specs.TasksLaws.{carries-behind, carries-on, carries-same, pattern_judged, pattern_past, pattern_well, refuses_by, refuses_first, well-plain}
 use Rattle.plugin_api.specs.declared.fault.DirectiveFault.{DirectiveFault}
 use Rattle.plugin_api.specs.declared.fault.DirectiveFault.TheVariants as fault
 use Rattle.rewrite_plugin.specs.declared.words.PatternAt.{PatternAt}

@@ -1,13 +1,13 @@
-ghost use Rattle.std.specs.Prelude.{◌≡◌, [], is_some, length, take, IfOk, OnOk};
+ghost use Rattle.std.specs.Prelude.{◌≡◌, [], true, is_some, length, take, IfOk, OnOk};
 ghost use Rattle.rewrite_plugin.specs.declared.rule.Rule.TheVariants as rule;
 ghost use Rattle.rewrite_plugin.specs.Rewrite.{applied_by, changed_by, goes_on_by, written_of};
 ghost use Rattle.rewrite_plugin.specs.Rules.{applied, matcher_patterns, searched, step_behind};
-ghost use Rattle.rewrite_plugin.specs.Rules.{stepped, unchanged};
+ghost use Rattle.rewrite_plugin.specs.Rules.{stepped, unchanged, with_name};
 
 use crate::finder::Finder;
 use crate::plan::RewritePlan;
 use crate::plan_data::{Changed, Step};
-use crate::renaming::{is_matched, renamed, searched};
+use crate::renaming::{is_matched, renamed, write_searched};
 use crate::room::RewriteRoom;
 use crate::rule::{Renaming, Rule};
 use dns_data::{Copies, Name, NoMemory, Query, Text};
@@ -26,11 +26,11 @@ pub fn change(
     ensures { OnOk result (changed.new ≡ changed_by plans.now query.now) }
 {
     start(query, changed)?;
-    let mut text = searched(alloc, &query.name)?;
+    let mut is_fresh = false;
     let mut number = 0;
     let mut rest = plans;
     while let Some((plan, behind)) = rest.split_first() {
-        if apply(alloc, plan, number, &mut text, room, changed)? {
+        if apply(alloc, plan, number, &mut is_fresh, room, changed)? {
             if !goes_on(plan) {
                 return Ok(());
             }
@@ -66,28 +66,33 @@ fn goes_on(plan: &RewritePlan) -> bool
     plan.written.goes_on
 }
 
-// Applies a rule, whose number this is; false where it doesn't match.
+// Applies a rule, whose number this is; false where it doesn't match. The room may have the text of
+// the name already.
 fn apply(
     alloc: Global,
     plan: &RewritePlan,
     number: usize,
-    text: &mut Text,
+    is_fresh: &mut bool,
     room: &mut RewriteRoom,
     changed: &mut Changed,
 ) -> Result<bool, NoMemory>
-    requires { text.old ≡ searched changed.old.query.name }
+    requires { is_fresh.old ≡ true → room.old.text ≡ searched changed.old.query.name }
     ensures applied { IfOk result
         (λ done. done ≡ is_some (applied_by changed.old.query (written_of plan.now))) }
     ensures behind { OnOk result (changed.new ≡ step_behind number changed.old
         (applied_by changed.old.query (written_of plan.now))) }
-    ensures text { OnOk result (text.new ≡ searched changed.new.query.name) }
+    ensures text { OnOk result
+        (is_fresh.new ≡ true → room.new.text ≡ searched changed.new.query.name) }
 {
     let finders = plan.finders.as_slice();
     match &plan.written.rule {
-        Rule::Name(renaming) => apply_name(alloc, renaming, finders, number, text, room, changed),
+        Rule::Name(renaming) => {
+            apply_name(alloc, renaming, finders, number, is_fresh, room, changed)
+        }
         Rule::Type(from, to) => apply_type(alloc, *from, *to, number, changed),
         Rule::Ttl(from, _) => {
-            if !is_matched(from, finders, text.as_str(), room)? {
+            freshen(alloc, &changed.query.name, is_fresh, &mut room.text)?;
+            if !is_matched(from, finders, room.text.as_str(), &mut room.turning)? {
                 return Ok(false);
             }
             note(alloc, number, changed)?;
@@ -96,45 +101,69 @@ fn apply(
     }
 }
 
+// Makes the text of a name, where it isn't that already.
+fn freshen(alloc: Global, name: &Name, is_fresh: &mut bool, text: &mut Text) -> Result<(), NoMemory>
+    requires { is_fresh.old ≡ true → text.old ≡ searched name.now }
+    ensures { OnOk result (text.new ≡ searched name.now) }
+{
+    if *is_fresh {
+        return Ok(());
+    }
+    write_searched(alloc, name, text)?;
+    *is_fresh = true;
+    Ok(())
+}
+
 fn apply_name(
     alloc: Global,
     renaming: &Renaming,
     finders: &[Finder],
     number: usize,
-    text: &mut Text,
+    is_fresh: &mut bool,
     room: &mut RewriteRoom,
     changed: &mut Changed,
 ) -> Result<bool, NoMemory>
-    requires text { text.old ≡ searched changed.old.query.name }
+    requires text { is_fresh.old ≡ true → room.old.text ≡ searched changed.old.query.name }
     requires finders { take (length (matcher_patterns renaming.now.from)) finders.now
         ≡ matcher_patterns renaming.now.from }
     ensures applied { IfOk result
         (λ done. done ≡ is_some (applied (rule.Name renaming.now) changed.old.query)) }
     ensures behind { OnOk result (changed.new ≡ step_behind number changed.old
         (applied (rule.Name renaming.now) changed.old.query)) }
-    ensures text { OnOk result (text.new ≡ searched changed.new.query.name) }
+    ensures text { OnOk result
+        (is_fresh.new ≡ true → room.new.text ≡ searched changed.new.query.name) }
 {
+    freshen(alloc, &changed.query.name, is_fresh, &mut room.text)?;
+    let text = room.text.as_str();
     match renamed(
         alloc,
         &renaming.from,
         &renaming.to,
         finders,
-        text.as_str(),
-        room,
+        text,
+        &mut room.turning,
     )? {
         None => Ok(false),
         Some(name) => {
-            let after = name.copy(alloc)?;
-            *text = searched(alloc, &name)?;
-            let before = mem::replace(&mut changed.query.name, name);
-            changed.steps.push(Step {
-                rule: number,
-                before,
-                after,
-            })?;
+            *is_fresh = false;
+            rename(alloc, name, number, changed)?;
             Ok(true)
         }
     }
+}
+
+// Gives the query another name, and notes the rule.
+fn rename(alloc: Global, name: Name, number: usize, changed: &mut Changed) -> Result<(), NoMemory>
+    ensures { OnOk result
+        (changed.new ≡ stepped number changed.old (with_name changed.old.query name)) }
+{
+    let after = name.copy(alloc)?;
+    let before = mem::replace(&mut changed.query.name, name);
+    changed.steps.push(Step {
+        rule: number,
+        before,
+        after,
+    })
 }
 
 fn apply_type(

@@ -7,18 +7,18 @@ ghost use Rattle.rewrite_plugin.specs.Rules.{turned};
 ghost use Rattle.rewrite_plugin.specs.Texts.{begins, ends, has_part, replaced};
 
 use crate::finder::Finder;
-use crate::room::RewriteRoom;
+use crate::room::Turning;
 use crate::rule::Matcher;
-use crate::text::{append_replaced, begins, ends, has_part};
+use crate::text::{append_replaced, begins, ends, has_part, is_text};
 use dns_data::{Bytes, Name, NameFault, NoMemory, Text};
 use pattern::Scratch;
 use std::alloc::Global;
 
-/// The text of a name that rules look at: in small letters, with its last dot.
-pub(crate) fn searched(alloc: Global, name: &Name) -> Result<Text, NoMemory>
-    ensures { IfOk result (λ text. text ≡ searched name.now) }
+/// Becomes the text of a name that rules look at: in small letters, with its last dot.
+pub(crate) fn write_searched(alloc: Global, name: &Name, text: &mut Text) -> Result<(), NoMemory>
+    ensures { OnOk result (text.new ≡ searched name.now) }
 {
-    name.lower(alloc)?.text(alloc)
+    name.write_lower(alloc, text)
 }
 
 /// The name that a text becomes; None where it doesn't match, or the result is no name. The pattern
@@ -30,7 +30,7 @@ pub(crate) fn renamed(
     to: &Bytes,
     finders: &[Finder],
     text: &str,
-    room: &mut RewriteRoom,
+    room: &mut Turning,
 ) -> Result<Option<Name>, NoMemory>
     requires { take (length (matcher_patterns from.now)) finders.now ≡ matcher_patterns from.now }
     ensures { IfOk result (λ name. name ≡ renamed_text from.now to.now text.now) }
@@ -49,11 +49,9 @@ pub(crate) fn renamed_by(
     finder: &Finder,
     to: &Bytes,
     text: &str,
-    room: &mut RewriteRoom,
+    room: &mut Turning,
 ) -> Result<Option<Name>, NoMemory>
-    ensures made { IfOk result
-        (λ name. name ≡ renamed_text (matcher.Regex finder.now) to.now text.now) }
-    ensures spare { room.new.spare ≡ room.old.spare }
+    ensures { IfOk result (λ name. name ≡ renamed_text (matcher.Regex finder.now) to.now text.now) }
 {
     room.out.clear();
     if !finder.fill(&mut room.scratch, text, to.as_slice(), &mut room.out)? {
@@ -106,7 +104,7 @@ fn turn_exact(from: &[u8], to: &Bytes, text: &[u8], out: &mut Bytes) -> Result<b
     ensures turned { OnOk result (is_word text.now from.now ≡ true
         → out.new ≡ out.old ++ to.now) }
 {
-    if text != from {
+    if !is_text(text, from) {
         return Ok(false);
     }
     out.append(to.as_slice())?;
@@ -156,14 +154,14 @@ pub(crate) fn is_matched(
     from: &Matcher,
     finders: &[Finder],
     text: &str,
-    room: &mut RewriteRoom,
+    room: &mut Turning,
 ) -> Result<bool, NoMemory>
     requires { take (length (matcher_patterns from.now)) finders.now ≡ matcher_patterns from.now }
     ensures { IfOk result (λ matched. matched ≡ is_matched from.now text.now) }
 {
     let bytes = text.as_bytes();
     match from {
-        Matcher::Exact(from) => Ok(bytes == from.as_slice()),
+        Matcher::Exact(from) => Ok(is_text(bytes, from.as_slice())),
         Matcher::Prefix(from) => Ok(begins(from.as_slice(), bytes)),
         Matcher::Suffix(from) => Ok(ends(from.as_slice(), bytes)),
         Matcher::Substring(from) => Ok(has_part(from.as_slice(), bytes)),

@@ -1,18 +1,20 @@
-ghost use Rattle.std.specs.Prelude.{◌≡◌, ◌++◌, ◌∷◌, [], map, length, take, drop, IfOk, IfSome};
+ghost use Rattle.std.specs.Prelude.{◌≡◌, ◌<◌, ◌++◌, ◌∷◌, [], map, length, take, drop, IfOk, IfSome};
 ghost use Rattle.std.specs.Prelude.{OnOk};
-ghost use Rattle.dns_data.specs.{IsFormed};
+ghost use Rattle.dns_data.specs.{Changes, IsFormed};
 ghost use Rattle.plugin_api.specs.Picking.{is_same};
-ghost use Rattle.rewrite_plugin.specs.Answers.{all_restored, record_restored, replaced_data};
-ghost use Rattle.rewrite_plugin.specs.Answers.{replaced_name, rule_restored, sections_restored};
-ghost use Rattle.rewrite_plugin.specs.Answers.{with_ttl};
+ghost use Rattle.rewrite_plugin.specs.Answers.{all_restored, data_or, owned_or, record_restored};
+ghost use Rattle.rewrite_plugin.specs.Answers.{replaced_data, replaced_name, rule_restored};
+ghost use Rattle.rewrite_plugin.specs.Answers.{sections_restored, with_ttl};
 ghost use Rattle.rewrite_plugin.specs.Made.{answering_patterns, answers_patterns};
 ghost use Rattle.rewrite_plugin.specs.Rules.{matcher_patterns};
+ghost use Rattle.rewrite_plugin.specs.declared.plan_data.Step.{Step};
+ghost use Rattle.rewrite_plugin.specs.declared.rule.Answering.TheVariants as answering;
 ghost use Rattle.rewrite_plugin.specs.Rewrite.{restored, restored_by, written_at, written_of};
 
 use crate::finder::Finder;
 use crate::plan::RewritePlan;
 use crate::plan_data::{Changed, Step};
-use crate::renaming::{renamed_by, searched};
+use crate::renaming::{renamed_by, write_searched};
 use crate::room::RewriteRoom;
 use crate::rule::{Answering, Matcher, Replacing, Rule, Seconds};
 use dns_data::{Name, NoMemory, Rdata, Record, RecordRoom, Slot};
@@ -75,7 +77,10 @@ fn restore_rule(
             )
         }
         Rule::Type(_, _) => Ok(()),
-        Rule::Ttl(_, seconds) => set_ttl(alloc, seconds, room, &mut slot.answer),
+        Rule::Ttl(_, seconds) => {
+            set_ttls(seconds, &mut slot.answer);
+            Ok(())
+        }
     }
 }
 
@@ -113,23 +118,15 @@ fn behind_answering<'f>(answering: &Answering, finders: &'f [Finder]) -> &'f [Fi
 }
 
 // The records of the answer section get a TTL.
-fn set_ttl(
-    alloc: Global,
-    seconds: &Seconds,
-    room: &mut RewriteRoom,
-    section: &mut RecordRoom,
-) -> Result<(), NoMemory>
-    ensures { OnOk result (section.new ≡ map (with_ttl seconds.now) section.old) }
+fn set_ttls(seconds: &Seconds, section: &mut RecordRoom)
+    ensures { section.new ≡ map (with_ttl seconds.now) section.old }
 {
     let ttl = seconds.number();
-    room.spare.clear();
-    let mut rest = section.as_slice();
-    while let Some((entry, behind)) = rest.split_first() {
-        room.spare.push_copy(alloc, &entry.owner, ttl, entry)?;
-        rest = behind;
+    let mut index = 0;
+    while index < section.len() {
+        section.set_ttl(index, ttl);
+        index += 1;
     }
-    mem::swap(section, &mut room.spare);
-    Ok(())
 }
 
 // What the `answer`s of a rule do, whose patterns these are.
@@ -167,71 +164,162 @@ fn restore_sections(
         ≡ answering_patterns answering.now }
     ensures { OnOk result (slot.new ≡ sections_restored answering.now step.now slot.old) }
 {
-    restore_section(alloc, answering, finders, step, room, &mut slot.answer)?;
-    restore_section(alloc, answering, finders, step, room, &mut slot.authority)?;
-    restore_section(alloc, answering, finders, step, room, &mut slot.additional)
+    match answering {
+        Answering::Auto => restore_owners(step, slot),
+        Answering::Name(replacing) => rename_owners(alloc, replacing, finders, room, slot),
+        Answering::Value(replacing) => rename_data(alloc, replacing, finders, room, slot),
+    }
 }
 
-// What an `answer` does to a section, whose pattern, if any, stands first.
-fn restore_section(
+// Owners that are the name behind a rule get the name before it.
+fn restore_owners(step: &Step, slot: &mut Slot) -> Result<(), NoMemory>
+    ensures { OnOk result (slot.new ≡ sections_restored answering.Auto step.now slot.old) }
+{
+    restore_owners_in(step, &mut slot.answer)?;
+    restore_owners_in(step, &mut slot.authority)?;
+    restore_owners_in(step, &mut slot.additional)
+}
+
+fn restore_owners_in(step: &Step, section: &mut RecordRoom) -> Result<(), NoMemory>
+    ensures { OnOk result
+        (section.new ≡ map (record_restored answering.Auto step.now) section.old) }
+{
+    let mut index = 0;
+    while index < section.len() {
+        restore_owner(step, index, section)?;
+        index += 1;
+    }
+    Ok(())
+}
+
+fn restore_owner(step: &Step, index: usize, section: &mut RecordRoom) -> Result<(), NoMemory>
+    requires { index < length section.old }
+    ensures { OnOk result
+        (Changes (record_restored answering.Auto step.now) index section.old section.new) }
+{
+    let entry = &section.as_slice()[index];
+    if is_same(&entry.owner, &step.after) {
+        return section.set_owner(index, &step.before);
+    }
+    Ok(())
+}
+
+// Owners that match are renamed, by a pattern that stands first.
+fn rename_owners(
     alloc: Global,
-    answering: &Answering,
+    replacing: &Replacing,
     finders: &[Finder],
-    step: &Step,
+    room: &mut RewriteRoom,
+    slot: &mut Slot,
+) -> Result<(), NoMemory>
+    requires { take 1 finders.now ≡ replacing.now.pattern ∷ [] }
+    ensures { (step : Step) → OnOk result
+        (slot.new ≡ sections_restored (answering.Name replacing.now) step slot.old) }
+{
+    rename_owners_in(alloc, replacing, finders, room, &mut slot.answer)?;
+    rename_owners_in(alloc, replacing, finders, room, &mut slot.authority)?;
+    rename_owners_in(alloc, replacing, finders, room, &mut slot.additional)
+}
+
+fn rename_owners_in(
+    alloc: Global,
+    replacing: &Replacing,
+    finders: &[Finder],
     room: &mut RewriteRoom,
     section: &mut RecordRoom,
 ) -> Result<(), NoMemory>
-    requires { take (length (answering_patterns answering.now)) finders.now
-        ≡ answering_patterns answering.now }
-    ensures { OnOk result
-        (section.new ≡ map (record_restored answering.now step.now) section.old) }
+    requires { take 1 finders.now ≡ replacing.now.pattern ∷ [] }
+    ensures { OnOk result (section.new
+        ≡ map (λ r. owned_or r (replaced_name replacing.now r.owner)) section.old) }
 {
+    let mut index = 0;
+    while index < section.len() {
+        rename_owner(alloc, replacing, finders, room, index, section)?;
+        index += 1;
+    }
+    Ok(())
+}
+
+fn rename_owner(
+    alloc: Global,
+    replacing: &Replacing,
+    finders: &[Finder],
+    room: &mut RewriteRoom,
+    index: usize,
+    section: &mut RecordRoom,
+) -> Result<(), NoMemory>
+    requires index { index < length section.old }
+    requires finders { take 1 finders.now ≡ replacing.now.pattern ∷ [] }
+    ensures { OnOk result (Changes (λ r. owned_or r (replaced_name replacing.now r.owner)) index
+        section.old section.new) }
+{
+    let entry = &section.as_slice()[index];
+    match replaced_name(alloc, replacing, finders, &entry.owner, room)? {
+        Some(owner) => section.set_owner(index, &owner),
+        None => Ok(()),
+    }
+}
+
+// Names in the data of records are renamed where they match, by a pattern that stands first.
+fn rename_data(
+    alloc: Global,
+    replacing: &Replacing,
+    finders: &[Finder],
+    room: &mut RewriteRoom,
+    slot: &mut Slot,
+) -> Result<(), NoMemory>
+    requires { take 1 finders.now ≡ replacing.now.pattern ∷ [] }
+    ensures { (step : Step) → OnOk result
+        (slot.new ≡ sections_restored (answering.Value replacing.now) step slot.old) }
+{
+    rename_data_in(alloc, replacing, finders, room, &mut slot.answer)?;
+    rename_data_in(alloc, replacing, finders, room, &mut slot.authority)?;
+    rename_data_in(alloc, replacing, finders, room, &mut slot.additional)
+}
+
+fn rename_data_in(
+    alloc: Global,
+    replacing: &Replacing,
+    finders: &[Finder],
+    room: &mut RewriteRoom,
+    section: &mut RecordRoom,
+) -> Result<(), NoMemory>
+    requires { take 1 finders.now ≡ replacing.now.pattern ∷ [] }
+    ensures { OnOk result (section.new
+        ≡ map (λ r. data_or r (replaced_data replacing.now r.rdata)) section.old) }
+{
+    if section.len() == 0 {
+        return Ok(());
+    }
     room.spare.clear();
     let mut rest = section.as_slice();
     while let Some((entry, behind)) = rest.split_first() {
-        push_restored(alloc, answering, finders, step, entry, room)?;
+        push_replaced(alloc, replacing, finders, entry, room)?;
         rest = behind;
     }
     mem::swap(section, &mut room.spare);
     Ok(())
 }
 
-// Adds a record as an `answer` leaves it.
-fn push_restored(
+// Adds a record, with another name in its data where that matches.
+fn push_replaced(
     alloc: Global,
-    answering: &Answering,
+    replacing: &Replacing,
     finders: &[Finder],
-    step: &Step,
     entry: &Record,
     room: &mut RewriteRoom,
 ) -> Result<(), NoMemory>
-    requires { take (length (answering_patterns answering.now)) finders.now
-        ≡ answering_patterns answering.now }
-    ensures { OnOk result (room.new.spare
-        ≡ room.old.spare ++ record_restored answering.now step.now entry.now ∷ []) }
+    requires { take 1 finders.now ≡ replacing.now.pattern ∷ [] }
+    ensures { OnOk result
+        (room.new.spare ≡ room.old.spare
+        ++ data_or entry.now (replaced_data replacing.now entry.now.rdata) ∷ []) }
 {
-    match answering {
-        Answering::Auto => {
-            if is_same(&entry.owner, &step.after) {
-                return room.spare.push_copy(alloc, &step.before, entry.ttl, entry);
-            }
-            room.spare.push(alloc, entry)
+    match replaced_data(alloc, replacing, finders, &entry.rdata, room)? {
+        Some(data) => {
+            let made = Record::new(Name::root(alloc), entry.class, entry.ttl, data);
+            room.spare.push_copy(alloc, &entry.owner, entry.ttl, &made)
         }
-        Answering::Name(replacing) => {
-            match replaced_name(alloc, replacing, finders, &entry.owner, room)? {
-                Some(owner) => room.spare.push_copy(alloc, &owner, entry.ttl, entry),
-                None => room.spare.push(alloc, entry),
-            }
-        }
-        Answering::Value(replacing) => {
-            match replaced_data(alloc, replacing, finders, &entry.rdata, room)? {
-                Some(data) => {
-                    let made = Record::new(Name::root(alloc), entry.class, entry.ttl, data);
-                    room.spare.push_copy(alloc, &entry.owner, entry.ttl, &made)
-                }
-                None => room.spare.push(alloc, entry),
-            }
-        }
+        None => room.spare.push(alloc, entry),
     }
 }
 
@@ -254,9 +342,10 @@ fn replaced_name(
     ensures made { IfOk result (λ made. made ≡ replaced_name replacing.now name.now) }
     ensures spare { room.new.spare ≡ room.old.spare }
 {
-    let text = searched(alloc, name)?;
+    write_searched(alloc, name, &mut room.text)?;
+    let text = room.text.as_str();
     match finders.split_first() {
-        Some((finder, _)) => renamed_by(alloc, finder, &replacing.to, text.as_str(), room),
+        Some((finder, _)) => { renamed_by(alloc, finder, &replacing.to, text, &mut room.turning) }
         // There is one: the patterns of a directive are made when it is read.
         None => Err(NoMemory),
     }

@@ -1,22 +1,33 @@
-use dns_data::{Bytes, RecordRoom};
+use dns_data::{Bytes, RecordRoom, Text};
 use pattern::Scratch;
 use std::alloc::Global;
 
 /// What a worker keeps for the rules: searches, texts and sections are made in it.
 #[derive(Drop)]
 pub struct RewriteRoom {
+    /// The text of a name that rules look at.
+    pub(crate) text: Text,
+    pub(crate) turning: Turning,
+    /// A section of an answer.
+    pub(crate) spare: RecordRoom,
+}
+
+/// What a text is searched and turned in.
+#[derive(Drop)]
+pub(crate) struct Turning {
     pub(crate) scratch: Scratch,
     /// The text that a name becomes.
     pub(crate) out: Bytes,
-    /// A section of an answer.
-    pub(crate) spare: RecordRoom,
 }
 
 impl RewriteRoom {
     pub fn new(alloc: Global) -> RewriteRoom {
         RewriteRoom {
-            scratch: Scratch::new(alloc),
-            out: Bytes::new(alloc),
+            text: Text::new(alloc),
+            turning: Turning {
+                scratch: Scratch::new(alloc),
+                out: Bytes::new(alloc),
+            },
             spare: RecordRoom::new(alloc),
         }
     }

@@ -1,24 +1,33 @@
 ghost use Rattle.std.specs.Prelude.{◌≡◌, ◌++◌, ◌≤◌, ◌<◌, ◌+◌, ℕ, true, length, drop, IfSome, OnOk};
 ghost use Rattle.std.specs.Char.{is_ascii_digit};
 ghost use Rattle.pattern.specs.Searches.{IsPartOf, scratch_group};
+ghost use Rattle.plugin_api.specs.{is_word};
 ghost use Rattle.rewrite_plugin.specs.Texts.{begins, ends, filled, has_part, part_at, place_at};
 ghost use Rattle.rewrite_plugin.specs.Texts.{place_behind, replaced, spanned, two_digits};
 
 use dns_data::{Bytes, NoMemory};
+use equal_bytes::are_equal;
 use pattern::Scratch;
+
+/// Whether a text is another one.
+pub(crate) fn is_text(text: &[u8], other: &[u8]) -> bool
+    ensures { result ≡ is_word text.now other.now }
+{
+    are_equal(text, other)
+}
 
 /// Whether a text begins with another one.
 pub(crate) fn begins(front: &[u8], text: &[u8]) -> bool
     ensures { result ≡ begins front.now text.now }
 {
-    front.len() <= text.len() && &text[..front.len()] == front
+    front.len() <= text.len() && is_text(&text[..front.len()], front)
 }
 
 /// Whether a text ends with another one.
 pub(crate) fn ends(end: &[u8], text: &[u8]) -> bool
     ensures { result ≡ ends end.now text.now }
 {
-    end.len() <= text.len() && &text[text.len() - end.len()..] == end
+    end.len() <= text.len() && is_text(&text[text.len() - end.len()..], end)
 }
 
 /// Whether another text stands in a text.

@@ -1,4 +1,3 @@
-mod Before
 mod Cutting
 mod Judged
 mod Saying

@@ -5,6 +5,7 @@ use Rattle.dns_data.specs.{addr_text, name_text}
 use Rattle.dns_data.specs.Message.{AnswerData, no_answer}
 use Rattle.dns_data.specs.declared.directive.Line.{Line}
 use Rattle.dns_data.specs.declared.query.Query.{Query}
+use Rattle.option_words.specs.{fallthrough_of}
 use Rattle.pattern.specs.Searches.{IsPartOf, scratch_group}
 use Rattle.pattern.specs.Texts.{Finding, whole_span}
 use Rattle.pattern.specs.declared.scratch.Scratch.{Scratch}
@@ -19,7 +20,7 @@ use Rattle.template_plugin.specs.Judging.{AreOf}
 use Rattle.template_plugin.specs.Parts.{FillingData, numbers_of, sections_of}
 use Rattle.template_plugin.specs.Template.{Said, first_found, found_by, found_said, longest_zone}
 use Rattle.template_plugin.specs.Template.{next, no_match, not_record, reply, searched}
-use Rattle.template_plugin.specs.Words.{fallthrough_of, kind_of, patterns_of, plan_zones, rcode_of}
+use Rattle.template_plugin.specs.Words.{kind_of, patterns_of, plan_zones, rcode_of}
 
 -- the parts of a plan
 pub record PlanParts : Type 0 where

@@ -5,6 +5,7 @@ use Rattle.std.specs.Prelude.{ℕ, ◌+◌, Bool, true, false, ◌||◌, List, [
 use Rattle.std.specs.Prelude.{codes, Option, Some, None, is_some, if◌then◌else◌}
 use Rattle.std.specs.Option.{option_or}
 use Rattle.dns_data.specs.declared.directive.Line.{Line}
+use Rattle.option_words.specs.{empty_why, fallthrough_why, once, unless}
 use Rattle.pattern_judging.specs.{Judgement, pattern_fault}
 use Rattle.plugin_api.specs.{PlanData, fault_at, is_word}
 use Rattle.plugin_api.specs.declared.fault.DirectiveFault.{DirectiveFault}
@@ -18,16 +19,6 @@ use Rattle.template_plugin.specs.declared.options.Opens.{Opens}
 use Rattle.template_plugin.specs.declared.options.Opens.TheVariants as opens
 use Rattle.template_plugin.specs.declared.options.Seen.{Seen}
 use Rattle.template_plugin.specs.Pieces.{pieces_of}
-use Rattle.template_plugin.specs.Words.{every_zone}
-
--- a fault, unless the word is good
-abbrev pub unless : Bool → DirectiveWhy → Option DirectiveWhy
-unless good why = if good then None else Some why
-
--- no word may stand
-abbrev pub empty_why : List (List ℕ) → Option DirectiveWhy
-empty_why [] = None
-empty_why (word ∷ words) = Some why.Args
 
 abbrev pub class_why : List ℕ → Option DirectiveWhy
 class_why word = unless (is_word word (codes "IN") || is_word word (codes "ANY")) why.Option
@@ -64,13 +55,6 @@ abbrev pub rcode_why : List (List ℕ) → Option DirectiveWhy
 rcode_why [] = Some why.Args
 rcode_why (word ∷ words) =
     option_or (unless (is_some (rcode_of_text word)) why.Option) (empty_why words)
-
-abbrev pub fallthrough_why : List (List ℕ) → Option DirectiveWhy
-fallthrough_why words = unless (is_some (zones_or every_zone words)) why.Zone
-
--- an option stands once
-abbrev pub once : Bool → Option DirectiveWhy → Option DirectiveWhy
-once seen other = if seen then Some why.Args else other
 
 -- what a line without patterns is by its first word
 abbrev pub opened : List ℕ → Opens

@@ -10,6 +10,7 @@ use Rattle.dns_data.specs.{RecordData, addr_text, is_within, lowered, name_text}
 use Rattle.dns_data.specs.Message.{AnswerData}
 use Rattle.dns_data.specs.declared.kind.TheConstants as kinds
 use Rattle.dns_data.specs.declared.query.Query.{Query}
+use Rattle.option_words.specs.{fallthrough_of}
 use Rattle.pattern.specs.Texts.{Finding, finding_of, whole_text}
 use Rattle.plugin_api.specs.{PlanData}
 use Rattle.record_text.specs.{record_spelt}
@@ -19,7 +20,7 @@ use Rattle.template_plugin.specs.declared.piece.Piece.{Piece}
 use Rattle.template_plugin.specs.declared.piece.Piece.TheVariants as piece
 use Rattle.template_plugin.specs.declared.piece.Place.{Place}
 use Rattle.template_plugin.specs.declared.piece.Place.TheVariants as place
-use Rattle.template_plugin.specs.Words.{fallthrough_of, kind_of, patterns_of, plan_zones, rcode_of}
+use Rattle.template_plugin.specs.Words.{kind_of, patterns_of, plan_zones, rcode_of}
 use Rattle.template_plugin.specs.Words.{text_pieces, texts_of}
 
 -- the text of a name that patterns search, and `.Name` stands for: in small letters

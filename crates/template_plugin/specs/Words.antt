@@ -2,7 +2,6 @@
 -- This server's own rule, in the manner of CoreDNS.
 use Rattle.std.specs.Prelude.{ℕ, List, [], ◌∷◌, ◌++◌, codes, Option, Some, None}
 use Rattle.std.specs.Prelude.{unwrap_or, if◌then◌else◌}
-use Rattle.std.specs.Option.{option_or}
 use Rattle.dns_data.specs.declared.directive.Line.{Line}
 use Rattle.dns_data.specs.declared.kind.TheConstants as kinds
 use Rattle.dns_data.specs.declared.rcode.TheConstants as rcodes
@@ -37,9 +36,9 @@ words_after option [] = []
 words_after option (word ∷ words) = if is_word word option then words else []
 
 -- the words of all lines that begin with an option, in the order of the text
-abbrev pub option_words : List ℕ → List Line → List (List ℕ)
-option_words option [] = []
-option_words option (line ∷ lines) = words_after option line.words ++ option_words option lines
+abbrev pub all_words : List ℕ → List Line → List (List ℕ)
+all_words option [] = []
+all_words option (line ∷ lines) = words_after option line.words ++ all_words option lines
 
 -- the patterns of a line
 abbrev pub line_patterns : List (List ℕ) → List (List ℕ)
@@ -47,11 +46,11 @@ line_patterns words = words_after (codes "match") words
 
 -- the patterns of a body
 abbrev pub patterns_of : List Line → List (List ℕ)
-patterns_of lines = option_words (codes "match") lines
+patterns_of lines = all_words (codes "match") lines
 
 -- the texts of a section
 abbrev pub texts_of : List ℕ → List Line → List (List ℕ)
-texts_of section lines = option_words section lines
+texts_of section lines = all_words section lines
 
 abbrev pub named_rcode : List ℕ → ℕ
 named_rcode word = unwrap_or (rcode_of_text word) rcodes.NOERROR
@@ -62,30 +61,7 @@ rcode_by (word ∷ words) = named_rcode word
 
 -- the RCODE of an answer
 abbrev pub rcode_of : List Line → ℕ
-rcode_of lines = rcode_by (option_words (codes "rcode") lines)
-
--- the words behind `fallthrough`, where it stands
-abbrev pub fallthrough_in : List (List ℕ) → Option (List (List ℕ))
-fallthrough_in [] = None
-fallthrough_in (word ∷ words) = if is_word word (codes "fallthrough") then Some words else None
-
-abbrev pub fallthrough_words : List Line → Option (List (List ℕ))
-fallthrough_words [] = None
-fallthrough_words (line ∷ lines) =
-    option_or (fallthrough_in line.words) (fallthrough_words lines)
-
--- the root alone, in which every name is
-abbrev pub every_zone : List (List (List ℕ))
-every_zone = [] ∷ []
-
-abbrev pub fallthrough_by : Option (List (List ℕ)) → List (List (List ℕ))
-fallthrough_by None = []
-fallthrough_by (Some words) = unwrap_or (zones_or every_zone words) []
-
--- the zones in which a name that nothing matches goes on: none without `fallthrough`, all where
--- that names none
-abbrev pub fallthrough_of : List Line → List (List (List ℕ))
-fallthrough_of lines = fallthrough_by (fallthrough_words lines)
+rcode_of lines = rcode_by (all_words (codes "rcode") lines)
 
 -- the pieces of a text of a directive that was read
 abbrev pub text_pieces : List ℕ → List Piece

@@ -5,7 +5,7 @@ ghost use Rattle.regex.specs.Strings.{regex_names};
 ghost use Rattle.template_plugin.specs.Parts.{compiled, compiled_place, compiled_text};
 ghost use Rattle.template_plugin.specs.Parts.{compiled_texts, named_part, numbers_of, sections_of};
 ghost use Rattle.template_plugin.specs.Made.{pattern_sections};
-ghost use Rattle.template_plugin.specs.Words.{option_words};
+ghost use Rattle.template_plugin.specs.Words.{all_words};
 
 use crate::part::{Part, Sections};
 use crate::piece::{Piece, Place};
@@ -58,7 +58,7 @@ fn section_of(
 ) -> Result<Seq<Seq<Part>>, NoMemory>
     ensures { IfOk result (λ texts. texts
         ≡ compiled_texts (numbers_of (option_map (λ p. p.now) pattern.entry))
-        (option_words section.now lines.now)) }
+        (all_words section.now lines.now)) }
 {
     let mut texts = Seq::new(alloc);
     let mut rest = lines;

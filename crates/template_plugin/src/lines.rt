@@ -5,8 +5,9 @@ ghost use Rattle.template_plugin.specs.Judging.{match_task, words_task};
 ghost use Rattle.template_plugin.specs.Reading.{behind_line, option_why};
 
 use crate::options::{Earlier, Opens, Seen, is_match, opened, seen_with};
-use crate::reading::{fallthrough_why, once, rcode_why, text_why};
+use crate::reading::{rcode_why, text_why};
 use dns_data::{Limit, Line, NoMemory, Seq, Text, limit};
+use option_words::{fallthrough_why, once};
 use outside::{Made, PatternMaker};
 use pattern::Pattern;
 use plugin_api::{DirectiveFault, DirectiveWhy};

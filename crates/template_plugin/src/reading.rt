@@ -1,11 +1,11 @@
 ghost use Rattle.std.specs.Prelude.{◌≡◌, ◌||◌, codes, IfOk};
-ghost use Rattle.template_plugin.specs.Reading.{class_why, empty_why, fallthrough_why, kind_why};
-ghost use Rattle.template_plugin.specs.Reading.{once, rcode_why, text_why, words_why};
+ghost use Rattle.template_plugin.specs.Reading.{class_why, kind_why, rcode_why, text_why};
+ghost use Rattle.template_plugin.specs.Reading.{words_why};
 ghost use Rattle.plugin_api.specs.{is_word};
 
 use crate::piece_read::read_pieces;
-use crate::words::every_zone;
 use dns_data::{Names, NoMemory, Text};
+use option_words::empty_why;
 use plugin_api::DirectiveWhy;
 use std::alloc::Global;
 use type_names::{read_kind, read_rcode};
@@ -67,15 +67,6 @@ pub(crate) fn text_why(alloc: Global, words: &[Text]) -> Result<Option<Directive
     Ok(empty_why(rest))
 }
 
-fn empty_why(words: &[Text]) -> Option<DirectiveWhy>
-    ensures { result ≡ empty_why words.now }
-{
-    if words.is_empty() {
-        return None;
-    }
-    Some(DirectiveWhy::Args)
-}
-
 pub(crate) fn rcode_why(words: &[Text]) -> Option<DirectiveWhy>
     ensures { result ≡ rcode_why words.now }
 {
@@ -86,26 +77,4 @@ pub(crate) fn rcode_why(words: &[Text]) -> Option<DirectiveWhy>
         return Some(DirectiveWhy::Option);
     }
     empty_why(rest)
-}
-
-pub(crate) fn fallthrough_why(
-    alloc: Global,
-    words: &[Text],
-) -> Result<Option<DirectiveWhy>, NoMemory>
-    ensures { IfOk result (λ why. why ≡ fallthrough_why words.now) }
-{
-    match read_zones(alloc, &every_zone(alloc)?, words)? {
-        Some(_) => Ok(None),
-        None => Ok(Some(DirectiveWhy::Zone)),
-    }
-}
-
-/// Of an option that may stand once.
-pub(crate) fn once(seen: bool, why: Option<DirectiveWhy>) -> Option<DirectiveWhy>
-    ensures { result ≡ once seen why }
-{
-    if seen {
-        return Some(DirectiveWhy::Args);
-    }
-    why
 }

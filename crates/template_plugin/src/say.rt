@@ -9,7 +9,7 @@ use crate::answering::answer;
 use crate::filling::Filling;
 use crate::plan::TemplatePlan;
 use crate::searching::find_first;
-use dns_data::{Bytes, NoMemory, Query, Slot};
+use dns_data::{Bytes, NoMemory, Query, Slot, Text};
 use pattern::Scratch;
 use std::alloc::Global;
 use zone_words::is_in;
@@ -28,6 +28,9 @@ pub enum TemplateSay {
 #[derive(Drop)]
 pub struct TemplateRoom {
     scratch: Scratch,
+    /// The text of the query's name.
+    name: Text,
+    /// That of a record.
     text: Bytes,
 }
 
@@ -36,6 +39,7 @@ impl TemplateRoom {
     pub fn new(alloc: Global) -> TemplateRoom {
         TemplateRoom {
             scratch: Scratch::new(alloc),
+            name: Text::new(alloc),
             text: Bytes::new(alloc),
         }
     }
@@ -79,24 +83,19 @@ impl TemplatePlan {
         requires clear { slot.old ≡ no_answer }
         ensures { IfOk result (λ say. Says say (own_say self.now query.now) slot.new) }
     {
-        let name = query.name.lower(alloc)?.text(alloc)?;
+        query.name.write_lower(alloc, &mut room.name)?;
+        let name = room.name.as_str();
+        let (scratch, text) = (&mut room.scratch, &mut room.text);
         if 0 < self.patterns.len() {
-            return self.say_by_pattern(alloc, query, name.as_str(), room, slot);
+            return self.say_by_pattern(alloc, query, name, scratch, text, slot);
         }
         let filling = Filling {
             query,
             zones: &self.zones,
-            name: name.as_str(),
+            name,
             groups: None,
         };
-        answer(
-            alloc,
-            &self.whole,
-            &filling,
-            self.rcode,
-            &mut room.text,
-            slot,
-        )
+        answer(alloc, &self.whole, &filling, self.rcode, text, slot)
     }
 
     // What it says by the first of its patterns that is found in the name's text.
@@ -105,7 +104,8 @@ impl TemplatePlan {
         alloc: Global,
         query: &Query,
         name: &str,
-        room: &mut TemplateRoom,
+        scratch: &mut Scratch,
+        text: &mut Bytes,
         slot: &mut Slot,
     ) -> Result<TemplateSay, NoMemory>
         requires name { name.now ≡ searched query.now.name }
@@ -113,17 +113,17 @@ impl TemplatePlan {
         ensures { IfOk result (λ say. Says say (found_said self.now query.now next
             (first_found (patterns_of self.now.directive.body) name.now)) slot.new) }
     {
-        let Some(number) = find_first(self.patterns.as_slice(), name, &mut room.scratch)? else {
+        let Some(number) = find_first(self.patterns.as_slice(), name, scratch)? else {
             return Ok(self.unmatched(query));
         };
         let filling = Filling {
             query,
             zones: &self.zones,
             name,
-            groups: Some(&room.scratch),
+            groups: Some(scratch),
         };
         let sections = self.sections.at(number);
-        answer(alloc, sections, &filling, self.rcode, &mut room.text, slot)
+        answer(alloc, sections, &filling, self.rcode, text, slot)
     }
 
     // What it says of a name that nothing matches.

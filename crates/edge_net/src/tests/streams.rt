@@ -1,10 +1,11 @@
-use crate::{Arrival, Bounds, TcpEnd, open_tcp};
+use crate::{Arrival, TcpEnd, open_tcp};
 use dns_data::Bytes;
 use std::io::{Read, Write};
 use std::net::{Ipv4Addr, SocketAddr, TcpStream};
 use std::test::Fail;
 use std::thread;
 use std::time::Duration;
+use stream_connection::Bounds;
 
 // A query for the address of example.org, of 29 bytes, as a stream carries it.
 const STREAM: [u8; 31] = *b"\x00\x1d\x12\x34\x01\x00\x00\x01\x00\x00\x00\x00\x00\x00\

@@ -2,7 +2,7 @@ use Rattle.std.proofs.Common.{rules, tests}
 use Rattle.std.proofs.lemmas.Iterator.{YieldsList-from_slice}
 use Rattle.std.proofs.lemmas.Iterator.Search.{position_from_yields_List}
 use Rattle.corefile_words.specs.Variables.{is_other}
-use Rattle.corefile_words.proofs.Before.{size_before, before-le}
+use Rattle.corefile_words.specs.LinesLaws.{size_before, before-le}
 use Rattle.corefile_words.proofs.variable.name_size.Goals as goal
 
 pub returns-clause-value : goal.returns-clause-value

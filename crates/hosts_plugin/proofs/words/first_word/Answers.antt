@@ -1,6 +1,6 @@
 use Rattle.std.proofs.Common.{◌∷◌, ◌∙◌, ap, sym, take, drop}
 use Rattle.hosts_plugin.specs.Listings.{is_blank, words_in}
-use Rattle.hosts_plugin.proofs.Before.{take_before}
+use Rattle.corefile_words.specs.LinesLaws.{take_before}
 use Rattle.hosts_plugin.proofs.Cuts.{words_first}
 use Rattle.hosts_plugin.proofs.words.first_word.Goals as goal
 

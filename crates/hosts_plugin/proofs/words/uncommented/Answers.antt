@@ -1,6 +1,6 @@
 use Rattle.std.proofs.Common.{◌∙◌, ap, take}
 use Rattle.hosts_plugin.specs.Listings.{is_hash}
-use Rattle.hosts_plugin.proofs.Before.{take_before}
+use Rattle.corefile_words.specs.LinesLaws.{take_before}
 use Rattle.hosts_plugin.proofs.words.uncommented.Goals as goal
 
 pub returns : goal.returns

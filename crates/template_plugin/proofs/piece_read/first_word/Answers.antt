@@ -1,6 +1,6 @@
 use Rattle.std.proofs.Common.{◌∙◌, ap, take}
 use Rattle.template_plugin.specs.Pieces.{is_space}
-use Rattle.template_plugin.proofs.Before.{take_before}
+use Rattle.corefile_words.specs.LinesLaws.{take_before}
 use Rattle.template_plugin.proofs.piece_read.first_word.Goals as goal
 
 pub returns-clause-word : goal.returns-clause-word

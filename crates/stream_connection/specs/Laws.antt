@@ -3,7 +3,7 @@
 use Rattle.std.proofs.Common.{◌≡◌, ℕ, List, [], ◌∷◌, ◌++◌, append_assoc, sym, ap, ◌∙◌}
 use Rattle.std.proofs.lemmas.List.{append-nil}
 use Rattle.stream_wire.specs.{framed}
-use Rattle.edge_net.specs.Connections.{ConnectionData, with_more, GivesMessage}
+use Rattle.stream_connection.specs.Connections.{ConnectionData, with_more, GivesMessage}
 
 -- what happened to a connection
 pub data Event : Type 0 where

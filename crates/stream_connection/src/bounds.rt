@@ -1,5 +1,5 @@
 ghost use Rattle.std.specs.Prelude.{◌≡◌, ◌<◌, ◌↔◌, IsTrue};
-ghost use Rattle.edge_net.specs.Bounds.{idle_for, is_past, usual_bounds};
+ghost use Rattle.stream_connection.specs.Bounds.{idle_for, is_past, usual_bounds};
 
 /// What a side allows its connections. Times are in milliseconds.
 #[derive(Clone, Copy, Debug, PartialEq, Eq)]

@@ -3,12 +3,12 @@
 -- in a stream by stream_wire's definitions (RFC 1035, section 4.2.2). This server's own rule.
 use Rattle.std.specs.Prelude.{◌≡◌, ◌≤◌, ◌<◌, ◌+◌, ℕ, List, [], ◌∷◌, ◌++◌, length, drop, Bool, true, false, ◌||◌, Option, Some, None}
 use Rattle.stream_wire.specs.{framed, IsPart}
-use Rattle.edge_net.specs.declared.bounds.Bounds.{Bounds}
-use Rattle.edge_net.specs.Bounds.{idle_for, is_past}
-use Rattle.edge_net.specs.declared.connection.Next.{Next}
-use Rattle.edge_net.specs.declared.connection.Next.TheVariants as next
-use Rattle.edge_net.specs.declared.connection.Replied.{Replied}
-use Rattle.edge_net.specs.declared.connection.Replied.TheVariants as replied
+use Rattle.stream_connection.specs.declared.bounds.Bounds.{Bounds}
+use Rattle.stream_connection.specs.Bounds.{idle_for, is_past}
+use Rattle.stream_connection.specs.declared.connection.Next.{Next}
+use Rattle.stream_connection.specs.declared.connection.Next.TheVariants as next
+use Rattle.stream_connection.specs.declared.connection.Replied.{Replied}
+use Rattle.stream_connection.specs.declared.connection.Replied.TheVariants as replied
 
 -- the bytes that came behind the last message that was given, and those that wait to go out; when
 -- it was opened or gave a message, and since when a message is here in part

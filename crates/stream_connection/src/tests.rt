@@ -1,4 +1,4 @@
-use crate::{Bounds, Connection, Next, Replied, longer};
+use crate::{Bounds, Connection, Next, Replied};
 use dns_data::Bytes;
 use std::alloc::Global;
 use std::test::Fail;
@@ -74,15 +74,5 @@ fn a_connection_is_late_by_its_bounds(rt: HostRuntime) -> Result<(), Fail> {
     let mut message = Bytes::new(rt.alloc());
     assert_eq!(rt; connection.next(&mut message, 1_090), Next::Message);
     assert!(rt; !connection.is_late(&TIMES, 1, 1_120));
-    Ok(())
-}
-
-#[test]
-fn pauses_grow_up_to_a_tenth_of_a_second(rt: HostRuntime) -> Result<(), Fail> {
-    let mut pause = 0;
-    for want in [1, 2, 4, 8, 16, 32, 64, 100, 100] {
-        pause = longer(pause);
-        assert_eq!(rt; pause, want);
-    }
     Ok(())
 }

@@ -1,7 +1,7 @@
 -- What a side allows its connections (RFC 7766, sections 6.2.2 and 6.2.3). Times are in
 -- milliseconds. The numbers are this server's own.
 use Rattle.std.specs.Prelude.{ℕ, ◌-◌, ◌/◌, Bool, nat_lt, if◌then◌else◌}
-use Rattle.edge_net.specs.declared.bounds.Bounds.{Bounds}
+use Rattle.stream_connection.specs.declared.bounds.Bounds.{Bounds}
 
 -- what the program allows
 abbrev pub usual_bounds : Bounds

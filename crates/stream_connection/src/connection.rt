@@ -1,8 +1,8 @@
 ghost use Rattle.std.specs.Prelude.{◌≡◌, ◌≤◌, ◌++◌, length, OnOk, OnErr};
 ghost use Rattle.stream_wire.specs.{framed};
 ghost use Rattle.dns_data.specs.declared.limit.TheConstants as limits;
-ghost use Rattle.edge_net.specs.Connections.{new_connection, with_more, without, is_late};
-ghost use Rattle.edge_net.specs.Connections.{part_since, GivesNext, TakesReply, HasMessage};
+ghost use Rattle.stream_connection.specs.Connections.{new_connection, with_more, without, is_late};
+ghost use Rattle.stream_connection.specs.Connections.{part_since, GivesNext, TakesReply, HasMessage};
 
 use crate::backlog::Backlog;
 use crate::bounds::{Bounds, is_past};
@@ -40,7 +40,7 @@ pub struct Connection {
 }
 
 impl Model for Connection {
-    ghost use Rattle.edge_net.specs.Connections.{ConnectionData};
+    ghost use Rattle.stream_connection.specs.Connections.{ConnectionData};
 
     ghost Value = { ConnectionData };
 

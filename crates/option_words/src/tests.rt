@@ -1,0 +1,56 @@
+use super::*;
+use dns_data::{Line, Lines, NoMemory, Seq, Text, Texts};
+use plugin_api::DirectiveWhy;
+use std::alloc::Global;
+use std::test::Fail;
+
+#[test]
+fn falls_through_for_the_zones_of_the_first_line(rt: HostRuntime) -> Result<(), Fail> {
+    for (body, count) in [
+        ("ttl 5", 0),
+        ("fallthrough", 1),
+        ("ttl 5;fallthrough example. 10.0.0.0/8;fallthrough", 2),
+    ] {
+        let zones = fallthrough_of(rt.alloc(), lines(rt.alloc(), body)?.as_slice())?;
+        assert_eq!(rt; zones.len(), count, "{body}");
+    }
+    Ok(())
+}
+
+#[test]
+fn refuses_words_that_name_no_zone(rt: HostRuntime) -> Result<(), Fail> {
+    for (text, why) in [
+        ("", None),
+        ("example. 10.0.0.0/8", None),
+        ("example. 10.0.0.0/7", Some(DirectiveWhy::Zone)),
+    ] {
+        let words = words(rt.alloc(), text)?;
+        assert_eq!(rt;
+            fallthrough_why(rt.alloc(), words.as_slice())?,
+            why,
+            "{text}"
+        );
+    }
+    Ok(())
+}
+
+fn lines(alloc: Global, body: &str) -> Result<Lines, NoMemory> {
+    let mut lines: Lines = Seq::new(alloc);
+    for text in body.split(';') {
+        lines.push(Line {
+            words: words(alloc, text)?,
+            number: 1,
+        })?;
+    }
+    Ok(lines)
+}
+
+fn words(alloc: Global, text: &str) -> Result<Texts, NoMemory> {
+    let mut words = Seq::new(alloc);
+    for word in text.split(' ') {
+        if !word.is_empty() {
+            words.push(Text::from_str(alloc, word)?)?;
+        }
+    }
+    Ok(words)
+}

@@ -44,6 +44,13 @@ module _ (front : List FrontStep) (ds : List Directive) (back : List BackAnswere
   runs (inr (inl h)) = runs_some (omega (arith, rules_length ds h.1, whole_length front ds back))
   runs (inr (inr h)) = runs_some (omega (arith, h.2, whole_length front ds back))
 
+-- with nothing in front it means what stands behind a cache
+pub runs_uncached : (front : List FrontStep) (ds : List Directive) (back : List BackAnswerer) (q : Query) → length front ≤ 0 → (0 < length ds) ⊎ (length ds ≤ 0 × 0 < length back) → (marks : List Mark)
+    → chain_decides (whole front ds back) q marks ≡ mean (back_steps ds back) q marks
+runs_uncached [] ds back q none (inl h) marks = runs [] ds back q (inr (inl (none, h))) marks
+runs_uncached [] ds back q none (inr h) marks = runs [] ds back q (inr (inr (none, h.0, h.1))) marks
+runs_uncached (step ∷ steps) ds back q none some marks = absurd (omega (arith, none))
+
 -- the block of a chain that was found, and that there is none where none was
 pub block_some : (files : List FileText) (o : Option Block) (steps : List Step) (q : Query) → Some steps ≡ option_map (steps_of files) o → (marks : List Mark)
     → block_decides files o q marks ≡ chain_decides steps q marks

@@ -6,6 +6,7 @@ ghost use Rattle.chain_meaning.specs.Mean.{mean, rewritten};
 ghost use Rattle.chain_build.specs.Compiled.{back_answerer, back_of, back_steps};
 ghost use Rattle.chain_build.specs.Walking.{Answered, Restored, decided, decision_of};
 
+use crate::compiling::BlockChain;
 use crate::ended::Ended;
 use crate::room::PluginRoom;
 use dns_data::{NoMemory, Query, Seq, Slot};
@@ -31,8 +32,7 @@ pub enum BackAnswerer {
 /// reply is restored. The slot is clear.
 pub fn run_behind<S: Side>(
     alloc: Global,
-    rewrites: &[RewritePlan],
-    back: &[BackAnswerer],
+    chain: &BlockChain,
     query: &Query,
     side: &mut S,
     kept: &mut Kept,
@@ -40,9 +40,10 @@ pub fn run_behind<S: Side>(
     slot: &mut Slot,
 ) -> Result<Ended, NoMemory>
     requires clear { slot.old ≡ no_answer }
-    ensures { Asks (mean (back_steps rewrites.now back.now) query.now) (decided result slot.new)
-        (S.state side.old) (S.state side.new) kept.old kept.new }
+    ensures { Asks (mean (back_steps chain.now.rewrites chain.now.back) query.now)
+        (decided result slot.new) (S.state side.old) (S.state side.new) kept.old kept.new }
 {
+    let (rewrites, back) = (chain.rewrites.as_slice(), chain.back.as_slice());
     if rewrites.len() == 0 {
         return run_back(alloc, back, query, side, kept, &mut room.template, slot);
     }

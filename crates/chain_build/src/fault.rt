@@ -10,9 +10,9 @@ pub enum CheckFault {
 
 impl From<NoMemory> for CheckFault {
     ghost use Rattle.std.specs.Prelude.{◌≡◌};
-    ghost use Rattle.chain_build.specs.declared.fault.CheckFault.TheVariants.{NoMemory as OutOfMemory};
+    ghost use Rattle.chain_build.specs.declared.fault.CheckFault.TheVariants as variants;
 
-    ghost from_gives = { λ _ fault. fault ≡ OutOfMemory };
+    ghost from_gives = { λ _ fault. fault ≡ variants.NoMemory };
 
     fn from(_: NoMemory) -> CheckFault {
         CheckFault::NoMemory

@@ -4,10 +4,11 @@ ghost use Rattle.dns_data.specs.Message.{no_answer};
 ghost use Rattle.outside.specs.Taking.{Takes};
 ghost use Rattle.acl_plugin.specs.{acl_say};
 ghost use Rattle.chain_meaning.specs.Mean.{mean, nothing};
-ghost use Rattle.chain_build.specs.Compiled.{front_answerer, whole};
+ghost use Rattle.chain_build.specs.Compiled.{back_steps, front_answerer, whole};
 ghost use Rattle.chain_build.specs.Walking.{Answered, decided};
 
-use crate::back::{BackAnswerer, run_behind};
+use crate::back::run_behind;
+use crate::compiling::BlockChain;
 use crate::ended::Ended;
 use crate::noting::{note_error, note_query};
 use crate::room::PluginRoom;
@@ -15,7 +16,6 @@ use acl_plugin::{AclPlan, AclSay, decide};
 use dns_data::{NoMemory, Query, Seq, Slot, kind, rcode};
 use outside::{Kept, Side};
 use plain_plugins::{PlainPlan, any_answer};
-use rewrite_plugin::RewritePlan;
 use std::alloc::Global;
 
 /// A plugin in front of a cache that answers or goes on.
@@ -33,39 +33,55 @@ pub enum FrontStep {
     Answers(FrontAnswerer),
 }
 
-/// Runs the steps of a chain from the first on. The slot is clear.
+/// Runs these first steps of a chain, and then what stands behind a cache in it. The slot is clear.
 pub fn run_front<S: Side>(
     alloc: Global,
     front: &[FrontStep],
-    rewrites: &[RewritePlan],
-    back: &[BackAnswerer],
+    behind: &BlockChain,
     query: &Query,
     side: &mut S,
     room: &mut PluginRoom,
     slot: &mut Slot,
 ) -> Result<Ended, NoMemory>
     requires clear { slot.old ≡ no_answer }
-    ensures { Takes (mean (whole front.now rewrites.now back.now) query.now)
+    ensures { Takes (mean (whole front.now behind.now.rewrites behind.now.back) query.now)
         (decided result slot.new) (S.state side.old) (S.state side.new) }
 {
     let Some((step, rest)) = front.split_first() else {
-        let mut kept = Kept::Off;
-        return run_behind(alloc, rewrites, back, query, side, &mut kept, room, slot);
+        return run_uncached(alloc, behind, query, side, room, slot);
     };
     match step {
         FrontStep::Errors => {
-            let ended = run_front(alloc, rest, rewrites, back, query, side, room, slot)?;
+            let ended = run_front(alloc, rest, behind, query, side, room, slot)?;
             note_error(alloc, query, ended, side)
         }
         FrontStep::Log(plan) => {
-            let ended = run_front(alloc, rest, rewrites, back, query, side, room, slot)?;
+            let ended = run_front(alloc, rest, behind, query, side, room, slot)?;
             note_query(alloc, plan, query, ended, slot, side)
         }
         FrontStep::Answers(plugin) => match answer(alloc, plugin, query, slot)? {
             Some(ended) => Ok(ended),
-            None => run_front(alloc, rest, rewrites, back, query, side, room, slot),
+            None => run_front(alloc, rest, behind, query, side, room, slot),
         },
     }
+}
+
+/// Runs what stands behind a cache in a chain that has none. The slot is clear.
+#[inline]
+pub fn run_uncached<S: Side>(
+    alloc: Global,
+    chain: &BlockChain,
+    query: &Query,
+    side: &mut S,
+    room: &mut PluginRoom,
+    slot: &mut Slot,
+) -> Result<Ended, NoMemory>
+    requires clear { slot.old ≡ no_answer }
+    ensures { Takes (mean (back_steps chain.now.rewrites chain.now.back) query.now)
+        (decided result slot.new) (S.state side.old) (S.state side.new) }
+{
+    let mut kept = Kept::Off;
+    run_behind(alloc, chain, query, side, &mut kept, room, slot)
 }
 
 // What a plugin answers. None: it goes on.

@@ -260,7 +260,7 @@ fn read_as(
 {
     match rank {
         Rank::File => read_file(alloc, zones, files, before, directive, places),
-        Rank::Hosts => read_hosts(alloc, zones, files, before, directive, places),
+        Rank::Hosts => read_hosts(alloc, zones, files, directive, places),
         Rank::Acl => match AclPlan::read(alloc, directive, zones) {
             Ok(plan) => {
                 places.acls.push(plan)?;
@@ -280,20 +280,19 @@ fn read_as(
     }
 }
 
-// Reads a directive `hosts`.
+// Reads a directive `hosts`. What stands before it is no matter.
 fn read_hosts(
     alloc: Global,
     zones: &Names,
     files: &[FileText],
-    before: &[Directive],
     directive: &Directive,
     places: &mut Places,
 ) -> Result<(), CheckFault>
     requires { All HasShortBytes files.now }
-    ensures { ReadsAs rank.Hosts (behind_in (context_in zones.now files.now) before.now places.old)
-        directive.now places.old places.new result }
+    ensures { (before : List Directive) → ReadsAs rank.Hosts
+        (behind_in (context_in zones.now files.now) before places.old) directive.now
+        places.old places.new result }
 {
-    let _before = before;
     let file = file_of(files, hosts_word(directive.args.as_slice()));
     match HostsPlan::read(alloc, directive, zones, file) {
         Ok(plan) => {

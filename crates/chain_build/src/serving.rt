@@ -19,7 +19,7 @@ use crate::asking::{
 use crate::chain::Chain;
 use crate::compiling::BlockChain;
 use crate::ended::Ended;
-use crate::front::run_front;
+use crate::front::{run_front, run_uncached};
 use crate::plans::Plans;
 use crate::room::{PluginRoom, Room};
 use chain_meaning::{Served, Silence, number};
@@ -203,7 +203,7 @@ fn chain_of<'a>(plans: &'a Plans, query: &Query) -> Option<&'a BlockChain>
     Some(plans.chains.at(number))
 }
 
-// Runs the chain of a block. One without a step refuses.
+// Runs the chain of a block, which mostly has nothing in front. One without a step refuses.
 fn run_chain<S: Side>(
     alloc: Global,
     chain: &BlockChain,
@@ -216,10 +216,12 @@ fn run_chain<S: Side>(
     ensures { Takes (chain_decides (steps_in chain.now) query.now)
         (decided result slot.new) (S.state side.old) (S.state side.new) }
 {
-    let (front, back) = (chain.front.as_slice(), chain.back.as_slice());
-    let rewrites = chain.rewrites.as_slice();
-    if 0 < front.len() || 0 < rewrites.len() || 0 < back.len() {
-        return run_front(alloc, front, rewrites, back, query, side, room, slot);
+    let front = chain.front.as_slice();
+    if 0 < front.len() {
+        return run_front(alloc, front, chain, query, side, room, slot);
+    }
+    if 0 < chain.rewrites.len() || 0 < chain.back.len() {
+        return run_uncached(alloc, chain, query, side, room, slot);
     }
     set_code(slot, rcode::REFUSED);
     Ok(Ended::Reply)

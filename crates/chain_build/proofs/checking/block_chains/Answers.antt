@@ -2,7 +2,8 @@ use Rattle.std.proofs.Common.{◌≡◌, ◌∙◌, Err, map, rules}
 use Rattle.chain_meaning.specs.Accepting.{blocks_task}
 use Rattle.chain_meaning.specs.Steps.{steps_of}
 use Rattle.chain_build.specs.Plans.{steps_in}
-use Rattle.chain_build.proofs.BlocksMaking.{blocks_carried, blocks_err, made_more}
+use Rattle.chain_meaning.specs.AcceptingLaws.{blocks_carried, blocks_made}
+use Rattle.chain_build.proofs.BlocksMaking.{blocks_err}
 use Rattle.chain_build.proofs.checking.block_chains.Goals as goal
 
 pub returns-in_err-made-clause-made : goal.returns-in_err-made-clause-made
@@ -17,7 +18,7 @@ loop-block-preserved g c =
     record {
       carried = blocks_carried c.loop-block.patterns c.in_ok-made.made.patterns c.args.files.now c.loop-block.rest.now c.in-Some.block.now c.in-Some.behind.now (blocks_task 0 c.args.files.now c.args.blocks.now)
           c.in-Some.ensures.cases.0 made.count made.well c.loop-block.invariant.carried;
-      made = made_more steps_in (steps_of c.args.files.now) c.loop-block.chains c.push.new.self c.in_ok-made.made.chain c.loop-block.rest.now c.in-Some.behind.now c.in-Some.block.now
+      made = blocks_made steps_in (steps_of c.args.files.now) c.loop-block.chains c.push.new.self c.in_ok-made.made.chain c.loop-block.rest.now c.in-Some.behind.now c.in-Some.block.now
           (map (steps_of c.args.files.now) c.args.blocks.now) c.in_ok-push.ensures.ok made.steps c.in-Some.ensures.cases.0 c.loop-block.invariant.made;
       state = c.in_ok-made.ensures.maker ∙ c.loop-block.invariant.state;
     }

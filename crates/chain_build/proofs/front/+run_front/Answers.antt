@@ -8,40 +8,40 @@ use Rattle.chain_build.proofs.front.+run_front.Goals as goal
 
 pub returns-in_err-ended-in-Errors : goal.returns-in_err-ended-in-Errors
 returns-in_err-ended-in-Errors g t c =
-    takes-as _ _ (front-errors c.in-Some.step.now c.in-Some.rest.now c.args.rewrites.now c.args.back.now c.args.query.now c.in-Some.ensures.cases.0 c.in-Errors.is)
-    (takes-fails (mean (whole c.in-Some.rest.now c.args.rewrites.now c.args.back.now) c.args.query.now) (error_noted c.args.query.now)
+    takes-as _ _ (front-errors c.in-Some.step.now c.in-Some.rest.now c.args.behind.now.rewrites c.args.behind.now.back c.args.query.now c.in-Some.ensures.cases.0 c.in-Errors.is)
+    (takes-fails (mean (whole c.in-Some.rest.now c.args.behind.now.rewrites c.args.behind.now.back) c.args.query.now) (error_noted c.args.query.now)
     (decided-err _ c.run_front.new.slot c.from_residual.ensures.0) c.in_err-ended-in-Errors.ensures (error_nothing c.args.query.now))
 
 pub returns-in_ok-ended-in-Errors : goal.returns-in_ok-ended-in-Errors
 returns-in_ok-ended-in-Errors g t c =
-    takes-as _ _ (front-errors c.in-Some.step.now c.in-Some.rest.now c.args.rewrites.now c.args.back.now c.args.query.now c.in-Some.ensures.cases.0 c.in-Errors.is)
-    (takes-then (mean (whole c.in-Some.rest.now c.args.rewrites.now c.args.back.now) c.args.query.now) (error_noted c.args.query.now) c.in_ok-ended-in-Errors.ensures (c.note_error.ensures c.run_front.new.slot))
+    takes-as _ _ (front-errors c.in-Some.step.now c.in-Some.rest.now c.args.behind.now.rewrites c.args.behind.now.back c.args.query.now c.in-Some.ensures.cases.0 c.in-Errors.is)
+    (takes-then (mean (whole c.in-Some.rest.now c.args.behind.now.rewrites c.args.behind.now.back) c.args.query.now) (error_noted c.args.query.now) c.in_ok-ended-in-Errors.ensures (c.note_error.ensures c.run_front.new.slot))
 
 pub returns-in_err-ended-in-Log : goal.returns-in_err-ended-in-Log
 returns-in_err-ended-in-Log g t c =
-    takes-as _ _ (front-log c.in-Some.step.now c.in-Some.rest.now c.in-Log.plan c.args.rewrites.now c.args.back.now c.args.query.now c.in-Some.ensures.cases.0 c.in-Log.is)
-    (takes-fails (mean (whole c.in-Some.rest.now c.args.rewrites.now c.args.back.now) c.args.query.now) (query_noted c.in-Log.plan c.args.query.now)
+    takes-as _ _ (front-log c.in-Some.step.now c.in-Some.rest.now c.in-Log.plan c.args.behind.now.rewrites c.args.behind.now.back c.args.query.now c.in-Some.ensures.cases.0 c.in-Log.is)
+    (takes-fails (mean (whole c.in-Some.rest.now c.args.behind.now.rewrites c.args.behind.now.back) c.args.query.now) (query_noted c.in-Log.plan c.args.query.now)
     (decided-err _ c.run_front-in-Log.new.slot c.from_residual-in_err-ended-in-Log.ensures.0) c.in_err-ended-in-Log.ensures (query_nothing c.in-Log.plan c.args.query.now))
 
 pub returns-in_ok-ended-in-Log : goal.returns-in_ok-ended-in-Log
 returns-in_ok-ended-in-Log g t c =
-    takes-as _ _ (front-log c.in-Some.step.now c.in-Some.rest.now c.in-Log.plan c.args.rewrites.now c.args.back.now c.args.query.now c.in-Some.ensures.cases.0 c.in-Log.is)
-    (takes-then (mean (whole c.in-Some.rest.now c.args.rewrites.now c.args.back.now) c.args.query.now) (query_noted c.in-Log.plan c.args.query.now) c.in_ok-ended-in-Log.ensures c.note_query.ensures)
+    takes-as _ _ (front-log c.in-Some.step.now c.in-Some.rest.now c.in-Log.plan c.args.behind.now.rewrites c.args.behind.now.back c.args.query.now c.in-Some.ensures.cases.0 c.in-Log.is)
+    (takes-then (mean (whole c.in-Some.rest.now c.args.behind.now.rewrites c.args.behind.now.back) c.args.query.now) (query_noted c.in-Log.plan c.args.query.now) c.in_ok-ended-in-Log.ensures c.note_query.ensures)
 
 pub returns-in_err-ended-in-Answers : goal.returns-in_err-ended-in-Answers
 returns-in_err-ended-in-Answers g t c =
-    takes-starved (mean (whole c.args.front.now c.args.rewrites.now c.args.back.now) c.args.query.now) (decided-err _ c.answer.new.slot c.from_residual-in_err-ended-in-Answers.ensures.0)
-    (mean_nothing (whole c.args.front.now c.args.rewrites.now c.args.back.now) c.args.query.now)
+    takes-starved (mean (whole c.args.front.now c.args.behind.now.rewrites c.args.behind.now.back) c.args.query.now) (decided-err _ c.answer.new.slot c.from_residual-in_err-ended-in-Answers.ensures.0)
+    (mean_nothing (whole c.args.front.now c.args.behind.now.rewrites c.args.behind.now.back) c.args.query.now)
 
 pub returns-in-Some-2 : goal.returns-in-Some-2
 returns-in-Some-2 g t c =
-    takes-as _ _ (front-answers c.in-Some.step.now c.in-Some.rest.now c.in-Answers.plugin c.args.rewrites.now c.args.back.now c.args.query.now c.in-Some.ensures.cases.0 c.in-Answers.is)
-    (takes-nothing (λ left. onward (answer_of (front_answerer c.in-Answers.plugin) c.args.query.now left) (or_rest (mean (whole c.in-Some.rest.now c.args.rewrites.now c.args.back.now)) c.args.query.now))
-    (answers (front_answerer c.in-Answers.plugin) (mean (whole c.in-Some.rest.now c.args.rewrites.now c.args.back.now)) c.args.query.now _ c.answer.new.slot c.in-Some-2.ended c.in_ok-ended-in-Answers.ensures c.in-Some-2.is))
+    takes-as _ _ (front-answers c.in-Some.step.now c.in-Some.rest.now c.in-Answers.plugin c.args.behind.now.rewrites c.args.behind.now.back c.args.query.now c.in-Some.ensures.cases.0 c.in-Answers.is)
+    (takes-nothing (λ left. onward (answer_of (front_answerer c.in-Answers.plugin) c.args.query.now left) (or_rest (mean (whole c.in-Some.rest.now c.args.behind.now.rewrites c.args.behind.now.back)) c.args.query.now))
+    (answers (front_answerer c.in-Answers.plugin) (mean (whole c.in-Some.rest.now c.args.behind.now.rewrites c.args.behind.now.back)) c.args.query.now _ c.answer.new.slot c.in-Some-2.ended c.in_ok-ended-in-Answers.ensures c.in-Some-2.is))
 
 pub returns-in-None : goal.returns-in-None
 returns-in-None g t c =
-    takes-as _ _ (front-answers c.in-Some.step.now c.in-Some.rest.now c.in-Answers.plugin c.args.rewrites.now c.args.back.now c.args.query.now c.in-Some.ensures.cases.0 c.in-Answers.is)
-    (takes-as (mean (whole c.in-Some.rest.now c.args.rewrites.now c.args.back.now) c.args.query.now) _
-    (goes (front_answerer c.in-Answers.plugin) (mean (whole c.in-Some.rest.now c.args.rewrites.now c.args.back.now)) c.args.query.now _ c.answer.new.slot c.in_ok-ended-in-Answers.ensures c.in-None.is)
+    takes-as _ _ (front-answers c.in-Some.step.now c.in-Some.rest.now c.in-Answers.plugin c.args.behind.now.rewrites c.args.behind.now.back c.args.query.now c.in-Some.ensures.cases.0 c.in-Answers.is)
+    (takes-as (mean (whole c.in-Some.rest.now c.args.behind.now.rewrites c.args.behind.now.back) c.args.query.now) _
+    (goes (front_answerer c.in-Answers.plugin) (mean (whole c.in-Some.rest.now c.args.behind.now.rewrites c.args.behind.now.back)) c.args.query.now _ c.answer.new.slot c.in_ok-ended-in-Answers.ensures c.in-None.is)
     c.run_front-in-None.ensures)

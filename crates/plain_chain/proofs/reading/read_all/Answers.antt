@@ -2,7 +2,8 @@ use Rattle.std.proofs.Common.{◌≡◌, ◌∙◌, Err, map, rules}
 use Rattle.chain_meaning.specs.Accepting.{blocks_task}
 use Rattle.chain_meaning.specs.Steps.{steps_of}
 use Rattle.plain_chain.specs.Behind.{from_errors}
-use Rattle.plain_chain.proofs.BlocksRead.{all_err, blocks_carried, read_more}
+use Rattle.chain_meaning.specs.AcceptingLaws.{blocks_carried, blocks_made}
+use Rattle.plain_chain.proofs.BlocksRead.{all_err}
 use Rattle.plain_chain.proofs.reading.read_all.Goals as goal
 
 pub returns-in_err-places-clause-read : goal.returns-in_err-places-clause-read
@@ -17,7 +18,7 @@ loop-block-preserved g c =
     record {
       carried = blocks_carried c.loop-block.patterns c.in_ok-places.places.patterns c.args.files.now c.loop-block.rest.now c.in-Some.block.now c.in-Some.behind.now (blocks_task 0 c.args.files.now c.args.blocks.now)
           c.in-Some.ensures.cases.0 read.count read.well c.loop-block.invariant.carried;
-      read = read_more from_errors (steps_of c.args.files.now) c.loop-block.all c.push.new.self c.in_ok-places.places c.loop-block.rest.now c.in-Some.behind.now c.in-Some.block.now
+      read = blocks_made from_errors (steps_of c.args.files.now) c.loop-block.all c.push.new.self c.in_ok-places.places c.loop-block.rest.now c.in-Some.behind.now c.in-Some.block.now
           (map (steps_of c.args.files.now) c.args.blocks.now) c.in_ok-push.ensures.ok read.steps c.in-Some.ensures.cases.0 c.loop-block.invariant.read;
       state = c.in_ok-places.ensures.maker ∙ c.loop-block.invariant.state;
     }

@@ -99,6 +99,7 @@ module _ {S W : Type 0} (side : S → SideState) (watch : W → WatchState) (set
         ends = subst (λ (x : ℕ × List Bundle). EndsWatch x.0 x.1 by.ending) (λ i. (port i, by.bundles_are i)) by.ends;
         count = ap (λ (l : List Bundle). length l) (sym by.bundles_are) ∙ by.count ∙ sym count;
         starved = subst (λ (n : ℕ). RoseJust (all_starved by.looks) n last.starved) is.watcher.starved by.starved;
+        refused = by.refused;
         goes = has.goes;
         scripts = scripts_are setup.most (map side opened.sides.items) (side_runs side dones) (views_of passes) leave.done;
         pinned = map (λ q. pinned_by q) (views_of passes);

@@ -26,12 +26,12 @@ use Rattle.reload_watch.specs.declared.first.FirstFault.TheVariants as fault
 use Rattle.reload_watch.specs.declared.looking.Looking.{Looking}
 use Rattle.reload_watch.specs.declared.looking.Looking.TheVariants as looking
 use Rattle.reload_watch.specs.Look.{AnswersLook, Standing}
-use Rattle.reload_watch.specs.{AreLooks, EndsWatch, IsReading, ReadsFirst, ReadsPlans, TellsLooks, bundles_of, published_by, watch_marks}
+use Rattle.reload_watch.specs.{AreLooks, EndsWatch, IsReading, ReadsFirst, ReadsPlans, RoseWithin, TellsLooks, all_refused, all_starved, bundles_of, refusals_first, published_by, refusals_by, watch_marks}
 use Rattle.reload_watch.specs.WatchTurn.{WatchTurn, IsLook, gathered, looked, published_as, starved}
 use Rattle.dns_server.specs.declared.status.Status.{Status}
 use Rattle.dns_server.specs.declared.status.Status.TheVariants as status
 use Rattle.dns_server.specs.Opening.{BeginsSides, OpensAll, OpensSome, RefusesSides, TakesSides, scripts_of, side_count, sides_of, told_sides}
-use Rattle.dns_server.specs.Report.{RunData, CauseOf, Finishes, IsEndStatus, IsFirstStatus, IsServed, Left, ReadGave, RunsBehind, RunsCommand, Supplies, WasAccepted, opened_by, stopped_run}
+use Rattle.dns_server.specs.Report.{RunData, CauseOf, Finishes, IsEndStatus, IsFirstStatus, IsServed, Left, ReadGave, RefusesNone, RunsBehind, RunsCommand, Supplies, WasAccepted, opened_by, status_refusals, stopped_run}
 use Rattle.dns_server.specs.States.{RunSetup, SideRun}
 use Rattle.dns_server.specs.WatchRun.{Tells}
 use Rattle.dns_server.proofs.Opened.{none_taken, sides_count}
@@ -65,11 +65,11 @@ gave setup old new how gives P fresh tells is =
 
 -- a run that stopped before it served, behind the opening of its watch
 pub stops_open : {setup : RunSetup} {before after : HostState} (how : Status) (watch back : WatchState) (places : List OpenedSide) (scripts : List (Option SideScriptData))
-    → back.script ≡ watch.script → Tells (Some back) (IsReading setup.source)
+    → back.script ≡ watch.script → back.refusals ≡ status_refusals how → Tells (Some back) (IsReading setup.source)
     → (places ≡ []) ⊎ ReadGave setup (stopped_run how (Some back)) (BeginsSides setup.default_port setup.workers places) → length scripts ≡ length places
     → AddsHost before after (told_sides places) → TakesSides before.supply after.supply scripts → CauseOf how setup (stopped_run how (Some back)) before.counts after.counts
     → RunsBehind setup (stopped_run how (Some back)) watch before after
-stops_open {setup} {before} {after} how watch back places scripts script opening wanted each told supply cause = record {
+stops_open {setup} {before} {after} how watch back places scripts script refused opening wanted each told supply cause = record {
   served = record {
     bundles = [];
     count = refl;
@@ -90,15 +90,16 @@ stops_open {setup} {before} {after} how watch back places scripts script opening
     sides = tt;
     held = tt;
   };
+  refused = λ none. refused;
   cause = cause;
 }
 
 -- a run that stopped before it opened a side
-pub stops : {setup : RunSetup} {before after : HostState} (how : Status) (watch back : WatchState) → back.script ≡ watch.script → Tells (Some back) (IsReading setup.source)
+pub stops : {setup : RunSetup} {before after : HostState} (how : Status) (watch back : WatchState) → back.script ≡ watch.script → back.refusals ≡ status_refusals how → Tells (Some back) (IsReading setup.source)
     → AddsHost before after no_telling → after.supply ≡ before.supply → CauseOf how setup (stopped_run how (Some back)) before.counts after.counts
     → RunsBehind setup (stopped_run how (Some back)) watch before after
-stops {setup} {before} {after} how watch back script opening told supply cause =
-    stops_open how watch back [] [] script opening (inl refl) refl told (none_taken before.supply after.supply supply) cause
+stops {setup} {before} {after} how watch back script refused opening told supply cause =
+    stops_open how watch back [] [] script refused opening (inl refl) refl told (none_taken before.supply after.supply supply) cause
 
 end_cause : (setup : RunSetup) (before after : HostCounts) (watch : Option WatchState) (sides : List SideRun) (published starving : ℕ) (how : Status) → published ≢ 0 → IsEndStatus sides starving how
     → CauseOf how setup (record { status = how; sides = sides; watch = watch; published = published; starved = starving }) before after
@@ -166,8 +167,8 @@ few_sides workers ports sides few are =
 
 -- a run that served
 pub serves : (setup : RunSetup) (before after : HostState) (how : Status) (fresh read published : WatchState) (plans : PlansData) (places : List OpenedSide) (sides : List SideState) (left : Left)
-    → IsFreshWatch fresh → read.script ≡ fresh.script → ReadsPlans setup.source setup.default_port fresh read plans → plans.ports ≢ [] → side_count setup.workers plans.ports ≤ limits.WORKERS
-    → AddsWatch read published (Published 0 ∷ []) → published.script ≡ read.script
+    → IsFreshWatch fresh → RefusesNone fresh read → ReadsPlans setup.source setup.default_port fresh read plans → plans.ports ≢ [] → side_count setup.workers plans.ports ≤ limits.WORKERS
+    → AddsWatch read published (Published 0 ∷ []) → RefusesNone read published
     → places ≡ sides_of setup.workers plans.ports → OpensAll before after places sides
     → Finishes setup plans.bundle sides published left → IsEndStatus left.sides left.starved how
     → RunsBehind setup (record { status = how; sides = left.sides; watch = Some left.watch; published = left.published; starved = left.starved }) fresh before after
@@ -184,12 +185,13 @@ serves setup before after how fresh read published plans places sides left is_fr
         accepted = (record { blocks = plans.blocks; accepted = accepted }, looks_accepted setup.source setup.default_port (plans.bundle ∷ []) by.looks by.are);
         handed = left.watch;
         watch_is = refl;
-        script = by.goes.script ∙ kept ∙ script;
+        script = by.goes.script ∙ kept.0 ∙ script.0;
         looks = by.looks;
         watched = record {
           published = refl;
           are = by.are;
           starved_is = by.starved;
+          refused = subst (λ (n : ℕ). RoseWithin (all_refused by.looks) (all_starved by.looks) n left.watch.refusals) (kept.1 ∙ script.1 ∙ is_fresh.none_refused) by.refused;
           told = tells_looks setup.source setup.default_port plans.bundle by.looks by.ending left.watch.journal reads.tells.reads reads.tells.gathers (watch_tells_since is_fresh told) by.ends;
         };
         places = places;
@@ -203,22 +205,23 @@ serves setup before after how fresh read published plans places sides left is_fr
         sides = by.tell;
         held = by.held;
       };
+      refused = λ none. absurd (some none);
       cause = end_cause setup before.counts after.counts (Some left.watch) left.sides left.published left.starved how some stands;
     }
 
 -- the first reads gave no chain
 pub first_stops : (setup : RunSetup) (old new : WatchState) (why : FirstFault) (how : Status) (host : HostState)
-    → IsFreshWatch old → new.script ≡ old.script → ReadsFirst setup.source setup.default_port old new (Err why) → IsFirstStatus why how
+    → IsFreshWatch old → new.script ≡ old.script → new.refusals ≡ refusals_first {X = PlansData} (Err why) old.refusals → ReadsFirst setup.source setup.default_port old new (Err why) → IsFirstStatus why how
     → RunsBehind setup (stopped_run how (Some new)) old host host
-first_stops setup old new (fault.Refused why) how host fresh script reads is =
-    rw is (stops (status.Refused why) old new script (opens_nothing setup.source old new reads.gives fresh reads.tells) (host-adds-nothing host) refl
+first_stops setup old new (fault.Refused why) how host fresh script refused reads is =
+    rw is (stops (status.Refused why) old new script (refused ∙ ap (λ (n : ℕ). refusals_by why n) fresh.none_refused) (opens_nothing setup.source old new reads.gives fresh reads.tells) (host-adds-nothing host) refl
     (record { published = refl; watch = λ e. absurd cc; why = gave setup old new (status.Refused why) reads.gives _ fresh reads.tells (inl reads.is) }))
-first_stops setup old new (fault.ReadFailed name) how host fresh script reads is =
+first_stops setup old new (fault.ReadFailed name) how host fresh script refused reads is =
     let rose : Rose 0 new.counts.reads = let none = ap (λ (c : WatchCounts). c.reads) fresh.no_fault in let r = reads.1 in omega (arith, none, r) in
-    rw is (stops (status.ReadFailed name) old new script (opens_nothing setup.source old new (Err (unread.ReadFailed name)) fresh reads.0) (host-adds-nothing host) refl
+    rw is (stops (status.ReadFailed name) old new script (refused ∙ fresh.none_refused) (opens_nothing setup.source old new (Err (unread.ReadFailed name)) fresh reads.0) (host-adds-nothing host) refl
     (record { published = refl; watch = λ e. absurd cc; why = (rose, gave setup old new (status.ReadFailed name) (Err (unread.ReadFailed name)) (λ gives. gives ≡ Err (unread.ReadFailed name)) fresh reads.0 refl) }))
-first_stops setup old new fault.NoMemory how host fresh script reads is =
-    rw is (stops status.NoMemory old new script (opens_nothing setup.source old new reads.gives fresh reads.tells) (host-adds-nothing host) refl tt)
+first_stops setup old new fault.NoMemory how host fresh script refused reads is =
+    rw is (stops status.NoMemory old new script (refused ∙ fresh.none_refused) (opens_nothing setup.source old new reads.gives fresh reads.tells) (host-adds-nothing host) refl tt)
 
 -- the first bundle is accepted, with these ports
 accepted_ports : (setup : RunSetup) (plans : PlansData) (P : List ℕ → Type 0) → plans.default_port ≡ setup.default_port → ArePlans plans → P plans.ports → WasAccepted setup (Ok plans.bundle) P
@@ -227,10 +230,10 @@ accepted_ports setup plans P same is holds =
 
 -- the first chain has no port, so that nothing is to be served
 pub no_port_stops : (setup : RunSetup) (old new : WatchState) (plans : PlansData) (host : HostState)
-    → IsFreshWatch old → new.script ≡ old.script → ReadsPlans setup.source setup.default_port old new plans → plans.ports ≡ []
+    → IsFreshWatch old → RefusesNone old new → ReadsPlans setup.source setup.default_port old new plans → plans.ports ≡ []
     → RunsBehind setup (stopped_run status.Ended (Some new)) old host host
 no_port_stops setup old new plans host fresh script reads none =
-    stops status.Ended old new script (opens_nothing setup.source old new (Ok plans.bundle) fresh reads.tells) (host-adds-nothing host) refl
+    stops status.Ended old new script.0 (script.1 ∙ fresh.none_refused) (opens_nothing setup.source old new (Ok plans.bundle) fresh reads.tells) (host-adds-nothing host) refl
     (record {
       sides = tt;
       none_starved = refl;
@@ -240,12 +243,16 @@ no_port_stops setup old new plans host fresh script reads none =
       };
     })
 
+-- sides are refused for their number alone
+sides_refuse_none : (ports : List ℕ) (workers : ℕ) (why : Refusal) → RefusesSides ports workers why → refusals_by why 0 ≡ 0
+sides_refuse_none ports workers why refused = rw refused.1 refl
+
 -- the sides of the first chain are refused
 pub sides_stop : (setup : RunSetup) (old new : WatchState) (plans : PlansData) (why : Refusal) (host : HostState)
-    → IsFreshWatch old → new.script ≡ old.script → ReadsPlans setup.source setup.default_port old new plans → RefusesSides plans.ports setup.workers why
+    → IsFreshWatch old → RefusesNone old new → ReadsPlans setup.source setup.default_port old new plans → RefusesSides plans.ports setup.workers why
     → RunsBehind setup (stopped_run (status.Refused why) (Some new)) old host host
 sides_stop setup old new plans why host fresh script reads refused =
-    stops (status.Refused why) old new script (opens_nothing setup.source old new (Ok plans.bundle) fresh reads.tells) (host-adds-nothing host) refl
+    stops (status.Refused why) old new script.0 (script.1 ∙ fresh.none_refused ∙ sym (sides_refuse_none plans.ports setup.workers why refused)) (opens_nothing setup.source old new (Ok plans.bundle) fresh reads.tells) (host-adds-nothing host) refl
     (record {
       published = refl;
       watch = λ e. absurd cc;
@@ -254,11 +261,11 @@ sides_stop setup old new plans why host fresh script reads refused =
 
 -- nothing could be opened, or memory ran out, behind the first reads
 pub read_stops : {setup : RunSetup} {old new : WatchState} {plans : PlansData} {before after : HostState} (how : Status)
-    → IsFreshWatch old → new.script ≡ old.script → ReadsPlans setup.source setup.default_port old new plans → AddsHost before after no_telling → after.supply ≡ before.supply
+    → IsFreshWatch old → RefusesNone old new → ReadsPlans setup.source setup.default_port old new plans → AddsHost before after no_telling → after.supply ≡ before.supply
     → CauseOf how setup (stopped_run how (Some new)) before.counts after.counts
-    → RunsBehind setup (stopped_run how (Some new)) old before after
-read_stops {setup} {old} {new} {plans} how fresh script reads told supply cause =
-    stops how old new script (opens_nothing setup.source old new (Ok plans.bundle) fresh reads.tells) told supply cause
+    → status_refusals how ≡ 0 → RunsBehind setup (stopped_run how (Some new)) old before after
+read_stops {setup} {old} {new} {plans} how fresh script reads told supply cause none =
+    stops how old new script.0 (script.1 ∙ fresh.none_refused ∙ sym none) (opens_nothing setup.source old new (Ok plans.bundle) fresh reads.tells) told supply cause
 
 -- the first sides of the bundle that was read are those of its ports
 begins : (setup : RunSetup) (old new : WatchState) (how : Status) (plans : PlansData) (places others : List OpenedSide) → IsFreshWatch old → ReadsPlans setup.source setup.default_port old new plans
@@ -283,12 +290,12 @@ begins setup old new how plans places others fresh reads some few are =
 
 -- memory ran out behind the opening of the sides
 pub opened_stops : {setup : RunSetup} {old new : WatchState} {plans : PlansData} {before after : HostState} (places others : List OpenedSide) (sides : List SideState) (how : Status)
-    → IsFreshWatch old → new.script ≡ old.script → ReadsPlans setup.source setup.default_port old new plans → plans.ports ≢ [] → side_count setup.workers plans.ports ≤ limits.WORKERS
+    → IsFreshWatch old → RefusesNone old new → ReadsPlans setup.source setup.default_port old new plans → plans.ports ≢ [] → side_count setup.workers plans.ports ≤ limits.WORKERS
     → sides_of setup.workers plans.ports ≡ places ++ others → OpensAll before after places sides
     → CauseOf how setup (stopped_run how (Some new)) before.counts after.counts
-    → RunsBehind setup (stopped_run how (Some new)) old before after
-opened_stops {setup} {old} {new} {plans} places others sides how fresh script reads some few are opens cause =
-    stops_open how old new places (scripts_of sides) script (opens_nothing setup.source old new (Ok plans.bundle) fresh reads.tells)
+    → status_refusals how ≡ 0 → RunsBehind setup (stopped_run how (Some new)) old before after
+opened_stops {setup} {old} {new} {plans} places others sides how fresh script reads some few are opens cause none =
+    stops_open how old new places (scripts_of sides) script.0 (script.1 ∙ fresh.none_refused ∙ sym none) (opens_nothing setup.source old new (Ok plans.bundle) fresh reads.tells)
     (inr (begins setup old new how plans places others fresh reads some few are)) (scripts_count sides ∙ opens.each) opens.told opens.supply cause
 
 told_same : {a b c : HostState} (places : List OpenedSide) → AddsHost a b (told_sides places) → AddsHost b c no_telling → AddsHost a c (told_sides places)
@@ -296,24 +303,24 @@ told_same {a} {c = c} places first none = subst (AddsHost a c) (λ i. record { l
 
 -- behind some sides, one failed to open
 pub fails_stops : {setup : RunSetup} {old new : WatchState} {plans : PlansData} {before after : HostState}
-    → IsFreshWatch old → new.script ≡ old.script → ReadsPlans setup.source setup.default_port old new plans → plans.ports ≢ [] → side_count setup.workers plans.ports ≤ limits.WORKERS
+    → IsFreshWatch old → RefusesNone old new → ReadsPlans setup.source setup.default_port old new plans → plans.ports ≢ [] → side_count setup.workers plans.ports ≤ limits.WORKERS
     → (some : OpensSome before after (sides_of setup.workers plans.ports) (λ mid. FailsToOpen mid after))
     → RunsBehind setup (stopped_run status.OpenFailed (Some new)) old before after
 fails_stops {setup} {old} {new} {plans} {before} {after} fresh script reads ports few some =
     let f = some.fails in
     let rose : Rose before.counts.opens after.counts.opens = subst (λ (c : HostCounts). Rose c.opens after.counts.opens) some.opens.counts (rose_failed f) in
-    stops_open status.OpenFailed old new some.places (scripts_of some.sides) script (opens_nothing setup.source old new (Ok plans.bundle) fresh reads.tells)
+    stops_open status.OpenFailed old new some.places (scripts_of some.sides) script.0 (script.1 ∙ fresh.none_refused) (opens_nothing setup.source old new (Ok plans.bundle) fresh reads.tells)
     (inr (begins setup old new status.OpenFailed plans some.places some.others fresh reads ports few some.all_are)) (scripts_count some.sides ∙ some.opens.each)
     (told_same some.places some.opens.told f.told) (subst (λ (s : Option SupplyData). TakesSides before.supply s (scripts_of some.sides)) (sym f.supply) some.opens.supply) (refl, rose)
 
 -- behind some sides, memory ran out
 pub starves_stops : {setup : RunSetup} {old new : WatchState} {plans : PlansData} {before after : HostState}
-    → IsFreshWatch old → new.script ≡ old.script → ReadsPlans setup.source setup.default_port old new plans → plans.ports ≢ [] → side_count setup.workers plans.ports ≤ limits.WORKERS
+    → IsFreshWatch old → RefusesNone old new → ReadsPlans setup.source setup.default_port old new plans → plans.ports ≢ [] → side_count setup.workers plans.ports ≤ limits.WORKERS
     → (some : OpensSome before after (sides_of setup.workers plans.ports) (λ mid. OpensNothing mid after))
     → RunsBehind setup (stopped_run status.NoMemory (Some new)) old before after
 starves_stops {setup} {old} {new} {plans} {before} {after} fresh script reads ports few some =
     let f = some.fails in
-    stops_open status.NoMemory old new some.places (scripts_of some.sides) script (opens_nothing setup.source old new (Ok plans.bundle) fresh reads.tells)
+    stops_open status.NoMemory old new some.places (scripts_of some.sides) script.0 (script.1 ∙ fresh.none_refused) (opens_nothing setup.source old new (Ok plans.bundle) fresh reads.tells)
     (inr (begins setup old new status.NoMemory plans some.places some.others fresh reads ports few some.all_are)) (scripts_count some.sides ∙ some.opens.each)
     (told_same some.places some.opens.told f.told) (subst (λ (s : Option SupplyData). TakesSides before.supply s (scripts_of some.sides)) (sym f.supply) some.opens.supply) tt
 
@@ -346,6 +353,7 @@ not_opened {setup} {before} {after} how told supply cause = record {
     sides = tt;
     held = tt;
   };
+  refused = λ none. tt;
   cause = cause;
 }
 
@@ -394,5 +402,6 @@ opened_before {setup} {run} {first} {before} {after} watch opens runs =
         sides = behind.sides;
         held = behind.held;
       };
+      refused = runs.refused;
       cause = subst (λ (c : HostCounts). CauseOf run.status setup run c after.counts) opens.counts runs.cause;
     }

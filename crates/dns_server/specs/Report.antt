@@ -10,7 +10,6 @@ use Rattle.outside.specs.Causes.{Rose, RoseBy, RoseJust, HostCounts}
 use Rattle.outside.specs.Hosts.{HostState, HostTold, IsFreshWatch, OpenedSide, SupplyData, AddsHost}
 use Rattle.outside.specs.Script.{SideScriptData, WatchScriptData}
 use Rattle.outside.specs.States.{SideState, WatchState}
-use Rattle.reload_watch.specs.{WatchGoesOn}
 use Rattle.outside.specs.WatchMarks.{AddsWatch}
 use Rattle.corefile_blocks.specs.declared.bundle.Bundle.{Bundle}
 use Rattle.dns_data.specs.declared.block.Block.{Block}
@@ -26,9 +25,8 @@ use Rattle.reload_watch.specs.declared.first.FirstFault.{FirstFault}
 use Rattle.reload_watch.specs.declared.first.FirstFault.TheVariants as fault
 use Rattle.chain_build.specs.{PlansData}
 use Rattle.reload_watch.specs.WatchTurn.{WatchTurn}
-use Rattle.reload_watch.specs.{AreLooks, EndsWatch, ReadsPlans, Refuses, all_starved}
-use Rattle.reload_watch.specs.{bundles_of}
-use Rattle.reload_watch.specs.{watch_marks}
+use Rattle.reload_watch.specs.{AreLooks, EndsWatch, ReadsPlans, Refuses, RoseWithin, WatchGoesOn}
+use Rattle.reload_watch.specs.{all_refused, all_starved, bundles_of, refusals_by, watch_marks}
 use Rattle.dns_server.specs.declared.report.Ran.{Ran}
 use Rattle.chain_meaning.specs.declared.refusal.Refusal.{Refusal}
 use Rattle.dns_server.specs.declared.status.Status.{Status}
@@ -98,6 +96,8 @@ pub record Finishes (setup : RunSetup) (first : Bundle) (sides : List SideState)
   pub ends : EndsWatch setup.default_port (bundles_of first looks) ending
   pub count : length (bundles_of first looks) ≡ left.published
   pub starved : RoseJust (all_starved looks) 0 left.starved
+  pub refused : RoseWithin (all_refused looks) (all_starved looks) watch.refusals
+      left.watch.refusals
   pub goes : WatchGoesOn watch left.watch
   pub scripts : map (λ side. side.state.script) left.sides ≡ scripts_of sides
   pub pinned : List (List ℕ)
@@ -288,21 +288,37 @@ pub record ServesBehind (setup : RunSetup) (run : RunData) (watch : WatchState)
   pub sides : TellEach setup bundles pinned run.sides
   pub held : AreHeldBehind pinned bundles looks
 
+-- how many patterns a watch refused in a run that published nothing, by its status
+abbrev pub status_refusals : Status → ℕ
+status_refusals (status.Refused why) = refusals_by why 0
+status_refusals other = 0
+
+-- where nothing was published, the watch refused so many
+abbrev pub IsRefusing : RunData → Type 0
+IsRefusing run =
+    run.published ≡ 0 → IfSome run.watch (λ w. w.refusals ≡ status_refusals run.status)
+
 pub record RunsBehind (setup : RunSetup) (run : RunData) (watch : WatchState)
     (before after : HostState) : Type 0 where
   pub served : ServesBehind setup run watch before after
+  pub refused : IsRefusing run
   pub cause : CauseOf run.status setup run before.counts after.counts
+
+-- the script is as it was, and no pattern was refused
+abbrev pub RefusesNone : WatchState → WatchState → Type 0
+RefusesNone before after = (after.script ≡ before.script) × (after.refusals ≡ before.refusals)
 
 -- a run by what a first bundle serves by, wherever its watch was opened and the bundle read
 abbrev pub RunsPlans : RunSetup → PlansData → RunData → WatchState → HostState → HostState → Type 0
 RunsPlans setup plans run watch before after =
-    (fresh : WatchState) → IsFreshWatch fresh → watch.script ≡ fresh.script
+    (fresh : WatchState) → IsFreshWatch fresh → RefusesNone fresh watch
     → ReadsPlans setup.source setup.default_port fresh watch plans
     → RunsBehind setup run fresh before after
 
 -- a run by a command
 pub record RunsCommand (setup : RunSetup) (run : RunData) (before after : HostState) : Type 0 where
   pub served : ServesBy setup run before after
+  pub refused : IsRefusing run
   pub cause : CauseOf run.status setup run before.counts after.counts
 
 -- words that are no command open nothing and tell nothing

@@ -7,7 +7,8 @@ use Rattle.outside.specs.Causes.{RoseJust}
 use Rattle.outside.specs.States.{WatchState}
 use Rattle.corefile_blocks.specs.declared.bundle.Bundle.{Bundle}
 use Rattle.reload_watch.specs.WatchTurn.{WatchTurn}
-use Rattle.reload_watch.specs.{AreLooks, IsReading, TellsLooks, all_starved, published_by}
+use Rattle.reload_watch.specs.{AreLooks, IsReading, RoseWithin, TellsLooks}
+use Rattle.reload_watch.specs.{all_refused, all_starved, published_by}
 use Rattle.dns_server.specs.States.{RunSetup}
 
 -- where the watch tells its journal, that is so
@@ -15,12 +16,13 @@ abbrev pub Tells : Option WatchState → (List WatchMark → Type 0) → Type 0
 Tells watch P = IfSome watch (λ w. IfSome w.journal P)
 
 -- the looks behind a first bundle, each by what was last published, with the bundles that they
--- published, and how often they met want of memory
+-- published, how often they met want of memory, and how many patterns the watch refused over them
 pub record LooksBehind (setup : RunSetup) (first : Bundle) (others : List Bundle)
     (looks : List WatchTurn) (watch : Option WatchState) (starved : ℕ) : Type 0 where
   pub published : others ≡ flat_map published_by looks
   pub are : AreLooks setup.source setup.default_port (first ∷ []) looks
   pub starved_is : RoseJust (all_starved looks) 0 starved
+  pub refused : IfSome watch (λ w. RoseWithin (all_refused looks) (all_starved looks) 0 w.refusals)
   pub told : Tells watch (TellsLooks setup.source setup.default_port first looks)
 
 -- the watch's run, by the list of published bundles

@@ -1,5 +1,6 @@
 pub mod Going
 pub mod Looks
 pub mod Placed
+pub mod Refusing
 pub mod Sweeping
 pub mod Watching

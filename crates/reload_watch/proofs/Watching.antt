@@ -21,12 +21,14 @@ use Rattle.reload_watch.specs.declared.looking.Looking.{Looking}
 use Rattle.reload_watch.specs.declared.looking.Looking.TheVariants as looking
 use Rattle.reload_watch.specs.Filled.{AreFilledBy, EndsWith, IsOf}
 use Rattle.reload_watch.specs.Look.{AnswersLook, standing_of, LooksOver, LooksOnce, Starves, ServesGathered, look_marks, starved_by}
+use Rattle.reload_watch.specs.Going.{CountsRefusals, RoseWithin}
 use Rattle.reload_watch.specs.Reloads.{reloads, times_of}
 use Rattle.pin_table.specs.declared.views.Sweep.{Sweep}
 use Rattle.reload_watch.specs.States.{Serving, WatcherState}
 use Rattle.reload_watch.specs.Sweeps.{KeepsSweeps, SweptFor}
-use Rattle.reload_watch.specs.WatchTurn.{WatchTurn, looked, starved, watch_marks, published_by, bundles_of, look_starved, all_starved, IsLooked, IsLook, AreLooks, IsSweptTurn, AreSwept}
+use Rattle.reload_watch.specs.WatchTurn.{WatchTurn, looked, starved, watch_marks, published_by, bundles_of, answer_refused, look_refused, look_starved, all_refused, all_starved, IsLooked, IsLook, AreLooks, IsSweptTurn, AreSwept}
 use Rattle.reload_watch.specs.Watcher.{TakesLook}
+use Rattle.reload_watch.proofs.Refusing.{all_refused-push, refused_within, starved_within, stays_within}
 
 pub bundles-push : (first : Bundle) (looks : List WatchTurn) (look : WatchTurn) → bundles_of first (looks ++ look ∷ []) ≡ bundles_of first looks ++ published_by look
 bundles-push first looks look =
@@ -121,14 +123,15 @@ pub record HasWatched (source : Source) (default_port : ℕ) (first : Bundle) (l
   pub is : ArePlans g.plans
   pub filled : AreFilledBy (bundles_of first looks) default_port g.filled
   pub starved : RoseJust (all_starved looks) was starving
+  pub refused : RoseWithin (all_refused looks) (all_starved looks) old.refusals new.refusals
 
 -- a further look
 extends : {source : Source} {p : ℕ} {first : Bundle} {looks : List WatchTurn} {a b c : WatchState} {g h : Serving} {was had has : ℕ} (look : WatchTurn) (earlier : List Bundle)
     → HasWatched source p first looks a b g was had → AddsWatch b c (watch_marks look) → IsLook source p (bundles_of first looks) look
     → length (bundles_of first looks ++ published_by look) ≡ h.published → bundles_of first looks ++ published_by look ≡ earlier ++ h.plans.bundle ∷ []
     → h.plans.default_port ≡ p → ArePlans h.plans → AreFilledBy (bundles_of first looks ++ published_by look) p h.filled → RoseJust (look_starved look) had has
-    → HasWatched source p first (looks ++ look ∷ []) a c h was has
-extends {source} {p} {first} {looks} {a} {b} {c} {g} {h} {was} {had} {has} look earlier w adds is count last port plans filled starved_in = record {
+    → RoseWithin (look_refused look) (look_starved look) b.refusals c.refusals → HasWatched source p first (looks ++ look ∷ []) a c h was has
+extends {source} {p} {first} {looks} {a} {b} {c} {g} {h} {was} {had} {has} look earlier w adds is count last port plans filled starved_in refused_in = record {
   told = subst (AddsWatch a c) (sym (watch_marks-push looks look)) (watch-adds-then w.told adds);
   are = looks-push source p (first ∷ []) looks look w.are is;
   count = ap length (bundles-push first looks look) ∙ count;
@@ -140,6 +143,10 @@ extends {source} {p} {first} {looks} {a} {b} {c} {g} {h} {was} {had} {has} look 
   starved = record {
     least = let a = w.starved.least in let b = starved_in.least in omega (arith, starved_in-push looks look, a, b);
     most = let a = w.starved.most in let b = starved_in.most in omega (arith, starved_in-push looks look, a, b);
+  };
+  refused = record {
+    least = let a = w.refused.least in let b = refused_in.least in omega (arith, all_refused-push looks look, a, b);
+    most = let a = w.refused.most in let b = refused_in.most in omega (arith, all_refused-push looks look, starved_in-push looks look, a, b);
   };
 }
 
@@ -176,9 +183,9 @@ pub record Again (source : Source) (p : ℕ) (first : Bundle) (looks : List Watc
 -- a further look behind which nothing else serves
 same_serves : {source : Source} {p : ℕ} {first : Bundle} {looks : List WatchTurn} {a b c : WatchState} {g h : Serving} {was had has : ℕ} (answer : Looking) (look : WatchTurn)
     → IsTurnOf answer look → HasWatched source p first looks a b g was had → published_by look ≡ [] → h ≡ g → AddsWatch b c (watch_marks look) → IsLook source p (bundles_of first looks) look
-    → RoseJust (look_starved look) had has
+    → RoseJust (look_starved look) had has → RoseWithin (look_refused look) (look_starved look) b.refusals c.refusals
     → Again source p first looks a c h was has answer
-same_serves {source} {p} {first} {looks} {a} {b} {c} {g} {h} {was} {had} {has} answer look of w none same adds is rose =
+same_serves {source} {p} {first} {looks} {a} {b} {c} {g} {h} {was} {had} {has} answer look of w none same adds is rose refused =
     let nothing : bundles_of first looks ++ published_by look ≡ bundles_of first looks =
     ap (λ (l : List Bundle). bundles_of first looks ++ l) none ∙ append-nil (bundles_of first looks) in
     record {
@@ -190,23 +197,23 @@ same_serves {source} {p} {first} {looks} {a} {b} {c} {g} {h} {was} {had} {has} a
           (ap (λ (x : Serving). x.plans.default_port) same ∙ w.port)
           (subst (λ (x : Serving). ArePlans x.plans) (sym same) w.is)
           (subst (λ (x : Serving). AreFilledBy (bundles_of first looks ++ published_by look) p x.filled) (sym same) (subst (λ (l : List Bundle). AreFilledBy l p g.filled) (sym nothing) w.filled))
-          rose;
+          rose refused;
     }
 
 -- a look that published nothing
 kept : {source : Source} {p : ℕ} {first : Bundle} {looks : List WatchTurn} {a b : WatchState} {g : Serving} {was had : ℕ} (answer : Looking) (mid c : WatchState) (h : Serving) (has : ℕ)
     → HasWatched source p first looks a b g was had → Waits g b mid → (over : LooksOver source g h mid c answer) → published_by (looked (times_of g.plans.blocks) over.reads over.gives answer over.flag) ≡ [] → h ≡ g → has ≡ had
-    → Again source p first looks a c h was has answer
-kept {g = g} answer mid c h has w waits over none same none_starved =
+    → RoseWithin (answer_refused answer) 0 b.refusals c.refusals → Again source p first looks a c h was has answer
+kept {g = g} answer mid c h has w waits over none same none_starved refused =
     same_serves answer (looked (times_of g.plans.blocks) over.reads over.gives answer over.flag) (λ sweeps n swept. swept) w none same (watch-adds-then waits over.told)
-    (over.gathers, looked_of over.gives answer w over.again over.answers) (record { least = omega (arith, none_starved); most = omega (arith, none_starved) })
+    (over.gathers, looked_of over.gives answer w over.again over.answers) (record { least = omega (arith, none_starved); most = omega (arith, none_starved) }) refused
 
 -- a look that published
 published_look : {source : Source} {p : ℕ} {first : Bundle} {looks : List WatchTurn} {a b : WatchState} {g : Serving} {was had : ℕ} (serial : ℕ) (mid c : WatchState) (h : Serving) (has : ℕ) (reads : List OneRead) (gives : Result Bundle GatherFault) (flag : Bool)
     → HasWatched source p first looks a b g was had → Waits g b mid → reloads g.plans.blocks ≡ true → GathersFrom source reads gives → AddsWatch mid c (look_marks reads (looking.Published serial) flag)
-    → AnswersLook (standing_of g.plans g.published) gives (looking.Published serial) → ServesGathered g h gives → has ≡ had
+    → AnswersLook (standing_of g.plans g.published) gives (looking.Published serial) → ServesGathered g h gives → has ≡ had → c.refusals ≡ b.refusals
     → Again source p first looks a c h was has (looking.Published serial)
-published_look {source} {p} {first} {looks} {a} {b} {g} {was} {had} serial mid c h has reads (Ok bundle) flag w waits again gathers told answers replaces none_starved = record {
+published_look {source} {p} {first} {looks} {a} {b} {g} {was} {had} serial mid c h has reads (Ok bundle) flag w waits again gathers told answers replaces none_starved same_refusals = record {
   look = looked (times_of g.plans.blocks) reads (Ok bundle) (looking.Published serial) flag;
   of = λ sweeps n swept. swept;
   watched = extends (looked (times_of g.plans.blocks) reads (Ok bundle) (looking.Published serial) flag) (bundles_of first looks) w (watch-adds-then waits told)
@@ -216,15 +223,15 @@ published_look {source} {p} {first} {looks} {a} {b} {g} {was} {had} serial mid c
       (replaces.port ∙ w.port) replaces.are
       (subst (AreFilledBy (bundles_of first looks ++ bundle ∷ []) p) (sym replaces.filled)
       (filled-push (bundles_of first looks) bundle p g.filled replaces.chains w.filled (of_plans h.plans bundle p replaces.chains replaces.bundle_is (replaces.port ∙ w.port) replaces.serve)))
-      (record { least = omega (arith, none_starved); most = omega (arith, none_starved) });
+      (record { least = omega (arith, none_starved); most = omega (arith, none_starved) }) (stays_within 0 b.refusals c.refusals same_refusals);
 }
-published_look serial mid c h has reads (Err fault) flag w waits again gathers told answers replaces none_starved = absurd replaces
+published_look serial mid c h has reads (Err fault) flag w waits again gathers told answers replaces none_starved same_refusals = absurd replaces
 
 -- a look that met want of memory
 starved_look : {source : Source} {p : ℕ} {first : Bundle} {looks : List WatchTurn} {a b : WatchState} {g : Serving} {was had : ℕ} (mid c : WatchState) (h : Serving) (has : ℕ)
-    → HasWatched source p first looks a b g was had → Waits g b mid → Starves source g h mid c → has ≡ raised had
+    → HasWatched source p first looks a b g was had → Waits g b mid → Starves source g h mid c → has ≡ raised had → CountsRefusals looking.NoMemory b.refusals c.refusals
     → Again source p first looks a c h was has looking.NoMemory
-starved_look {source} {p} {first} {looks} {a} {b} {g} {was} {had} mid c h has w waits starves want =
+starved_look {source} {p} {first} {looks} {a} {b} {g} {was} {had} mid c h has w waits starves want refused =
     same_serves looking.NoMemory (starved (times_of g.plans.blocks) starves.gathered.tells.reads starves.gathered.gives) (λ sweeps n swept. swept) w refl starves.same (watch-adds-then waits starves.gathered.tells.told) (
       starves.gathered.tells.gathers,
       record {
@@ -237,21 +244,21 @@ starved_look {source} {p} {first} {looks} {a} {b} {g} {was} {had} mid c h has w 
         at = refl;
         is = tt;
       },
-    ) (record { least = omega (arith, want); most = omega (arith, want) })
+    ) (record { least = omega (arith, want); most = omega (arith, want) }) (starved_within b.refusals c.refusals refused)
 
 by_answer : {source : Source} {p : ℕ} {first : Bundle} {looks : List WatchTurn} {a b : WatchState} {g : Serving} {was had : ℕ} (answer : Looking) (mid c : WatchState) (h : Serving) (has : ℕ)
     → HasWatched source p first looks a b g was had → Waits g b mid → LooksOnce source g h mid c answer → answer ≢ looking.NoReload
-    → has ≡ starved_by answer had → Again source p first looks a c h was has answer
-by_answer looking.NoReload mid c h has w waits looks made rose = absurd (made refl)
-by_answer (looking.ReadFailed name) mid c h has w waits looks made rose = kept (looking.ReadFailed name) mid c h has w waits looks refl looks.behind rose
-by_answer looking.Same mid c h has w waits looks made rose = kept looking.Same mid c h has w waits looks refl looks.behind rose
-by_answer (looking.Refused why) mid c h has w waits looks made rose = kept (looking.Refused why) mid c h has w waits looks refl looks.behind rose
-by_answer (looking.PortsDiffer ports others) mid c h has w waits looks made rose = kept (looking.PortsDiffer ports others) mid c h has w waits looks refl looks.behind rose
-by_answer looking.SerialsSpent mid c h has w waits looks made rose = kept looking.SerialsSpent mid c h has w waits looks refl looks.behind rose
-by_answer (looking.AllPinned one two three) mid c h has w waits looks made rose = kept (looking.AllPinned one two three) mid c h has w waits looks refl looks.behind rose
-by_answer (looking.Published serial) mid c h has w waits looks made rose =
-    published_look serial mid c h has looks.reads looks.gives looks.flag w waits looks.again looks.gathers looks.told looks.answers looks.behind rose
-by_answer looking.NoMemory mid c h has w waits looks made rose = starved_look mid c h has w waits looks rose
+    → has ≡ starved_by answer had → CountsRefusals answer b.refusals c.refusals → Again source p first looks a c h was has answer
+by_answer {b = b} looking.NoReload mid c h has w waits looks made rose refused = absurd (made refl)
+by_answer {b = b} (looking.ReadFailed name) mid c h has w waits looks made rose refused = kept (looking.ReadFailed name) mid c h has w waits looks refl looks.behind rose (stays_within 0 b.refusals c.refusals refused)
+by_answer {b = b} looking.Same mid c h has w waits looks made rose refused = kept looking.Same mid c h has w waits looks refl looks.behind rose (stays_within 0 b.refusals c.refusals refused)
+by_answer {b = b} (looking.Refused why) mid c h has w waits looks made rose refused = kept (looking.Refused why) mid c h has w waits looks refl looks.behind rose (refused_within why b.refusals c.refusals refused)
+by_answer {b = b} (looking.PortsDiffer ports others) mid c h has w waits looks made rose refused = kept (looking.PortsDiffer ports others) mid c h has w waits looks refl looks.behind rose (stays_within 0 b.refusals c.refusals refused)
+by_answer {b = b} looking.SerialsSpent mid c h has w waits looks made rose refused = kept looking.SerialsSpent mid c h has w waits looks refl looks.behind rose (stays_within 0 b.refusals c.refusals refused)
+by_answer {b = b} (looking.AllPinned one two three) mid c h has w waits looks made rose refused = kept (looking.AllPinned one two three) mid c h has w waits looks refl looks.behind rose (stays_within 0 b.refusals c.refusals refused)
+by_answer {b = b} (looking.Published serial) mid c h has w waits looks made rose refused =
+    published_look serial mid c h has looks.reads looks.gives looks.flag w waits looks.again looks.gathers looks.told looks.answers looks.behind rose refused
+by_answer {b = b} looking.NoMemory mid c h has w waits looks made rose refused = starved_look mid c h has w waits looks rose refused
 
 -- what a watcher did since the start
 pub record Watched (source : Source) (start now : WatcherState) : Type 0 where
@@ -262,7 +269,7 @@ pub record Watched (source : Source) (start now : WatcherState) : Type 0 where
 -- a further look, by what the watcher's step came to
 pub looks_on : (source : Source) (start before after : WatcherState) → Watched source start before → TakesLook source before after None → Watched source start after
 looks_on source start before after w again =
-    let more = by_answer again.answer again.waited after.watch after.serving after.starved w.so again.looked again.looks again.made again.starved_is in
+    let more = by_answer again.answer again.waited after.watch after.serving after.starved w.so again.looked again.looks again.made again.starved_is again.refused in
     let first = start.serving.plans.bundle in
     let here : IsSweptTurn after.sweeps (length (bundles_of first w.looks)) more.look =
     subst (λ (n : ℕ). IsSweptTurn after.sweeps n more.look) (sym w.so.count) (more.of after.sweeps before.serving.published again.swept) in
@@ -296,5 +303,6 @@ starts source start is one long ends = record {
     filled = subst (AreFilledBy (start.serving.plans.bundle ∷ []) start.serving.plans.default_port) (sym ends.last_is)
         (first_filled start.serving.plans ends.earlier ends.chains (sym (ap length ends.last_is) ∙ long) ends.serve);
     starved = record { least = omega arith; most = omega arith };
+    refused = stays_within 0 start.watch.refusals start.watch.refusals refl;
   };
 }

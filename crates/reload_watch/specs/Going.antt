@@ -1,6 +1,6 @@
 -- How a watch goes on through calls that make patterns. This server's own rule.
-use Rattle.std.specs.Prelude.{◌≡◌, ◌≤◌, ◌⊎◌, ℕ, Result, Err, if◌then◌else◌}
-use Rattle.outside.specs.Causes.{WatchNoneFell, raised}
+use Rattle.std.specs.Prelude.{◌≡◌, ◌≤◌, ◌⊎◌, ℕ, ◌+◌, Result, Err, if◌then◌else◌}
+use Rattle.outside.specs.Causes.{RoseBy, WatchNoneFell, raised}
 use Rattle.outside.specs.States.{WatchState, with_refusals}
 use Rattle.chain_meaning.specs.declared.refusal.Refusal.{Refusal}
 use Rattle.chain_build.specs.{is_of_pattern}
@@ -21,7 +21,11 @@ pub record WatchGoesOn (before after : WatchState) : Type 0 where
 abbrev pub refusals_by : Refusal → ℕ → ℕ
 refusals_by why before = if is_of_pattern why then raised before else before
 
--- the same behind the first reading
+-- 1 for the refusal of a pattern
+abbrev pub pattern_refused : Refusal → ℕ
+pattern_refused why = if is_of_pattern why then 1 else 0
+
+-- the refusals of a maker behind the first reading
 abbrev pub refusals_first : {X : Type 0} → Result X FirstFault → ℕ → ℕ
 refusals_first (Err (first.Refused why)) before = refusals_by why before
 refusals_first other before = before
@@ -37,3 +41,8 @@ abbrev pub found_behind : Found → WatchState → WatchState
 found_behind (Kept (looking.Refused why)) state =
     with_refusals state (refusals_by why state.refusals)
 found_behind other state = state
+
+-- a count rose by so many at least, or stands at its last value, and by so many more at most
+pub record RoseWithin (many more before after : ℕ) : Type 0 where
+  pub least : RoseBy many before after
+  pub most : after ≤ before + (many + more)

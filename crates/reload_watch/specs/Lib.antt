@@ -14,7 +14,8 @@ pub mod WatchRun
 pub mod WatchTurn
 -- what public clauses cite
 pub use Rattle.reload_watch.specs.Filled.{AreFilledBy, EndsWith, IsOf}
-pub use Rattle.reload_watch.specs.Going.{CountsRefusals, WatchGoesOn, refusals_first}
+pub use Rattle.reload_watch.specs.Going.{CountsRefusals, RoseWithin, WatchGoesOn}
+pub use Rattle.reload_watch.specs.Going.{refusals_by, refusals_first}
 pub use Rattle.reload_watch.specs.Keeping.{IsCleared, IsKeeping}
 pub use Rattle.reload_watch.specs.Look.{LooksOnce, SearchesFirst, starved_by}
 pub use Rattle.reload_watch.specs.Messages.{look_text}
@@ -25,5 +26,5 @@ pub use Rattle.reload_watch.specs.States.{Serving, WatcherState, serving_of, sou
 pub use Rattle.reload_watch.specs.States.{watcher_state}
 pub use Rattle.reload_watch.specs.Sweeps.{HasSwept, SweptFor, SweptThree}
 pub use Rattle.reload_watch.specs.WatchRun.{EndsWatch, StopsLooking, TellsLooks, Watches}
-pub use Rattle.reload_watch.specs.WatchTurn.{AreLooks, AreSwept, all_starved, bundles_of}
-pub use Rattle.reload_watch.specs.WatchTurn.{published_by, watch_marks}
+pub use Rattle.reload_watch.specs.WatchTurn.{AreLooks, AreSwept, all_refused, all_starved}
+pub use Rattle.reload_watch.specs.WatchTurn.{bundles_of, published_by, watch_marks}

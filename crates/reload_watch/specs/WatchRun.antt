@@ -13,9 +13,11 @@ use Rattle.chain_meaning.specs.Accepting.{IsAccepted}
 use Rattle.reload_watch.specs.declared.turns.WatchEnd.{WatchEnd}
 use Rattle.reload_watch.specs.declared.turns.WatchEnd.TheVariants as ends
 use Rattle.reload_watch.specs.Filled.{AreFilledBy}
+use Rattle.reload_watch.specs.Going.{RoseWithin}
 use Rattle.reload_watch.specs.Reloads.{reloads}
 use Rattle.reload_watch.specs.States.{WatcherState}
-use Rattle.reload_watch.specs.WatchTurn.{WatchTurn, watch_marks, bundles_of, all_starved, AreLooks, AreSwept}
+use Rattle.reload_watch.specs.WatchTurn.{WatchTurn, watch_marks, bundles_of, all_refused}
+use Rattle.reload_watch.specs.WatchTurn.{all_starved, AreLooks, AreSwept}
 
 -- the last bundle that was published is not to be looked at again
 pub record StopsLooking (default_port : ℕ) (bundles : List Bundle) : Type 0 where
@@ -47,7 +49,9 @@ pub record TellsLooks (source : Source) (default_port : ℕ) (first : Bundle)
   pub ends : EndsWatch default_port (bundles_of first looks) ending
 
 -- looks until there are no more, behind the one generation that was published: what the watch told,
--- the sweeps of each look that found no free slot, and which bundles the published chains serve
+-- the sweeps of each look that found no free slot, and which bundles the published chains serve.
+-- The watch's refusals rose by the looks that noted the refusal of a pattern at least, and at most
+-- by those that met want of memory too.
 pub record Watches (source : Source) (before after : WatcherState) (result : WatchEnd)
     : Type 0 where
   pub looks : List WatchTurn
@@ -63,3 +67,5 @@ pub record Watches (source : Source) (before after : WatcherState) (result : Wat
   pub filled : AreFilledBy bundles before.serving.plans.default_port after.serving.filled
   pub count : length bundles ≡ after.serving.published
   pub starved : RoseJust (all_starved looks) before.starved after.starved
+  pub refused : RoseWithin (all_refused looks) (all_starved looks) before.watch.refusals
+      after.watch.refusals

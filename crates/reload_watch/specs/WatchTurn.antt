@@ -15,6 +15,7 @@ use Rattle.chain_meaning.specs.Accepting.{IsAccepted}
 use Rattle.pin_table.specs.declared.views.Sweep.{Sweep}
 use Rattle.plain_plugins.specs.declared.reload.ReloadTimes.{ReloadTimes}
 use Rattle.reload_watch.specs.Look.{AnswersLook, look_marks}
+use Rattle.reload_watch.specs.Going.{pattern_refused}
 use Rattle.reload_watch.specs.Reloads.{reloads, times_of}
 use Rattle.reload_watch.specs.Sweeps.{SweptFor}
 
@@ -58,6 +59,21 @@ look_starved (starved times reads gives) = 1
 abbrev pub all_starved : List WatchTurn → ℕ
 all_starved [] = 0
 all_starved (turn ∷ turns) = look_starved turn + all_starved turns
+
+-- 1 for an answer that is the refusal of a pattern
+abbrev pub answer_refused : Looking → ℕ
+answer_refused (looking.Refused why) = pattern_refused why
+answer_refused other = 0
+
+-- the same for a turn
+abbrev pub look_refused : WatchTurn → ℕ
+look_refused (looked times reads gives answer flag) = answer_refused answer
+look_refused (starved times reads gives) = 0
+
+-- how many of the turns noted the refusal of a pattern
+abbrev pub all_refused : List WatchTurn → ℕ
+all_refused [] = 0
+all_refused (turn ∷ turns) = look_refused turn + all_refused turns
 
 -- the last bundle that was published is accepted, has these blocks, and is to be looked at again,
 -- at the times of its own

@@ -10,6 +10,7 @@ use Rattle.reload_watch.specs.declared.looking.Looking.TheVariants as looking
 use Rattle.reload_watch.specs.declared.turns.WatchEnd.{WatchEnd}
 use Rattle.reload_watch.specs.declared.turns.WatchEnd.TheVariants as ends
 use Rattle.reload_watch.specs.Look.{LooksOnce, starved_by}
+use Rattle.reload_watch.specs.Going.{CountsRefusals}
 use Rattle.reload_watch.specs.Reloads.{reloads, times_of}
 use Rattle.reload_watch.specs.States.{WatcherState}
 use Rattle.reload_watch.specs.Sweeps.{KeepsSweeps, SweptFor}
@@ -24,14 +25,16 @@ pub record LooksAgain (source : Source) (before after : WatcherState) : Type 0 w
   pub looks : LooksOnce source before.serving after.serving waited after.watch answer
   pub made : answer ≢ looking.NoReload
   pub starved_is : after.starved ≡ starved_by answer before.starved
+  pub refused : CountsRefusals answer before.watch.refusals after.watch.refusals
   pub swept : SweptFor after.sweeps before.serving.published answer
   pub sweeps : KeepsSweeps before.sweeps after.sweeps
 
--- no look was made: what serves, what was swept and what was counted stay
+-- no look was made: what serves, what was swept and what was counted and refused stay
 pub record MakesNoLook (before after : WatcherState) : Type 0 where
   pub serving : after.serving ≡ before.serving
   pub sweeps : after.sweeps ≡ before.sweeps
   pub starved : after.starved ≡ before.starved
+  pub refused : after.watch.refusals ≡ before.watch.refusals
 
 -- the watch has ended
 pub record WatchEnds (before after : WatcherState) : Type 0 where

@@ -16,7 +16,7 @@ use Rattle.dns_server.proofs.running.run_plans.Goals as goal
 
 pub returns-in_default-clause-runs : goal.returns-in_default-clause-runs
 returns-in_default-clause-runs g c = λ fresh is script reads.
-    rw c.stopped.ensures (read_stops status.NoMemory is script reads (host-adds-nothing (g.H.Host.state c.args.host.now)) refl tt)
+    rw c.stopped.ensures (read_stops status.NoMemory is script reads (host-adds-nothing (g.H.Host.state c.args.host.now)) refl tt refl)
 
 pub returns-in-Err-Failed-clause-runs : goal.returns-in-Err-Failed-clause-runs
 returns-in-Err-Failed-clause-runs g c = λ fresh is script reads.
@@ -46,7 +46,7 @@ returns-in_default-new-clause-runs g c = λ fresh is script reads.
     let all = sides_of c.args.setup.workers c.args.plans.ports in
     let same = ap (λ (l : List Place). map place_of l) c.deref.ensures.value ∙ c.in-Ok.ensures.places in
     let opens = subst (λ (l : List OpenedSide). OpensAll before after l sides) same c.in-Ok-open_places.ensures.opens in
-    rw c.stopped-in_default-new.ensures (opened_stops all [] sides status.NoMemory is script reads c.requires.ports c.requires.few (sym (append-nil all)) opens tt)
+    rw c.stopped-in_default-new.ensures (opened_stops all [] sides status.NoMemory is script reads c.requires.ports c.requires.few (sym (append-nil all)) opens tt refl)
 
 pub finish-finished-requires-clause-opened : goal.finish-finished-requires-clause-opened
 finish-finished-requires-clause-opened g c = λ κs b.
@@ -103,4 +103,4 @@ returns-clause-runs g c = λ fresh is script reads.
     let left : Left = record { sides = side_runs side c.finish-finished.result.dones.items; watch = watch c.finish-finished.result.watch; published = c.finish-finished.result.published; starved = c.finish-finished.result.starved } in
     let by : Finishes setup c.args.plans.bundle sides (watch c.saw_published.new.self) left = subst (λ (p : PlansData). Finishes setup p.bundle sides (watch c.saw_published.new.self) left) c.in-Ok.ensures.plans c.finish-finished.ensures in
     let stands : IsEndStatus left.sides left.starved c.end_status.result = subst (λ (l : List _). IsEndStatus (side_runs side l) left.starved c.end_status.result) c.as_slice.ensures.value c.end_status.ensures in
-    serves setup before after c.end_status.result fresh (watch c.args.watch) (watch c.saw_published.new.self) c.args.plans all sides left is script reads c.requires.ports c.requires.few published.told published.counts.stays.script refl opens by stands
+    serves setup before after c.end_status.result fresh (watch c.args.watch) (watch c.saw_published.new.self) c.args.plans all sides left is script reads c.requires.ports c.requires.few published.told (published.counts.stays.script, published.counts.stays.refusals) refl opens by stands

@@ -1,5 +1,6 @@
-use Rattle.std.proofs.Common.{rules}
+use Rattle.std.proofs.Common.{ℕ, subst, rules}
 use Rattle.pin_table.specs.{plan_of}
+use Rattle.reload_watch.specs.Going.{CountsRefusals}
 use Rattle.reload_watch.proofs.Sweeping.{swept_by}
 use Rattle.reload_watch.proofs.turns.take_look.Goals as goal
 
@@ -13,4 +14,5 @@ returns-in-Look-clause-takes g c = record {
   starved_is = search rules;
   swept = swept_by (plan_of c.args.watcher.now.publisher) (plan_of c.look_once.new.watcher.publisher) c.look_once.result c.requires.keeping.placed c.look_once.ensures.searches;
   sweeps = c.look_once.ensures.sweeps;
+  refused = subst (λ (n : ℕ). CountsRefusals c.look_once.result n (g.W.PatternMaker.state c.look_once.new.watcher.watch).refusals) c.look.ensures.counts.stays.refusals c.look_once.ensures.refusals;
 }

@@ -14,9 +14,9 @@ pub enum WordsFault {
 
 impl From<NoMemory> for WordsFault {
     ghost use Rattle.std.specs.Prelude.{◌≡◌};
-    ghost use Rattle.corefile_words.specs.declared.fault.WordsFault.TheVariants.{NoMemory as OutOfMemory};
+    ghost use Rattle.corefile_words.specs.declared.fault.WordsFault.TheVariants as variants;
 
-    ghost from_gives = { λ _ fault. fault ≡ OutOfMemory };
+    ghost from_gives = { λ _ fault. fault ≡ variants.NoMemory };
 
     fn from(_: NoMemory) -> WordsFault {
         WordsFault::NoMemory

@@ -16,9 +16,9 @@ pub enum FileFault {
 
 impl From<NoMemory> for FileFault {
     ghost use Rattle.std.specs.Prelude.{◌≡◌};
-    ghost use Rattle.file_plugin.specs.declared.fault.FileFault.TheVariants.{NoMemory as OutOfMemory};
+    ghost use Rattle.file_plugin.specs.declared.fault.FileFault.TheVariants as variants;
 
-    ghost from_gives = { λ _ fault. fault ≡ OutOfMemory };
+    ghost from_gives = { λ _ fault. fault ≡ variants.NoMemory };
 
     fn from(_: NoMemory) -> FileFault {
         FileFault::NoMemory

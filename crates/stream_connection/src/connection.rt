@@ -2,7 +2,8 @@ ghost use Rattle.std.specs.Prelude.{◌≡◌, ◌≤◌, ◌++◌, length, OnOk
 ghost use Rattle.stream_wire.specs.{framed};
 ghost use Rattle.dns_data.specs.declared.limit.TheConstants as limits;
 ghost use Rattle.stream_connection.specs.Connections.{new_connection, with_more, without, is_late};
-ghost use Rattle.stream_connection.specs.Connections.{part_since, GivesNext, TakesReply, HasMessage};
+ghost use Rattle.stream_connection.specs.Connections.{part_since, GivesNext, TakesReply};
+ghost use Rattle.stream_connection.specs.Connections.{HasMessage};
 
 use crate::backlog::Backlog;
 use crate::bounds::{Bounds, is_past};

@@ -2,6 +2,7 @@
 //! few (RFC 1035, section 3.1).
 #![tactic(auto)]
 
+mod buffer;
 mod bytes;
 mod memory;
 mod seq;
@@ -11,6 +12,7 @@ mod tests;
 mod text;
 mod wire;
 
+pub use buffer::Buffer;
 pub use bytes::Bytes;
 pub use memory::NoMemory;
 pub use seq::{Copies, Seq};

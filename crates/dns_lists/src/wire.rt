@@ -185,14 +185,19 @@ impl Wire {
     }
 
     /// Becomes a copy of bytes, in the room that is there.
+    #[inline]
     pub fn set(&mut self, source: &[u8]) -> Result<(), NoMemory>
         ensures ok { OnOk result (self.new ≡ source.now) }
         ensures err { OnErr result (self.new ≡ self.old) }
     {
         match &mut self.form {
             Form::Few(short) => {
-                let alloc = short.allocator();
-                self.form = Wire::from_slice(alloc, source)?.form;
+                if Short::fits(source.len()) {
+                    short.clear();
+                    short.push(source);
+                    return Ok(());
+                }
+                self.form = Form::Many(Vec::from_slice(short.allocator(), source)?);
                 Ok(())
             }
             Form::Many(long) => {

@@ -1,6 +1,1 @@
-pub mod NameWalks
-pub mod PrintedNames
-pub mod ReadNames
-pub mod ReverseWalks
-pub mod ReversedAddrs
 pub mod Rooms

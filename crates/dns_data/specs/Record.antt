@@ -2,7 +2,7 @@
 -- when one is proper.
 use Rattle.std.specs.Prelude.{◌≡◌, ℕ, ◌+◌, ◌≤◌, ◌<◌, ◌^◌, ◌==◌, ◌||◌, Bool, false, List, [], ◌∷◌, length, Some, slice_get, slice_set}
 use Rattle.std.specs.List.{AllByRecursion}
-use Rattle.dns_data.specs.Name.{IsName, wire_length}
+use Rattle.dns_names.specs.Name.{IsName, wire_length}
 use Rattle.dns_data.specs.declared.record.Rdata.{Rdata}
 use Rattle.dns_data.specs.declared.record.Rdata.TheVariants as rdata
 use Rattle.dns_data.specs.declared.class.TheConstants as classes

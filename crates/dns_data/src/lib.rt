@@ -3,24 +3,18 @@
 #![tactic(auto)]
 
 mod answer;
-mod ascii;
 mod block;
 pub mod class;
 mod directive;
 mod file;
 pub mod kind;
-mod labels;
 pub mod limit;
 mod message;
-mod name;
-mod name_read;
-mod name_text;
 pub mod opcode;
 mod query;
 pub mod rcode;
 mod record;
 mod record_set;
-mod reverse;
 mod room;
 mod slot;
 #[cfg(test)]
@@ -31,13 +25,11 @@ pub use answer::Answer;
 pub use block::{Block, BlockKey};
 pub use directive::{Directive, Line};
 pub use dns_addr::{Addr, Net};
-pub use dns_lists::{Bytes, Copies, NoMemory, Seq, Text};
+pub use dns_lists::{Buffer, Bytes, Copies, NoMemory, Seq, Text};
+pub use dns_names::{Labels, Name, NameFault};
 pub use file::FileText;
-pub use labels::Labels;
 pub use limit::Limit;
 pub use message::{Message, Opt, Question, Transport};
-pub use name::Name;
-pub use name_read::NameFault;
 pub use query::Query;
 pub use record::{Rdata, Record, Soa, is_known_type};
 pub use room::RecordRoom;

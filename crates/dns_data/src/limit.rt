@@ -1,11 +1,7 @@
 //! How long and how many: limits of the wire format, and of this server. A name in `.._END` is the
 //! first number that is too large.
 
-/// Bytes of a label (RFC 1035, section 2.3.4).
-pub const LABEL_BYTES: usize = 63;
-
-/// Bytes of a name in wire format, its zero byte among them (RFC 1035, section 2.3.4).
-pub const NAME_BYTES: usize = 255;
+pub use dns_names::limit::{LABEL_BYTES, NAME_BYTES};
 
 /// Bytes of a character-string (RFC 1035, section 3.3).
 pub const STRING_BYTES: usize = 255;

@@ -1,4 +1,9 @@
-use crate::{Addr, Copies, Name, NoMemory, Transport};
+ghost use Rattle.std.specs.Prelude.{◌≡◌, [], false};
+ghost use Rattle.dns_addr.specs.declared.addr.Addr.TheVariants as addr;
+ghost use Rattle.dns_data.specs.declared.kind.TheConstants as kinds;
+ghost use Rattle.dns_data.specs.declared.message.Transport.TheVariants as transport;
+
+use crate::{Addr, Copies, Name, NoMemory, Transport, kind};
 use std::alloc::Global;
 
 /// What a chain of plugins is asked: the question, what the client set, and from where it came.
@@ -20,6 +25,37 @@ pub struct Query {
     pub by: Transport,
     /// The port of the server at which the query came.
     pub local: u16,
+}
+
+impl Query {
+    /// A query for the root, which is there to be written over.
+    pub fn blank(alloc: Global) -> Query
+        ensures { result ≡ record {
+          name = [];
+          kind = kinds.A;
+          dnssec = false;
+          cd = false;
+          rd = false;
+          edns = false;
+          client = addr.V4 0;
+          port = 0;
+          by = transport.Udp;
+          local = 0;
+        } }
+    {
+        Query {
+            name: Name::root(alloc),
+            kind: kind::A,
+            dnssec: false,
+            cd: false,
+            rd: false,
+            edns: false,
+            client: Addr::V4(0),
+            port: 0,
+            by: Transport::Udp,
+            local: 0,
+        }
+    }
 }
 
 impl Copies for Query {

@@ -1,6 +1,6 @@
 ghost use Rattle.std.specs.Prelude.{◌≡◌, ◌^◌, ◌<◌, ◌≤◌, length};
 ghost use Rattle.std.specs.List.{AllByRecursion};
-ghost use Rattle.dns_data.specs.Name.{IsName};
+ghost use Rattle.dns_names.specs.Name.{IsName};
 ghost use Rattle.dns_data.specs.Record.{IsFormed, NumbersFit, kind_of, data_length, names_in};
 ghost use Rattle.dns_data.specs.Record.{is_known_type, strings_length};
 ghost use Rattle.dns_data.specs.declared.record.Rdata.TheVariants as rdata;

@@ -1,9 +1,9 @@
 //! Records made in the room of others.
 ghost use Rattle.std.specs.Prelude.{◌≡◌, ◌^◌, ◌<◌, ◌≤◌, ◌+◌, [], ◌∷◌, length, OnOk, OnErr, IfOk};
 ghost use Rattle.std.specs.Prelude.{IsTrue, IsFalse};
-ghost use Rattle.dns_data.specs.Name.{IsLabel, wire_length};
+ghost use Rattle.dns_names.specs.Name.{IsLabel, wire_length};
 ghost use Rattle.dns_data.specs.Record.{address_data, address_record, owned_by, service_record};
-ghost use Rattle.dns_data.specs.declared.limit.TheConstants as limits;
+ghost use Rattle.dns_names.specs.declared.limit.TheConstants as limits;
 ghost use Rattle.dns_data.specs.declared.record.Rdata.TheVariants as rdata;
 
 use crate::{Addr, Copies, Name, NoMemory, Rdata, Record, Soa, class};

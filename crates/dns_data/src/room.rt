@@ -1,9 +1,9 @@
 //! Lists of records in the room of earlier ones.
 ghost use Rattle.std.specs.Prelude.{◌≡◌, ◌^◌, ◌<◌, ◌≤◌, ◌+◌, [], ◌∷◌, ◌++◌, length, take, OnOk};
 ghost use Rattle.std.specs.Prelude.{OnErr, IfOk};
-ghost use Rattle.dns_data.specs.Name.{IsLabel, wire_length};
+ghost use Rattle.dns_names.specs.Name.{IsLabel, wire_length};
 ghost use Rattle.dns_data.specs.Record.{Changes, address_record, owned_by, service_record};
-ghost use Rattle.dns_data.specs.declared.limit.TheConstants as limits;
+ghost use Rattle.dns_names.specs.declared.limit.TheConstants as limits;
 
 use crate::{Addr, Copies, Name, NoMemory, Rdata, Record, Records, Seq, class};
 use std::alloc::Global;

@@ -4,7 +4,7 @@ use Rattle.std.specs.Prelude.{slice_get, slice_set}
 use Rattle.std.proofs.lemmas.List.{length-append, take_all, append-nil}
 use Rattle.std.proofs.lemmas.List.Elements.{filter-append}
 use Rattle.std.proofs.lemmas.Option.{slice_get_within}
-use Rattle.dns_data.specs.Name.{lowered, same_labels}
+use Rattle.dns_names.specs.Name.{lowered, same_labels}
 use Rattle.name_table.specs.Table.{IsMissing, IsNamed, IsNumberOf}
 use Rattle.plugin_api.specs.KeyLaws.{same_is}
 use Rattle.plugin_api.specs.Picking.{is_same}

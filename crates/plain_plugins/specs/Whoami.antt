@@ -2,8 +2,8 @@
 -- rule.
 use Rattle.std.specs.Prelude.{ℕ, ◌+◌, true, false, List, [], ◌∷◌, Option, Some, None, nat_lt, codes, if◌then◌else◌}
 use Rattle.dns_data.specs.declared.rcode.TheConstants as rcodes
-use Rattle.dns_data.specs.declared.limit.TheConstants as limits
-use Rattle.dns_data.specs.Name.{wire_length}
+use Rattle.dns_names.specs.declared.limit.TheConstants as limits
+use Rattle.dns_names.specs.Name.{wire_length}
 use Rattle.dns_data.specs.Record.{RecordData, address_record, service_record}
 use Rattle.dns_data.specs.Message.{AnswerData}
 use Rattle.dns_data.specs.declared.query.Query.{Query}

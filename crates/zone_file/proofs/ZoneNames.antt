@@ -4,7 +4,7 @@ use Rattle.std.proofs.lemmas.List.{length-map}
 use Rattle.std.proofs.lemmas.Bool.Decides.{same_from_decides, Decides-eqb}
 use Rattle.std.proofs.lemmas.Slice.Eq.{slice_eq-Decides}
 use Rattle.std.specs.Char.{to_ascii_lowercase}
-use Rattle.dns_data.specs.Name.{lowered, IsWithin}
+use Rattle.dns_names.specs.Name.{lowered, IsWithin}
 use Rattle.zone_file.specs.Zones.{is_name_of, is_under}
 
 length_drop : {A : Type 0} (n : ℕ) (xs : List A) → n ≤ length xs → length (drop n xs) + n ≡ length xs

@@ -5,7 +5,7 @@ use Rattle.std.specs.Prelude.{length, if◌then◌else◌}
 use Rattle.std.specs.List.{flat_map}
 use Rattle.std.specs.Int.{to_be_bytes, w16, w32, w128}
 use Rattle.std.specs.Cmp.Lexicographic.{pointwise}
-use Rattle.dns_data.specs.Name.{lowered, spelled}
+use Rattle.dns_names.specs.Name.{lowered, spelled}
 use Rattle.dns_data.specs.Record.{Field, RecordData, fields_of, kind_of}
 use Rattle.dns_data.specs.Record.{Compressed, Uncompressed, U8, U16, U32, U128, CharString}
 use Rattle.dns_data.specs.Record.{NonEmpty, CharStrings, Remainder, Unknown}

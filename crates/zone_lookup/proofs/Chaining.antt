@@ -5,7 +5,7 @@ use Rattle.std.proofs.lemmas.List.{length-map, drop_more}
 use Rattle.std.proofs.lemmas.Bool.Decides.{same_from_decides, Decides-eqb}
 use Rattle.std.proofs.lemmas.Slice.Eq.{slice_eq-Decides}
 use Rattle.std.specs.Char.{to_ascii_lowercase}
-use Rattle.dns_data.specs.Name.{lowered, IsWithin}
+use Rattle.dns_names.specs.Name.{lowered, IsWithin}
 use Rattle.dns_data.specs.Record.{RecordData}
 use Rattle.dns_data.specs.declared.zone.Zone.{Zone}
 use Rattle.zone_lookup.specs.declared.find.Find.{Find}

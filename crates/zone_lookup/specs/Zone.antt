@@ -6,11 +6,11 @@ use Rattle.std.specs.Prelude.{Bool, true, false, cond, not, ◌&&◌, Option, So
 use Rattle.std.specs.Prelude.{◌≡◌, List, [], ◌∷◌, ◌++◌, length, drop}
 use Rattle.std.specs.List.{filter, list_any}
 use Rattle.std.specs.Option.{option_or}
-use Rattle.dns_data.specs.Name.{wire_length, lowered, same_labels}
+use Rattle.dns_names.specs.Name.{wire_length, lowered, same_labels}
 use Rattle.dns_data.specs.Record.{RecordData, kind_of}
 use Rattle.dns_data.specs.declared.zone.Zone.{Zone}
 use Rattle.dns_data.specs.declared.kind.TheConstants as kinds
-use Rattle.dns_data.specs.declared.limit.TheConstants as limits
+use Rattle.dns_names.specs.declared.limit.TheConstants as limits
 
 -- two names are the same, ASCII case aside (RFC 4343)
 abbrev pub is_same : List (List ℕ) → List (List ℕ) → Bool

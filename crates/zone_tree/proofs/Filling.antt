@@ -9,7 +9,7 @@ use Rattle.std.proofs.lemmas.Bool.{cases_Bool, cond-true, cond-false}
 use Rattle.std.proofs.lemmas.Bool.Decides.{Decides-eqb, nat_tests}
 use Rattle.std.proofs.Common.{eqb-true}
 use Rattle.std.proofs.lemmas.Slice.Eq.{slice_eq-Decides}
-use Rattle.dns_data.specs.Name.{lowered, same_labels}
+use Rattle.dns_names.specs.Name.{lowered, same_labels}
 use Rattle.dns_data.specs.Record.{RecordData, kind_of}
 use Rattle.dns_data.specs.declared.zone.Zone.{Zone}
 use Rattle.name_table.specs.Table.{IsMissing, IsNamed, IsNumberOf}

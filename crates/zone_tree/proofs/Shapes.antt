@@ -11,8 +11,8 @@ use Rattle.std.proofs.lemmas.Bool.{agree_below_at, cases_Bool, cases_lt}
 use Rattle.std.proofs.lemmas.Bool.Decides.{Decides-eqb}
 use Rattle.std.proofs.lemmas.Slice.Eq.{slice_eq-Decides}
 use Rattle.std.specs.Prelude.{nat_lt}
-use Rattle.dns_data.specs.Name.{lowered, wire_length}
-use Rattle.dns_data.specs.declared.limit.TheConstants as limits
+use Rattle.dns_names.specs.Name.{lowered, wire_length}
+use Rattle.dns_names.specs.declared.limit.TheConstants as limits
 use Rattle.dns_data.specs.Record.{RecordData}
 use Rattle.name_table.specs.Table.{IsMissing, IsNamed, IsNumberOf}
 use Rattle.zone_lookup.specs.Zone.{is_same, is_star, is_under}

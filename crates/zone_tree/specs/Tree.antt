@@ -2,9 +2,9 @@
 use Rattle.std.specs.Prelude.{◌≡◌, ◌⊎◌, ℕ, ◌+◌, ◌<◌, ◌≤◌, Bool, true, false, Option, Some, None}
 use Rattle.std.specs.Prelude.{List, [], ◌∷◌, length, drop, take, slice_get}
 use Rattle.std.specs.List.{filter, list_any}
-use Rattle.dns_data.specs.Name.{wire_length}
+use Rattle.dns_names.specs.Name.{wire_length}
 use Rattle.dns_data.specs.Record.{RecordData}
-use Rattle.dns_data.specs.declared.limit.TheConstants as limits
+use Rattle.dns_names.specs.declared.limit.TheConstants as limits
 use Rattle.dns_data.specs.declared.zone.Zone.{Zone}
 use Rattle.name_table.specs.Table.{IsMissing, IsNamed, IsNumberOf}
 use Rattle.zone_lookup.specs.Zone.{cut_of, is_at, is_star, is_under}

@@ -1,6 +1,6 @@
 -- How many labels a reverse name has.
 use Rattle.std.proofs.Common.{◌≡◌, ℕ, zero, suc, ◌+◌, ◌/◌, List, length, arith}
-use Rattle.dns_data.specs.ReverseNames.{v6_reverse, nibbles, ip6_arpa}
+use Rattle.dns_names.specs.ReverseNames.{v6_reverse, nibbles, ip6_arpa}
 
 length-nibbles : (count number : ℕ) (others : List (List ℕ)) → length (nibbles count number others) ≡ count + length others
 length-nibbles zero number others = omega arith

@@ -1,5 +1,0 @@
-use Rattle.dns_data.specs.NameText.{IsRun}
-use Rattle.dns_data.proofs.name_read.run_len.Given as goal
-
-abbrev pub invariant-loop-index : goal.invariant-loop-index
-invariant-loop-index l = IsRun l.index l.text

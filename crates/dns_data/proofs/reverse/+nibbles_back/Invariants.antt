@@ -1,4 +1,0 @@
-use Rattle.dns_data.proofs.reverse.+nibbles_back.Given as goal
-
-abbrev pub decreases-nibbles_back : goal.decreases-nibbles_back
-decreases-nibbles_back l = l.count

@@ -1,0 +1,5 @@
+pub mod NameWalks
+pub mod PrintedNames
+pub mod ReadNames
+pub mod ReverseWalks
+pub mod ReversedAddrs

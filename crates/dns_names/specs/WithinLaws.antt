@@ -1,0 +1,26 @@
+-- Laws of names within zones: the test says what the relation says.
+use Rattle.std.proofs.Common.{◌≡◌, ◌↔◌, ℕ, zero, suc, ◌+◌, ◌-◌, ◌≤◌, Bool, IsTrue, List, [], ◌∷◌, length, drop, map, subst, ap, refl, arith}
+use Rattle.std.proofs.lemmas.List.{length-map}
+use Rattle.std.proofs.lemmas.Bool.Decides.{same_from_decides, Decides-eqb}
+use Rattle.std.proofs.lemmas.Slice.Eq.{slice_eq-Decides}
+use Rattle.std.specs.Char.{to_ascii_lowercase}
+use Rattle.dns_names.specs.Name.{IsWithin, is_within, lowered}
+
+length_drop : {X : Type 0} (n : ℕ) (xs : List X) → n ≤ length xs → length (drop n xs) + n ≡ length xs
+length_drop zero xs h = omega arith
+length_drop (suc n) [] h = absurd (omega arith)
+length_drop (suc n) (x ∷ xs) h = omega (arith, length_drop n xs (omega arith))
+
+within_is : (name zone : List (List ℕ)) → IsWithin name zone → lowered (drop (length name - length zone) name) ≡ lowered zone
+within_is name zone w =
+    let long : length (lowered (drop w.above name)) ≡ length (lowered zone) = ap length w.same in
+    let above : w.above ≡ length name - length zone =
+    omega (arith, long, length-map (drop w.above name) (λ (label : List ℕ). map to_ascii_lowercase label), length-map zone (λ (label : List ℕ). map to_ascii_lowercase label), length_drop w.above name w.inside, w.inside) in
+    subst (λ (n : ℕ). lowered (drop n name) ≡ lowered zone) above w.same
+
+-- a test that is true just where the name is within the zone is `is_within`
+pub decides_within : (name zone : List (List ℕ)) (b : Bool) → (IsTrue b ↔ IsWithin name zone) → b ≡ is_within name zone
+unfolding is_within
+decides_within name zone b e =
+    let both : IsTrue b ↔ (lowered (drop (length name - length zone) name) ≡ lowered zone) = (λ t. within_is name zone (e.0 t), λ h. e.1 (record { above = length name - length zone; inside = omega arith; same = h })) in
+    same_from_decides _ _ both (slice_eq-Decides (λ a b. slice_eq-Decides Decides-eqb a b _ refl) (lowered (drop (length name - length zone) name)) (lowered zone) _ refl)

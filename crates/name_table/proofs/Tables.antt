@@ -7,8 +7,8 @@ use Rattle.std.proofs.lemmas.List.{get_or-set_same, length-set, drop_all, length
 use Rattle.std.specs.Int.{w64, from_le_bytes}
 use Rattle.std.specs.Char.{to_ascii_lowercase}
 use Rattle.std.proofs.lemmas.Bool.{cases_lt}
-use Rattle.dns_data.specs.Name.{IsName, spelled, lowered}
-use Rattle.dns_data.specs.NameLaws.{same_case}
+use Rattle.dns_names.specs.Name.{IsName, spelled, lowered}
+use Rattle.dns_names.specs.NameLaws.{same_case}
 use Rattle.name_table.specs.Hash.{small, word_at, mixed, words_to, bytes_to, sum_of, hash_of, place_of}
 use Rattle.name_table.specs.Table.{AreMarked, Holds, IsNamed, IsNumberOf, IsLongest, IsTable, IsKept, IsEntryOf, NoneAmong, IsMissing, PassedTo, entry_of}
 use Rattle.std.specs.Int.Bits.{bit_or}

@@ -95,6 +95,9 @@ impl NameTable {
         if !self.lengths[wire.len()] {
             return None;
         }
+        if self.names.len() == 1 {
+            return only_among(&self.names, key);
+        }
         self.find_hashed(key)
     }
 
@@ -129,6 +132,19 @@ impl NameTable {
         let place = place_of(hash, self.buckets.len());
         find_among(&self.names, self.buckets[place].as_slice(), key, hash)
     }
+}
+
+// The number of a name, where there is one name alone.
+#[inline]
+fn only_among(names: &[Name], key: &Labels<'_>) -> Option<usize>
+    requires { length names.now ≡ 1 }
+    ensures found { IfSome result (λ i. IsNumberOf names.now key.now i) }
+    ensures none { IfNone result (IsMissing names.now key.now) }
+{
+    if is_named(names, 0, key) {
+        return Some(0);
+    }
+    None
 }
 
 #[inline]

@@ -6,13 +6,13 @@ use Rattle.std.specs.Option.{option_and_then, option_map, option_or}
 use Rattle.std.proofs.lemmas.Bool.Decides.{same_from_decides}
 use Rattle.std.proofs.lemmas.List.Folds.{find-append, list_any-append}
 use Rattle.std.proofs.lemmas.Option.{slice_get_within}
-use Rattle.dns_data.specs.Name.{lowered}
+use Rattle.dns_names.specs.Name.{lowered}
 use Rattle.dns_data.specs.declared.block.Block.{Block}
 use Rattle.dns_data.specs.declared.block.BlockKey.{BlockKey}
 use Rattle.name_table.specs.Table.{IsMissing, IsNamed, IsNumberOf}
 use Rattle.plugin_api.specs.Index.{AddsKeys, IndexData, IsIndexOf, block_by, block_in, service_on}
 use Rattle.plugin_api.specs.KeyLaws.{same_is}
-use Rattle.plugin_api.specs.Picking.{block_of, has_key, is_key, is_same}
+use Rattle.plugin_api.specs.Picking.{block_of, has_key, is_key, is_same, longest_of}
 use Rattle.plugin_api.specs.PositionLaws.{IsFirst, IsFound, found, position_more}
 use Rattle.plugin_api.specs.declared.services.Service.{Service}
 
@@ -242,3 +242,30 @@ index_more before after blocks block number is a long = record {
       ∙ ap (λ (n : ℕ). option_or (block_of blocks port zone) (cond (list_any (is_key port zone) block.keys) (Some n) None)) (sym long)
       ∙ sym (position_more (has_key port zone) blocks block);
 }
+
+-- a table of one name that has the root
+pub root_alone : (zones : List (List (List ℕ))) (i : ℕ) → length zones ≡ 1 → IsNamed zones i [] → zones ≡ [] ∷ []
+root_alone [] i one n = absurd (omega (arith, one))
+root_alone ([] ∷ []) i one n = refl
+root_alone ((label ∷ above) ∷ []) zero one n = absurd cc
+root_alone (zone ∷ []) (suc i) one n = absurd cc
+root_alone (zone ∷ other ∷ zones) i one n = absurd (omega (arith, one))
+
+named_first : (i : ℕ) (key : List (List ℕ)) → IsNamed ([] ∷ []) i key → key ≡ []
+named_first zero [] n = refl
+named_first zero (label ∷ above) n = absurd cc
+named_first (suc i) key n = absurd cc
+
+first_only : (i : ℕ) → IsNamed ([] ∷ []) i [] → i ≡ 0
+first_only zero n = refl
+first_only (suc i) n = absurd cc
+
+-- where the root is the one zone, its services serve each name
+pub root_serves : (index : IndexData) (port : ℕ) (services : List Service) → index.zones ≡ [] ∷ [] → slice_get index.services 0 ≡ Some services → (name : List (List ℕ)) → longest_of (block_in index port) name ≡ service_on port services
+unfolding longest_of
+root_serves index port services z s [] =
+    let number : IsNumberOf index.zones [] 0 = subst (λ zones. IsNumberOf zones [] 0) (sym z) (record { is = refl; only = first_only }) in
+    block_is index port [] 0 services number s
+root_serves index port services z s (label ∷ above) =
+    let missing : IsMissing index.zones (label ∷ above) = subst (λ zones. IsMissing zones (label ∷ above)) (sym z) (λ i n. let e = named_first i (label ∷ above) n in absurd cc) in
+    rw (block_none index port (label ∷ above) missing) (root_serves index port services z s above)

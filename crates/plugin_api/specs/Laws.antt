@@ -5,7 +5,7 @@ use Rattle.std.proofs.lemmas.Bool.{cases_lt}
 use Rattle.std.proofs.lemmas.List.{length-map}
 use Rattle.std.specs.Char.{to_ascii_lowercase}
 use Rattle.std.specs.Prelude.{map}
-use Rattle.dns_data.specs.Name.{lowered}
+use Rattle.dns_names.specs.Name.{lowered}
 use Rattle.dns_data.specs.declared.block.Block.{Block}
 use Rattle.plugin_api.specs.Index.{IndexData, IsIndexOf, block_in}
 use Rattle.plugin_api.specs.KeyLaws.{Finds, IsLongest, finds, has_of, key_of}

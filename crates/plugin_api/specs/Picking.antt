@@ -4,7 +4,7 @@ use Rattle.std.specs.Prelude.{◌≡◌, ℕ, ◌≤◌, ◌&&◌, ◌==◌, Boo
 use Rattle.std.specs.Prelude.{Option, Some, None, Contains}
 use Rattle.std.specs.Option.{option_or}
 use Rattle.std.specs.List.{list_any, position_from}
-use Rattle.dns_data.specs.Name.{IsWithin, lowered, same_labels}
+use Rattle.dns_names.specs.Name.{IsWithin, lowered, same_labels}
 use Rattle.dns_data.specs.declared.block.Block.{Block}
 use Rattle.dns_data.specs.declared.block.BlockKey.{BlockKey}
 

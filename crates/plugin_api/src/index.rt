@@ -1,4 +1,4 @@
-ghost use Rattle.std.specs.Prelude.{◌≡◌, ◌<◌, ◌^◌, List, length, IfOk, [], ◌∷◌};
+ghost use Rattle.std.specs.Prelude.{◌≡◌, ◌<◌, ◌^◌, List, length, IfOk, IsTrue, [], ◌∷◌};
 ghost use Rattle.dns_data.specs.declared.block.Block.{Block as BlockData};
 ghost use Rattle.plugin_api.specs.Index.{AddsKeys, IsIndexOf, block_in};
 ghost use Rattle.plugin_api.specs.Picking.{picked};
@@ -14,17 +14,20 @@ use std::marker::Model;
 pub struct BlockIndex {
     zones: NameTable,
     services: Vec<Services>,
+    // Whether the root is the one zone, as in most Corefiles. No name is looked up then.
+    is_root: bool,
 }
 
 impl Model for BlockIndex {
-    ghost use Rattle.std.specs.Prelude.{◌≡◌, length};
+    ghost use Rattle.std.specs.Prelude.{◌≡◌, [], ◌∷◌, length, true};
     ghost use Rattle.plugin_api.specs.Index.{IndexData};
 
     ghost Value = { IndexData };
 
     ghost view = { λ x. record { zones = x.zones; services = x.services.items } };
 
-    ghost invariant = { λ x. length x.zones ≡ length x.services.items };
+    ghost invariant = { λ x. (length x.zones ≡ length x.services.items)
+        × (x.is_root ≡ true → x.zones ≡ [] ∷ []) };
 }
 
 impl BlockIndex {
@@ -36,11 +39,12 @@ impl BlockIndex {
         let mut index = BlockIndex {
             zones: NameTable::new(alloc, blocks.len() as u32)?,
             services: Vec::new(alloc),
+            is_root: false,
         };
         for number in 0..blocks.len() {
             index = index.with_keys(alloc, blocks.at(number).keys.as_slice(), number as u32)?;
         }
-        Ok(index)
+        Ok(index.marked(alloc))
     }
 
     /// The block that `pick` picks among the blocks from which the index was made.
@@ -50,6 +54,9 @@ impl BlockIndex {
         ensures { (blocks : List BlockData) → IsIndexOf self.now blocks
             → result ≡ picked blocks port name.now }
     {
+        if self.is_root {
+            return self.services[0].on(port);
+        }
         let mut rest = name.labels();
         loop {
             if let Some(block) = self.block_in(port, &rest) {
@@ -58,6 +65,23 @@ impl BlockIndex {
             let Some(_) = rest.next() else {
                 return None;
             };
+        }
+    }
+
+    // Notes whether the root is the one zone.
+    fn marked(self, alloc: Global) -> BlockIndex
+        ensures { result ≡ self }
+    {
+        let BlockIndex {
+            zones,
+            services,
+            is_root: _,
+        } = self;
+        let is_root = has_root_alone(alloc, &zones);
+        BlockIndex {
+            zones,
+            services,
+            is_root,
         }
     }
 
@@ -79,6 +103,7 @@ impl BlockIndex {
         let BlockIndex {
             mut zones,
             mut services,
+            is_root: _,
         } = self;
         let service = Service {
             port: key.port,
@@ -87,10 +112,18 @@ impl BlockIndex {
         let Some(number) = zones.find(&key.zone.labels()) else {
             services.push(Services::of(alloc, service)?)?;
             zones.push(key.zone.copy(alloc)?)?;
-            return Ok(BlockIndex { zones, services });
+            return Ok(BlockIndex {
+                zones,
+                services,
+                is_root: false,
+            });
         };
         services[number].push(service)?;
-        Ok(BlockIndex { zones, services })
+        Ok(BlockIndex {
+            zones,
+            services,
+            is_root: false,
+        })
     }
 
     #[inline]
@@ -99,5 +132,19 @@ impl BlockIndex {
     {
         let number = self.zones.find(zone)?;
         self.services[number].on(port)
+    }
+}
+
+// Whether a table has the root, and no other name.
+fn has_root_alone(alloc: Global, zones: &NameTable) -> bool
+    ensures { IsTrue result → zones.now ≡ [] ∷ [] }
+{
+    if zones.len() != 1 {
+        return false;
+    }
+    let root = Name::root(alloc);
+    match zones.find(&root.labels()) {
+        Some(_) => true,
+        None => false,
     }
 }

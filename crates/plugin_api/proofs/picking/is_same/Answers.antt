@@ -1,8 +1,8 @@
 use Rattle.std.proofs.Common.{refl}
 use Rattle.std.proofs.lemmas.Bool.Decides.{same_from_decides, Decides-eqb}
 use Rattle.std.proofs.lemmas.Slice.Eq.{slice_eq-Decides}
-use Rattle.dns_data.specs.Name.{lowered}
-use Rattle.dns_data.specs.NameLaws.{same_case}
+use Rattle.dns_names.specs.Name.{lowered}
+use Rattle.dns_names.specs.NameLaws.{same_case}
 use Rattle.plugin_api.proofs.picking.is_same.Goals as goal
 
 pub returns : goal.returns

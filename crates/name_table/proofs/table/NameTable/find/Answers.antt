@@ -1,5 +1,5 @@
 use Rattle.std.proofs.Common.{arith, length, ap, subst}
-use Rattle.dns_data.specs.NameLaws.{length-spelled}
+use Rattle.dns_names.specs.NameLaws.{length-spelled}
 use Rattle.name_table.specs.Table.{IsMissing}
 use Rattle.name_table.proofs.Tables.{none_so_long}
 use Rattle.name_table.proofs.table.NameTable.find.Goals as goal

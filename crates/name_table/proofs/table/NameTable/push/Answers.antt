@@ -1,6 +1,6 @@
 use Rattle.std.proofs.Common.{◌<◌, arith, length, ◌≡◌, ap, ◌∙◌, subst, sym}
 use Rattle.dns_data.specs.{spelled}
-use Rattle.dns_data.specs.NameLaws.{length-spelled}
+use Rattle.dns_names.specs.NameLaws.{length-spelled}
 use Rattle.name_table.specs.Table.{IsMissing}
 use Rattle.name_table.specs.Hash.{hash_of}
 use Rattle.name_table.proofs.Tables.{table_after, more_after, mark_push}

@@ -9,11 +9,11 @@ returns-in_err-number c =
     subst (λ (d : IndexData). c.from_residual.result ≡ block_in d c.args.port c.args.zone.now) c.self.view_is (c.from_residual.ensures ∙ sym (block_none _ c.args.port c.args.zone.now c.in_err-number.ensures.none))
 
 pub index-requires : goal.index-requires
-index-requires c = let inside = named_within c.self.inside.zones c.args.zone.now c.in_ok-number.number c.in_ok-number.ensures.found.is in omega (arith, inside, c.self.invariant)
+index-requires c = let inside = named_within c.self.inside.zones c.args.zone.now c.in_ok-number.number c.in_ok-number.ensures.found.is in omega (arith, inside, c.self.invariant.0)
 
 pub returns : goal.returns
 returns c =
     let inside = named_within c.self.inside.zones c.args.zone.now c.in_ok-number.number c.in_ok-number.ensures.found.is in
-    let item = slice_get-get_or c.self.inside.services.items c.in_ok-number.number c.index.result.now (omega (arith, inside, c.self.invariant)) ∙ ap Some (sym c.index.ensures) in
+    let item = slice_get-get_or c.self.inside.services.items c.in_ok-number.number c.index.result.now (omega (arith, inside, c.self.invariant.0)) ∙ ap Some (sym c.index.ensures) in
     subst (λ (d : IndexData). c.on.result ≡ block_in d c.args.port c.args.zone.now) c.self.view_is
     (c.on.ensures ∙ sym (block_is _ c.args.port c.args.zone.now c.in_ok-number.number c.index.result.now c.in_ok-number.ensures.found item))

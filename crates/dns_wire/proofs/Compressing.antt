@@ -5,7 +5,7 @@ use Rattle.std.proofs.lemmas.Bool.Decides.{Decides-eqb}
 use Rattle.std.proofs.lemmas.Slice.Eq.{slice_eq-Decides}
 use Rattle.std.specs.Prelude.{cond, nat_lt, if◌then◌else◌, option_map, find}
 use Rattle.std.specs.List.{AllByRecursion}
-use Rattle.dns_data.specs.Name.{same_labels, spelled}
+use Rattle.dns_names.specs.Name.{same_labels, spelled}
 use Rattle.dns_wire.specs.Written.{Draft, OffsetData, size, put_label, put_name, keep, earliest}
 use Rattle.dns_wire.specs.Compression.{IsNowhere, IsFirst, EndsBy, written_out, AllAreCompressed}
 use Rattle.dns_wire.proofs.Respelt.{all_map}

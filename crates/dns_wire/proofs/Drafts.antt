@@ -3,8 +3,8 @@ use Rattle.std.proofs.Common.{◌≡◌, ◌≤◌, ℕ, ◌+◌, ◌-◌, true,
 use Rattle.std.proofs.lemmas.List.{append-nil, take_at, drop-drop, drop-take, drop-append-le, length-take}
 use Rattle.std.specs.Prelude.{◌/◌, ◌%◌, nat_lt, if◌then◌else◌}
 use Rattle.std.specs.Int.{w16, w32, w128, to_be_bytes}
-use Rattle.dns_data.specs.Name.{spelled, wire_length}
-use Rattle.dns_data.specs.NameLaws.{length-spelled}
+use Rattle.dns_names.specs.Name.{spelled, wire_length}
+use Rattle.dns_names.specs.NameLaws.{length-spelled}
 use Rattle.dns_data.specs.Record.{RecordData, kind_of, fields_of, data_length, strings_length, names_length, names_among, texts_length, Field, Compressed, Uncompressed, U8, U16, U32, U128, CharString, NonEmpty, CharStrings, Remainder, Unknown}
 use Rattle.dns_data.specs.declared.message.Question.{Question}
 use Rattle.dns_data.specs.declared.record.Rdata.{Rdata}

@@ -49,3 +49,12 @@ fills_before out new two at end low before inside size is =
     ap (take end) (is ∙ sym (append_assoc front two rest)) ∙ ap (λ (n : ℕ). take n ((front ++ two) ++ rest)) wide ∙ take-append-add (front ++ two) rest (end - at)
     ∙ append_assoc front two (take (end - at) rest) ∙ (λ i. here i ++ (two ++ tail i)) in
     fills cut (take end new) two at low (omega arith) size same
+
+-- the message so far behind a header that is put in front of it
+pub headed : (out new header : List ℕ) (end : ℕ) → length header ≡ 12 → 12 ≤ end → new ≡ take 0 out ++ (header ++ drop (0 + length header) out) → take end new ≡ header ++ drop 12 (take end out)
+headed out new header end size low is =
+    let order : end ≡ length header + (end - 12) = omega (arith, size) in
+    let again : 12 + (end - 12) ≡ end = omega arith in
+    let first : new ≡ header ++ drop (length header) out = is ∙ ap (λ (n : ℕ). header ++ drop n out) (omega arith) in
+    ap (take end) first ∙ ap (λ (n : ℕ). take n (header ++ drop (length header) out)) order ∙ take-append-add header (drop (length header) out) (end - 12)
+    ∙ ap (λ (n : ℕ). header ++ take (end - 12) (drop n out)) size ∙ ap (λ (t : List ℕ). header ++ t) (sym (drop-take 12 (end - 12) out) ∙ ap (λ (n : ℕ). drop 12 (take n out)) again)

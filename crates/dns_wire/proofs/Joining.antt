@@ -1,9 +1,8 @@
 -- A name behind the labels of another, and names that are known.
 use Rattle.std.proofs.Common.{◌≡◌, ◌≤◌, ◌<◌, ℕ, zero, suc, ◌+◌, List, [], ◌∷◌, ◌++◌, length, slice_range, Option, Some, unwrap_or, sym, ap, subst, ◌∙◌, arith}
-use Rattle.std.specs.Prelude.{Result, Ok, Err, IfOk}
 use Rattle.std.proofs.lemmas.List.{append-nil}
-use Rattle.dns_data.specs.Name.{IsName, IsWire, wire_length, spelled, labels_of}
-use Rattle.dns_data.specs.NameLaws.{labels_of-spelled, length-spelled, spells_name}
+use Rattle.dns_names.specs.Name.{IsName, IsWire, wire_length, spelled, labels_of}
+use Rattle.dns_names.specs.NameLaws.{labels_of-spelled, length-spelled, spells_name}
 use Rattle.dns_data.specs.Record.{Field}
 use Rattle.dns_wire.specs.Wire.{NameAt, PointerAt, WholeNameAt}
 use Rattle.dns_wire.specs.Sequences.{ReadSoFar, SequenceAt}
@@ -73,7 +72,3 @@ behind_none (b ∷ bs) name e = absurd cc
 pub none_behind : (labels : List ℕ) (name : List (List ℕ)) → length labels ≡ 0 → name ≡ name ++ labels_of labels
 none_behind [] name e = sym (ap (λ (l : List (List ℕ)). name ++ l) (labels_of-spelled []) ∙ append-nil name)
 none_behind (b ∷ bs) name e = absurd cc
-
-pub ok_weaker : {A E : Type 0} {P Q : A → Type 0} (r : Result A E) → ((a : A) → P a → Q a) → IfOk r P → IfOk r Q
-ok_weaker (Ok a) f p = f a p
-ok_weaker (Err e) f p = tt

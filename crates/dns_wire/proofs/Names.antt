@@ -6,8 +6,8 @@ use Rattle.std.proofs.Math.Nat.{min-eq_left, min-eq_right}
 use Rattle.std.proofs.Math.Seq.{take-add}
 use Rattle.std.proofs.lemmas.Bool.{cases_lt}
 use Rattle.std.specs.List.{AllByRecursion}
-use Rattle.dns_data.specs.Name.{IsLabel, IsName, IsWire, wire_length, spelled, labels_of}
-use Rattle.dns_data.specs.NameLaws.{spells_name, pushed, length-spelled}
+use Rattle.dns_names.specs.Name.{IsLabel, IsName, IsWire, wire_length, spelled, labels_of}
+use Rattle.dns_names.specs.NameLaws.{spells_name, pushed, length-spelled}
 use Rattle.dns_wire.specs.Wire.{ByteAt, LabelAt, PointerAt, NameAt, WholeNameAt, root, label, pointer}
 use Rattle.dns_wire.specs.Sequences.{ReadSoFar, SequenceAt}
 

@@ -1,6 +1,6 @@
 -- What the owner at an offset says of the record there.
 use Rattle.std.proofs.Common.{◌≡◌, ◌≤◌, ℕ, ◌+◌, List, [], ◌∷◌, refl, sym, subst, ◌∙◌, ap, arith}
-use Rattle.dns_data.specs.Name.{wire_length}
+use Rattle.dns_names.specs.Name.{wire_length}
 use Rattle.dns_data.specs.Record.{RecordData}
 use Rattle.dns_data.specs.declared.message.Opt.{Opt}
 use Rattle.dns_data.specs.declared.record.Rdata.{Rdata}

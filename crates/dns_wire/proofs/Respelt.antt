@@ -4,7 +4,7 @@ use Rattle.std.proofs.lemmas.Bool.Decides.{Decides-eqb}
 use Rattle.std.proofs.lemmas.Slice.Eq.{slice_eq-Decides}
 use Rattle.std.specs.Prelude.{cond, nat_lt, if◌then◌else◌, option_map, find}
 use Rattle.std.specs.List.{AllByRecursion}
-use Rattle.dns_data.specs.Name.{IsLabel, IsName, same_labels}
+use Rattle.dns_names.specs.Name.{IsLabel, IsName, same_labels}
 use Rattle.dns_wire.specs.Wire.{NameAt, WholeNameAt}
 use Rattle.dns_wire.specs.Wire.NameAt.{root, label, pointer}
 use Rattle.dns_wire.specs.Written.{Draft, OffsetData, size, put, put_label, put_name, keep, earliest}

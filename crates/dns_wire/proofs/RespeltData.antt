@@ -3,8 +3,8 @@ use Rattle.std.proofs.Common.{◌≡◌, ℕ, ◌+◌, Bool, true, false, List, 
 use Rattle.std.specs.Prelude.{not, ◌&&◌}
 use Rattle.std.specs.List.{AllByRecursion}
 use Rattle.std.specs.Int.{w16, w32, w128, to_be_bytes}
-use Rattle.dns_data.specs.Name.{IsLabel, IsName, spelled, wire_length}
-use Rattle.dns_data.specs.NameLaws.{length-spelled}
+use Rattle.dns_names.specs.Name.{IsLabel, IsName, spelled, wire_length}
+use Rattle.dns_names.specs.NameLaws.{length-spelled}
 use Rattle.dns_data.specs.Record.{IsData, HasForm, NumberFits, fields_of, names_among, Field, Compressed, Uncompressed, U8, U16, U32, U128, CharString, NonEmpty, CharStrings, Remainder, Unknown}
 use Rattle.dns_data.specs.declared.record.Rdata.{Rdata}
 use Rattle.dns_data.specs.declared.record.Rdata.TheVariants as rdata

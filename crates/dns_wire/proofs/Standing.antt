@@ -5,7 +5,7 @@ use Rattle.std.proofs.lemmas.List.Prefix.{at_reads}
 use Rattle.std.proofs.Math.Nat.{div-div-eq-div-mul}
 use Rattle.std.proofs.lemmas.Nat.{div_below}
 use Rattle.std.specs.Int.{w16, w32, w128, to_be_bytes}
-use Rattle.dns_data.specs.Name.{IsLabel}
+use Rattle.dns_names.specs.Name.{IsLabel}
 use Rattle.dns_wire.specs.Wire.{ByteAt, LabelAt, PointerAt, u16_at, u32_at, u128_at}
 use Rattle.dns_wire.specs.Data.{CharacterStringAt}
 

@@ -3,7 +3,7 @@ use Rattle.std.proofs.Common.{◌≡◌, ◌≤◌, ℕ, ◌+◌, ◌/◌, ◌%�
 use Rattle.std.proofs.lemmas.List.{append-nil, drop-append-le, drop_all, drop_at}
 use Rattle.std.specs.Prelude.{nat_lt, if◌then◌else◌, slice_index}
 use Rattle.std.specs.Int.{w16, w32, w128, to_be_bytes}
-use Rattle.dns_data.specs.Name.{spelled}
+use Rattle.dns_names.specs.Name.{spelled}
 use Rattle.dns_data.specs.Record.{RecordData, kind_of, fields_of, Field, Compressed, Uncompressed, U8, U16, U32, U128, CharString, NonEmpty, CharStrings, Remainder, Unknown}
 use Rattle.dns_data.specs.declared.record.Rdata.{Rdata}
 use Rattle.dns_data.specs.declared.record.Rdata.TheVariants as rdata
@@ -150,6 +150,19 @@ five_puts d k s t l a =
     let same : b ++ (k ++ (s ++ (t ++ (l ++ a)))) ≡ (((b ++ k) ++ s) ++ t) ++ l ++ a =
     sym (append_assoc b k (s ++ (t ++ (l ++ a)))) ∙ sym (append_assoc (b ++ k) s (t ++ (l ++ a))) ∙ sym (append_assoc ((b ++ k) ++ s) t (l ++ a)) ∙ sym (append_assoc (((b ++ k) ++ s) ++ t) l a) in
     ap (λ (bytes : List ℕ). record { bytes = bytes; offsets = d.offsets }) same
+
+-- the data of an SRV record has 7 bytes beside its target's labels
+pub srv_record : (d : Draft) (r : RecordData) (p w port n : ℕ) (target : List (List ℕ)) → r.rdata ≡ rdata.Srv p w port target → n ≡ length (spelled target) + 7
+    → put_data (put_u16 (head_by d r (rdata.Srv p w port target)) n) (rdata.Srv p w port target) ≡ put_record d r
+unfolding put_data
+srv_record d r p w port n target e long =
+    let x = rdata.Srv p w port target in
+    let head = head_by d r x in
+    let at_once = to_be_bytes w16 p ++ (to_be_bytes w16 w ++ (to_be_bytes w16 port ++ (spelled target ++ 0 ∷ []))) in
+    let all : put_data (put_u16 head 0) x ≡ put (put_u16 head 0) at_once = sym (five_puts (put_u16 head 0) (to_be_bytes w16 p) (to_be_bytes w16 w) (to_be_bytes w16 port) (spelled target) (0 ∷ [])) in
+    let count : length at_once ≡ n = omega (arith, long, length-append (spelled target) (0 ∷ [])) in
+    let size : data_size_of head x ≡ n = ap (λ (t : Draft). length (drop (length head.bytes + 2) t.bytes)) all ∙ bytes_behind head at_once ∙ count in
+    ap (λ (k : ℕ). put_data (put_u16 head k) x) (sym size) ∙ sym (by_data d r x e)
 
 -- what stands behind the owner of an A record
 pub address_at_once : (d : Draft) (k s t a : List ℕ) (kind class ttl addr : ℕ) → k ≡ to_be_bytes w16 kind → s ≡ to_be_bytes w16 class → t ≡ to_be_bytes w32 ttl → a ≡ to_be_bytes w32 addr

@@ -5,7 +5,7 @@ use Rattle.std.proofs.lemmas.Bool.{le-leb, lt-leb, le-ltb}
 use Rattle.std.proofs.Math.Seq.{take-append-add}
 use Rattle.std.specs.Prelude.{nat_le, nat_lt, ◌||◌, if◌then◌else◌}
 use Rattle.std.specs.List.{AllByRecursion}
-use Rattle.dns_data.specs.Name.{IsName, wire_length}
+use Rattle.dns_names.specs.Name.{IsName, wire_length}
 use Rattle.dns_data.specs.Record.{RecordData, IsProper}
 use Rattle.dns_data.specs.Message.{MessageData}
 use Rattle.dns_data.specs.declared.message.Question.{Question}

@@ -4,8 +4,8 @@ use Rattle.std.proofs.lemmas.List.{take_all, take_at, drop_at, drop-drop}
 use Rattle.std.proofs.Math.Seq.{take-add}
 use Rattle.std.proofs.lemmas.Bool.Decides.{same_from_decides, Decides-eqb}
 use Rattle.std.proofs.lemmas.Slice.Eq.{slice_eq-Decides}
-use Rattle.dns_data.specs.Name.{IsName, IsWire, spelled, labels_of, same_labels}
-use Rattle.dns_data.specs.NameLaws.{IsName-drop, is_wire, view_of}
+use Rattle.dns_names.specs.Name.{IsName, IsWire, spelled, labels_of, same_labels}
+use Rattle.dns_names.specs.NameLaws.{IsName-drop, is_wire, view_of}
 use Rattle.dns_wire.specs.Written.{Draft, put, earliest, keep, put_label, put_name, put_pointer, pointer_or}
 
 -- what equal bytes say of two spellings

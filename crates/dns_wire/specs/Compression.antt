@@ -2,7 +2,7 @@
 -- is written.
 use Rattle.std.specs.Prelude.{◌≡◌, ◌<◌, ℕ, ◌+◌, ◌/◌, ◌%◌, List, [], ◌∷◌, ◌++◌, length, drop, nat_lt, if◌then◌else◌}
 use Rattle.std.specs.List.{AllByRecursion}
-use Rattle.dns_data.specs.Name.{spelled}
+use Rattle.dns_names.specs.Name.{spelled}
 use Rattle.dns_data.specs.declared.limit.TheConstants as limits
 use Rattle.dns_wire.specs.Written.{Draft, OffsetData, size, put_name}
 

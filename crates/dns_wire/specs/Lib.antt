@@ -20,7 +20,7 @@ pub use Rattle.dns_wire.specs.Data.{DataAt, FieldAt, FieldsAt}
 pub use Rattle.dns_wire.specs.Records.{OptAt, RecordAt, SectionAt}
 pub use Rattle.dns_wire.specs.Spells.{HasOtherOpcode, IsMalformed, ReadsBy, ReadsQuery}
 pub use Rattle.dns_wire.specs.Spells.{SpellsAlone, SpellsQuery, SpellsReply}
-pub use Rattle.dns_wire.specs.Asked.{QueriesThis, ReadsAsked}
+pub use Rattle.dns_wire.specs.Asked.{QueriesThis, ReadsAsked, ReadsAskedInto, asked_by}
 pub use Rattle.dns_wire.specs.Written.{IsLongest, bit, kept, truncated, untruncated, written}
 pub use Rattle.dns_wire.specs.Compression.{AllAreCompressed, IsCompressed}
 pub use Rattle.dns_wire.specs.Assembled.{message_of}

@@ -2,7 +2,7 @@
 -- after all.
 use Rattle.std.specs.Prelude.{◌≡◌, ◌≤◌, ◌<◌, ℕ, ◌+◌, ◌-◌, ◌^◌, Bool, true, false, List, length, take}
 use Rattle.std.specs.List.{AllByRecursion}
-use Rattle.dns_data.specs.Name.{IsName}
+use Rattle.dns_names.specs.Name.{IsName}
 use Rattle.dns_data.specs.Record.{RecordData, IsProper}
 use Rattle.dns_data.specs.Message.{MessageData}
 use Rattle.dns_data.specs.declared.message.Question.{Question}

@@ -1,6 +1,6 @@
 -- What was read of a name: its labels up to an offset.
 use Rattle.std.specs.Prelude.{◌≡◌, ◌≤◌, ◌<◌, ℕ, List, ◌++◌, length, slice_range, Option, None, unwrap_or}
-use Rattle.dns_data.specs.Name.{IsWire, labels_of}
+use Rattle.dns_names.specs.Name.{IsWire, labels_of}
 use Rattle.dns_wire.specs.Wire.{LabelAt, NameAt}
 
 -- What was read from origin up to an offset, in a sequence that began at start, is these labels:

@@ -63,21 +63,9 @@ impl KnownNames {
         }
         let index = self.names.len();
         self.names.push((at, name))?;
-        self.hint(at, index);
+        if at < self.hints.len() && index < 65536 {
+            self.hints[at] = index as u16;
+        }
         Ok(())
-    }
-
-    // Notes which name may stand at an offset.
-    #[inline]
-    fn hint(&mut self, at: usize, index: usize)
-        ensures { self.new ≡ self.old }
-    {
-        if self.hints.len() <= at {
-            return;
-        }
-        if 65536 <= index {
-            return;
-        }
-        self.hints[at] = index as u16;
     }
 }

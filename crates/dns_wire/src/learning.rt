@@ -1,6 +1,5 @@
 //! Names ahead of a long walk through pointers, learnt from the lowest one upwards.
-ghost use Rattle.std.specs.Prelude.{◌≡◌, ◌≤◌, ◌<◌, ◌++◌, length, IfOk, IfSome};
-ghost use Rattle.dns_data.specs.Name.{IsName, IsWire, labels_of};
+ghost use Rattle.std.specs.Prelude.{◌≤◌, ◌<◌, length, IfOk};
 ghost use Rattle.dns_wire.specs.Known.{AreKnown, IsKnown};
 
 use crate::WireFault;
@@ -29,7 +28,10 @@ pub fn learn(
 {
     let mut above = Vec::new(alloc);
     let mut start = first;
-    while let Some(target) = next_target(bytes, start) {
+    while let Some(end) = end_of_labels(bytes, start) {
+        let Some(target) = target_at(bytes, end, start) else {
+            break;
+        };
         above.push(start)?;
         start = target;
         if known.find(start).is_some() {
@@ -43,16 +45,6 @@ pub fn learn(
         Err(WireFault::NoMemory) => Err(NoMemory),
         _ => Ok(()),
     }
-}
-
-// The target of the pointer that ends the sequence of labels at an offset, where one does.
-#[inline]
-fn next_target(bytes: &[u8], start: usize) -> Option<usize>
-    requires { start ≤ length bytes.now }
-    ensures { IfSome result (λ target. target < start) }
-{
-    let end = end_of_labels(bytes, start)?;
-    target_at(bytes, end, start)
 }
 
 // Makes the names of offsets, the last one first: each is the target of the one before it, and the
@@ -75,10 +67,12 @@ fn learn_upwards(
     while let Some(start) = above.pop() {
         name = name_above(alloc, bytes, start, at, name)?;
         at = start;
-        if above.is_empty() {
-            left = 0;
+        if 0 < left && !above.is_empty() {
+            left -= 1;
+        } else {
+            known.add(bytes.len(), at, name.copy(alloc)?)?;
+            left = POINTERS_APART;
         }
-        left = keep_some(alloc, bytes, known, at, &name, left)?;
     }
     Ok(())
 }
@@ -130,40 +124,10 @@ fn name_above(
     if target != below {
         return Err(WireFault::Bad);
     }
-    behind_labels(alloc, &bytes[start..end], name)
-}
-
-// A name behind labels in wire format, which are none as a rule.
-#[inline]
-fn behind_labels(alloc: Global, labels: &[u8], name: Name) -> Result<Name, WireFault>
-    requires { IsWire labels.now }
-    ensures { IfOk result (λ whole. (whole ≡ labels_of labels.now ++ name) × IsName whole) }
-{
-    if labels.len() == 0 {
+    if start == end {
         let _ = name.wire_len();
         return Ok(name);
     }
-    let front = Name::of_wire(alloc, labels)?;
+    let front = Name::of_wire(alloc, &bytes[start..end])?;
     joined(front, &name)
-}
-
-// Keeps a copy of a name where none is left to be passed over, and gives how many are left then.
-#[inline]
-fn keep_some(
-    alloc: Global,
-    bytes: &[u8],
-    known: &mut KnownNames,
-    at: usize,
-    name: &Name,
-    left: u8,
-) -> Result<u8, NoMemory>
-    requires here { IsKnown bytes.now (at, name.now) }
-    requires known { AreKnown bytes.now known.old }
-    ensures known { AreKnown bytes.now known.new }
-{
-    if 0 < left {
-        return Ok(left - 1);
-    }
-    known.add(bytes.len(), at, name.copy(alloc)?)?;
-    Ok(POINTERS_APART)
 }

@@ -24,7 +24,7 @@ mod write;
 mod write_record;
 mod writer;
 
-pub use asked::{Asked, read_asked};
+pub use asked::{Asked, AskedBeside, read_asked, read_asked_into};
 pub use fault::{Head, QueryFault, WireFault};
 pub use header::Flags;
 pub use query::read_query;

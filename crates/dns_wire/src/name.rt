@@ -1,10 +1,10 @@
 ghost use Rattle.std.specs.Prelude.{◌≡◌, ◌≤◌, ◌<◌, ◌+◌, ◌++◌, ℕ, List, length, IfSome, IfNone};
-ghost use Rattle.std.specs.Prelude.{IfOk, OnOk, IsTrue, ◌↔◌};
-ghost use Rattle.dns_data.specs.Name.{IsName, IsWire, labels_of, wire_length};
+ghost use Rattle.std.specs.Prelude.{IfOk, IsTrue, ◌↔◌};
+ghost use Rattle.dns_names.specs.Name.{IsName};
 ghost use Rattle.dns_wire.specs.Wire.{NameAt, PointerAt, WholeNameAt};
 ghost use Rattle.dns_wire.specs.Sequences.{SequenceAt};
 ghost use Rattle.dns_wire.specs.Known.{AreKnown};
-ghost use Rattle.dns_wire.specs.Reads.{Reads};
+ghost use Rattle.dns_wire.specs.Reads.{Reads, read_as};
 
 use crate::WireFault;
 use crate::known::KnownNames;
@@ -16,18 +16,16 @@ use std::alloc::Global;
 // The least byte whose upper two bits are set (RFC 1035, section 4.1.4).
 const POINTER: u8 = 192;
 
-/// Reads the first name of a message, and gives the offset behind it. No pointer ends it, since no
-/// name begins within the header.
+/// Reads the first name of a message, in place of another, and gives the offset behind it. No
+/// pointer ends it, since no name begins within the header.
 #[inline(always)]
-pub fn read_first_name(
-    alloc: Global,
-    bytes: &[u8],
-    first: usize,
-) -> Result<(Name, usize), WireFault>
+pub fn read_first_name(bytes: &[u8], first: usize, name: &mut Name) -> Result<usize, WireFault>
     requires first { first ≤ 12 }
     requires inside { first ≤ length bytes.now }
-    ensures spelt { Reads (λ found. WholeNameAt bytes.now first found.0 found.1) result }
-    ensures inside { IfOk result (λ found. found.1 ≤ length bytes.now) }
+    ensures spelt { Reads
+        (λ (found : List (List ℕ) × ℕ). WholeNameAt bytes.now first found.0 found.1)
+        (read_as (λ (behind : ℕ). (name.new, behind)) result) }
+    ensures inside { IfOk result (λ behind. behind ≤ length bytes.now) }
 {
     let Some(end) = end_of_labels(bytes, first) else {
         return Err(WireFault::Bad);
@@ -35,8 +33,8 @@ pub fn read_first_name(
     if bytes[end] != 0 {
         return Err(WireFault::Bad);
     }
-    let name = Name::of_wire(alloc, &bytes[first..end])?;
-    Ok((name, end + 1))
+    name.set_wire(&bytes[first..end])?;
+    Ok(end + 1)
 }
 
 /// Reads the name at an offset, and gives the offset behind it. Most names are one sequence of
@@ -92,7 +90,7 @@ fn read_sequences(
         if NAME_BYTES < name.wire_len() + (end - start) {
             return Err(WireFault::Bad);
         }
-        append_labels(&mut name, &bytes[start..end])?;
+        name.append(&bytes[start..end])?;
         if bytes[end] == 0 {
             let _ = name.wire_len();
             return Ok((name, behind.unwrap_or(end + 1)));
@@ -113,19 +111,6 @@ fn read_sequences(
         behind = Some(after);
         start = target;
     }
-}
-
-// Adds labels in wire format at the end of a name. Where it is but a pointer there are none.
-#[inline]
-fn append_labels(name: &mut Name, labels: &[u8]) -> Result<(), NoMemory>
-    requires labels { IsWire labels.now }
-    requires room { wire_length name.old + length labels.now ≤ 255 }
-    ensures { OnOk result (name.new ≡ name.old ++ labels_of labels.now) }
-{
-    if labels.len() == 0 {
-        return Ok(());
-    }
-    name.append(labels)
 }
 
 /// A name behind the labels of another.

@@ -1,10 +1,9 @@
 ghost use Rattle.std.specs.Prelude.{◌≡◌, ◌≤◌, ◌<◌, ◌+◌, ◌-◌, ◌^◌, [], ◌∷◌, length, take, vec_len};
 ghost use Rattle.std.specs.Prelude.{OnOk, IfOk, IfSome};
-ghost use Rattle.std.specs.Int.{w16, to_be_bytes};
 ghost use Rattle.dns_data.specs.Record.{IsProper};
 ghost use Rattle.dns_wire.specs.Writes.{Writes};
-ghost use Rattle.dns_wire.specs.Written.{size, put, put_question, opt_bytes, header, untruncated};
-ghost use Rattle.dns_wire.specs.Written.{truncated, kept, written, IsLongest};
+ghost use Rattle.dns_wire.specs.Written.{empty, size, put, put_question, opt_bytes, header};
+ghost use Rattle.dns_wire.specs.Written.{truncated, kept};
 ghost use Rattle.dns_data.specs.Message.{AreCodes};
 ghost use Rattle.dns_wire.specs.Assembled.{message_of, high_byte, low_byte};
 ghost use Rattle.dns_wire.specs.Putting.{total, QuestionFits, OptFits, PutWithin, PutLongest};
@@ -14,7 +13,7 @@ use crate::Flags;
 use crate::write_record::put_record;
 use crate::writer::Writer;
 use dns_data::limit::{MESSAGE_BYTES, UDP_BYTES};
-use dns_data::{Bytes, Message, Name, NoMemory, Opt, Record, kind};
+use dns_data::{Buffer, Message, Name, NoMemory, Opt, Record, kind};
 use std::alloc::Global;
 
 // As many bytes as a message has room for from the start: most replies are shorter.
@@ -49,19 +48,11 @@ pub struct MessageParts<'a> {
 /// within a limit in bytes. TC is set where a record of answer or authority is left out (RFC 2181,
 /// section 9). The question's name, owner names and names in NS, CNAME, SOA, PTR and MX data are
 /// compressed, and targets of SRV records aren't (RFC 2782).
-pub fn write_message(alloc: Global, message: &Message, limit: u32) -> Result<Bytes, NoMemory>
+pub fn write_message(alloc: Global, message: &Message, limit: u32) -> Result<Buffer, NoMemory>
     requires limit { (UDP_BYTES ≤ limit) × (limit ≤ MESSAGE_BYTES) }
     ensures { IfOk result (Writes message.now limit) }
 {
-    let parts = parts_of(message);
-    write_parts(alloc, Bytes::new(alloc), &parts, limit)
-}
-
-fn parts_of(message: &Message) -> MessageParts<'_>
-    ensures message { message_of result ≡ message.now }
-    ensures codes { AreCodes result.flags.opcode result.flags.rcode }
-{
-    MessageParts {
+    let parts = MessageParts {
         flags: Flags {
             id: message.id,
             qr: message.qr,
@@ -81,22 +72,23 @@ fn parts_of(message: &Message) -> MessageParts<'_>
         authority: message.authority.as_slice(),
         additional: message.additional.as_slice(),
         opt: message.opt,
-    }
+    };
+    write_parts(alloc, Buffer::new(alloc), &parts, limit)
 }
 
 /// Writes a message by its parts as `write_message` does, in the memory of `room`, whose bytes go.
 #[inline]
 pub fn write_parts(
     alloc: Global,
-    room: Bytes,
+    room: Buffer,
     parts: &MessageParts<'_>,
     limit: u32,
-) -> Result<Bytes, NoMemory>
+) -> Result<Buffer, NoMemory>
     requires limit { (UDP_BYTES ≤ limit) × (limit ≤ MESSAGE_BYTES) }
     requires codes { AreCodes parts.now.flags.opcode parts.now.flags.rcode }
     ensures { IfOk result (Writes (message_of parts.now) limit) }
 {
-    let mut out = room.into_vec();
+    let mut out = room.into_room();
     if out.len() < ROOM {
         out.resize(ROOM, 0)?;
     }
@@ -111,7 +103,7 @@ fn write_behind(
     out: Vec<u8>,
     parts: &MessageParts<'_>,
     limit: u32,
-) -> Result<Bytes, NoMemory>
+) -> Result<Buffer, NoMemory>
     requires room { 12 ≤ vec_len out }
     requires limit { (UDP_BYTES ≤ limit) × (limit ≤ MESSAGE_BYTES) }
     requires codes { AreCodes parts.now.flags.opcode parts.now.flags.rcode }
@@ -122,7 +114,7 @@ fn write_behind(
     put_question(&mut writer, parts)?;
     let kept = put_sections(&mut writer, parts, room_for_records)?;
     put_opt(&mut writer, &parts.opt)?;
-    Ok(writer.into_bytes(&header_bytes(parts, kept)))
+    Ok(writer.into_message(&header_bytes(parts, kept)))
 }
 
 // The limit without the OPT record that comes last.
@@ -140,7 +132,7 @@ fn room_for_records(limit: usize, opt: &Option<Opt>) -> usize
 
 #[tactic(auto, unfolding(crate::specs::Written::put_question))]
 fn put_question<'a>(writer: &mut Writer<'a>, parts: &MessageParts<'a>) -> Result<(), NoMemory>
-    requires { writer.old.offsets ≡ [] }
+    requires { writer.old ≡ empty }
     ensures text { OnOk result
         (writer.new ≡ put_question writer.old (message_of parts.now).question) }
     ensures fits { OnOk result (QuestionFits (message_of parts.now).question) }
@@ -268,15 +260,6 @@ fn put_opt(writer: &mut Writer<'_>, opt: &Option<Opt>) -> Result<(), NoMemory>
     }
 }
 
-// The id's bytes, which also shows that it has 16 bits.
-#[inline]
-fn id_bytes(id: u16) -> [u8; 2]
-    ensures value { result ≡ to_be_bytes w16 id }
-    ensures fits { id < 2 ^ 16 }
-{
-    id.to_be_bytes()
-}
-
 // The two bytes of flags and codes in a header.
 #[inline(always)]
 fn flag_bytes(flags: Flags, is_truncated: bool) -> [u8; 2]
@@ -308,7 +291,7 @@ fn header_bytes(parts: &MessageParts<'_>, kept: Counts) -> [u8; 12]
     ensures fits { parts.now.flags.id < 2 ^ 16 }
 {
     let is_truncated = kept.answer < parts.answer.len() || kept.authority < parts.authority.len();
-    let id = id_bytes(parts.flags.id);
+    let id = parts.flags.id.to_be_bytes();
     let flags = flag_bytes(parts.flags, is_truncated);
     let answer = (kept.answer as u16).to_be_bytes();
     let authority = (kept.authority as u16).to_be_bytes();

@@ -21,6 +21,11 @@ pub fn put_record<'a>(writer: &mut Writer<'a>, rr: &'a Record) -> Result<(), NoM
             put_head(writer, kind, class, ttl, 16)?;
             writer.put_few(addr.to_be_bytes())
         }
+        Rdata::Srv(_, _, _, target) => {
+            let length = target.as_wire().len() as u16 + 7;
+            put_head(writer, kind, class, ttl, length)?;
+            put_data(writer, &rr.rdata)
+        }
         rdata => {
             put_head(writer, kind, class, ttl, 0)?;
             let at = writer.len();
@@ -98,7 +103,17 @@ fn put_data<'a>(writer: &mut Writer<'a>, rdata: &'a Rdata) -> Result<(), NoMemor
         Rdata::Txt(strings) => put_strings(writer, strings.as_slice()),
         Rdata::Aaaa(addr) => writer.put_few(addr.to_be_bytes()),
         Rdata::Srv(priority, weight, port, target) => {
-            put_service(writer, *priority, *weight, *port)?;
+            let priority = priority.to_be_bytes();
+            let weight = weight.to_be_bytes();
+            let port = port.to_be_bytes();
+            writer.put_few([
+                priority[0],
+                priority[1],
+                weight[0],
+                weight[1],
+                port[0],
+                port[1],
+            ])?;
             writer.put_labels(target.as_wire())?;
             writer.put_few([0])
         }
@@ -121,29 +136,6 @@ fn put_soa<'a>(writer: &mut Writer<'a>, soa: &'a Soa) -> Result<(), NoMemory>
     writer.put_few(soa.retry.to_be_bytes())?;
     writer.put_few(soa.expire.to_be_bytes())?;
     writer.put_few(soa.minimum.to_be_bytes())
-}
-
-// What stands before the target of an SRV record.
-fn put_service(
-    writer: &mut Writer<'_>,
-    priority: u16,
-    weight: u16,
-    port: u16,
-) -> Result<(), NoMemory>
-    ensures { OnOk result
-        (writer.new ≡ put_u16 (put_u16 (put_u16 writer.old priority) weight) port) }
-{
-    let priority = priority.to_be_bytes();
-    let weight = weight.to_be_bytes();
-    let port = port.to_be_bytes();
-    writer.put_few([
-        priority[0],
-        priority[1],
-        weight[0],
-        weight[1],
-        port[0],
-        port[1],
-    ])
 }
 
 // A character-string behind its length.

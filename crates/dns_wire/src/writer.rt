@@ -1,12 +1,12 @@
 ghost use Rattle.std.specs.Prelude.{◌≡◌, ◌<◌, ◌≤◌, ◌+◌, ◌-◌, ◌^◌, ◌++◌, [], length, take, drop};
 ghost use Rattle.std.specs.Prelude.{vec_len, OnOk};
 ghost use Rattle.std.specs.Int.{w16, to_be_bytes};
-ghost use Rattle.dns_data.specs.Name.{IsName, IsWire, labels_of};
-ghost use Rattle.dns_wire.specs.Written.{size, put, put_name, put_pointer, keep};
+ghost use Rattle.dns_names.specs.Name.{IsName};
+ghost use Rattle.dns_wire.specs.Written.{empty, size, put, put_name, put_pointer};
 
 use crate::offsets::Offsets;
 use dns_data::limit::{HEADER_BYTES, POINTER_END};
-use dns_data::{Bytes, Name, NoMemory};
+use dns_data::{Buffer, Name, NoMemory};
 use std::alloc::Global;
 use std::marker::Model;
 
@@ -55,7 +55,7 @@ impl<'a> Writer<'a> {
 
     /// The message, with its header in front.
     #[inline(always)]
-    pub fn into_bytes(self, header: &[u8; 12]) -> Bytes
+    pub fn into_message(self, header: &[u8; 12]) -> Buffer
         ensures { result ≡ header.now ++ self.entry.bytes }
     {
         let Writer {
@@ -63,9 +63,8 @@ impl<'a> Writer<'a> {
             end,
             offsets: _,
         } = self;
-        out.truncate(end);
         overwrite(&mut out, 0, header);
-        Bytes::of(out)
+        Buffer::front(out, end)
     }
 
     /// How many bytes the message has so far, its header among them.
@@ -154,22 +153,6 @@ impl<'a> Writer<'a> {
         overwrite(&mut self.out, at - 2, &length.to_be_bytes());
     }
 
-    // Remembers that a suffix will stand behind the bytes so far and those ahead of it.
-    #[inline(always)]
-    fn keep(&mut self, ahead: &[u8], suffix: &'a [u8]) -> Result<(), NoMemory>
-        requires { IsWire suffix.now }
-        ensures { OnOk result (self.new ≡ record {
-          bytes = self.old.bytes;
-          offsets = (keep (put self.old ahead.now) (labels_of suffix.now)).offsets;
-        }) }
-    {
-        let at = self.end + ahead.len();
-        if at < POINTER_END {
-            self.offsets.push(suffix, at)?;
-        }
-        Ok(())
-    }
-
     /// Puts labels without a zero byte behind them. Often there are none.
     #[inline]
     pub fn put_labels(&mut self, wire: &[u8]) -> Result<(), NoMemory>
@@ -195,30 +178,20 @@ impl<'a> Writer<'a> {
         ensures text { OnOk result (self.new ≡ put_name self.old name.now) }
         ensures proper { IsName name.now }
     {
-        let wire = name.as_wire();
-        if 0 < wire.len() {
-            if let Some(offset) = self.offsets.first(wire) {
-                return self.put_pointer(offset);
-            }
+        if self.offsets.is_first(name.as_wire()) {
+            return self.put_pointer(HEADER_BYTES);
         }
         self.put_suffixes(name)
     }
 
-    /// Writes a name as `put_name` does, where none was written before: no suffix of it can stand
-    /// there.
+    /// Writes the first name behind the header as `put_name` does: no suffix of it can stand there.
     pub fn put_first_name(&mut self, name: &'a Name) -> Result<(), NoMemory>
-        requires { self.old.offsets ≡ [] }
+        requires { self.old ≡ empty }
         ensures text { OnOk result (self.new ≡ put_name self.old name.now) }
         ensures proper { IsName name.now }
     {
-        let wire = name.as_wire();
-        let mut labels = name.labels();
-        let mut suffix = wire;
-        while let Some(_label) = labels.next() {
-            self.keep(&wire[..wire.len() - suffix.len()], suffix)?;
-            suffix = labels.as_wire();
-        }
-        self.put_labels(wire)?;
+        self.offsets.set_first(name);
+        self.put_labels(name.as_wire())?;
         self.put_few([0])
     }
 
@@ -238,7 +211,7 @@ impl<'a> Writer<'a> {
                 self.put_labels(ahead)?;
                 return self.put_pointer(offset);
             }
-            self.keep(ahead, suffix)?;
+            self.offsets.push(suffix, self.end + ahead.len())?;
             suffix = labels.as_wire();
         }
         self.put_labels(wire)?;

@@ -1,8 +1,8 @@
 use Rattle.std.proofs.Common.{◌≤◌, length}
 use Rattle.dns_wire.proofs.learning.learn.Given as goal
 
-abbrev pub invariant-loop-target : goal.invariant-loop-target
-invariant-loop-target l = l.start ≤ length l.bytes
+abbrev pub invariant-loop-end : goal.invariant-loop-end
+invariant-loop-end l = l.start ≤ length l.bytes
 
-abbrev pub decreases-loop-target : goal.decreases-loop-target
-decreases-loop-target l = l.start
+abbrev pub decreases-loop-end : goal.decreases-loop-end
+decreases-loop-end l = l.start

@@ -1,5 +1,5 @@
 use Rattle.std.proofs.Common.{ap, subst, ◌∙◌, ◌++◌, List, ℕ, arith}
-use Rattle.dns_data.specs.Name.{IsName}
+use Rattle.dns_names.specs.Name.{IsName}
 use Rattle.dns_wire.proofs.Joining.{spelled_wire, both_fit, spelled_room, labels_again}
 use Rattle.dns_wire.proofs.name.joined.Goals as goal
 

@@ -10,4 +10,4 @@ returns-then-bytes-end-ne0-clause-spelt c = λ found h.
 pub returns-clause-spelt : goal.returns-clause-spelt
 returns-clause-spelt c =
     let sequence = c.in-Some.ensures.found in
-    rw c.in_ok-name.ensures (record { proper = sequence.wire.proper; spelt = ends sequence.so_far sequence.inside c.if-bytes-end-ne0.false })
+    rw c.in_ok-set_wire.ensures.ok (record { proper = sequence.wire.proper; spelt = ends sequence.so_far sequence.inside c.if-bytes-end-ne0.false })

@@ -16,7 +16,7 @@ pub returns-then-bytes-end-eq0-clause-spelt : goal.returns-then-bytes-end-eq0-cl
 returns-then-bytes-end-eq0-clause-spelt c =
     let sequence = c.in-Some.ensures.found in
     let far = ends (then c.loop-end.invariant.so_far sequence.so_far) sequence.inside c.if-bytes-end-eq0.true in
-    record { proper = c.wire_len-then-bytes-end-eq0.ensures.proper; spelt = rw (c.in_ok-append_labels.ensures, c.unwrap_or.ensures) far }
+    record { proper = c.wire_len-then-bytes-end-eq0.ensures.proper; spelt = rw (c.in_ok-append.ensures.ok, c.unwrap_or.ensures) far }
 
 pub returns-then-bytes-end-eq0-clause-inside : goal.returns-then-bytes-end-eq0-clause-inside
 returns-then-bytes-end-eq0-clause-inside c =
@@ -35,14 +35,14 @@ returns-in_err-joined-clause-spelt c =
     let step = jumps (then c.loop-end.invariant.so_far c.in-Some.ensures.found.so_far) far.found far.low far.less c.loop-end.invariant.inside in
     let here = is_known c.loop-end.known c.loop-end.invariant.known c.in-Some-find.ensures in
     fails c.in_err-joined.field-0.0 c.in_err-joined.ensures c.from_residual-in_err-joined.result c.from_residual-in_err-joined.ensures.1
-    (λ found h. (found.0, rw c.in_ok-append_labels.ensures (whole_is step here.1 found.0 found.1 h)))
+    (λ found h. (found.0, rw c.in_ok-append.ensures.ok (whole_is step here.1 found.0 found.1 h)))
 
 pub returns-in-Some-find-clause-spelt : goal.returns-in-Some-find-clause-spelt
 returns-in-Some-find-clause-spelt c =
     let far = c.in-Some-target_at.ensures in
     let step = jumps (then c.loop-end.invariant.so_far c.in-Some.ensures.found.so_far) far.found far.low far.less c.loop-end.invariant.inside in
     let here = is_known c.loop-end.known c.loop-end.invariant.known c.in-Some-find.ensures in
-    let whole = rw c.in_ok-append_labels.ensures at c.in_ok-joined.ensures in
+    let whole = rw c.in_ok-append.ensures.ok at c.in_ok-joined.ensures in
     rw c.unwrap_or-after.ensures (joins step here.1 whole)
 
 pub returns-in-Some-find-clause-inside : goal.returns-in-Some-find-clause-inside
@@ -50,7 +50,7 @@ returns-in-Some-find-clause-inside c =
     let far = c.in-Some-target_at.ensures in
     let step = jumps (then c.loop-end.invariant.so_far c.in-Some.ensures.found.so_far) far.found far.low far.less c.loop-end.invariant.inside in
     let here = is_known c.loop-end.known c.loop-end.invariant.known c.in-Some-find.ensures in
-    let whole = rw c.in_ok-append_labels.ensures at c.in_ok-joined.ensures in
+    let whole = rw c.in_ok-append.ensures.ok at c.in_ok-joined.ensures in
     rw c.unwrap_or-after.ensures (name_inside (joins step here.1 whole).spelt)
 
 pub loop-end-preserved : goal.loop-end-preserved
@@ -58,7 +58,7 @@ loop-end-preserved c =
     let far = c.in-Some-target_at.ensures in
     let step = jumps (then c.loop-end.invariant.so_far c.in-Some.ensures.found.so_far) far.found far.low far.less c.loop-end.invariant.inside in
     record {
-      so_far = rw (c.in_ok-append_labels.ensures, c.unwrap_or-after.ensures) step;
+      so_far = rw (c.in_ok-append.ensures.ok, c.unwrap_or-after.ensures) step;
       inside = omega (arith, c.loop-end.invariant.inside, c.in-Some-target_at.ensures.less);
       known = search rules;
     }

@@ -1,6 +1,6 @@
 use Rattle.std.proofs.Common.{List, map, sym, ap, ◌∙◌, arith}
 use Rattle.std.proofs.lemmas.List.{drop_all}
-use Rattle.dns_data.specs.Name.{labels_of}
+use Rattle.dns_names.specs.Name.{labels_of}
 use Rattle.dns_wire.specs.Written.{earliest}
 use Rattle.dns_wire.specs.Offsets.{offset_of, IsOffset}
 use Rattle.dns_wire.proofs.Writing.{same_suffix}

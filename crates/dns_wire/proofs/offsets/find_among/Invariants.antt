@@ -1,5 +1,5 @@
 use Rattle.std.proofs.Common.{◌≡◌, drop, map}
-use Rattle.dns_data.specs.Name.{labels_of}
+use Rattle.dns_names.specs.Name.{labels_of}
 use Rattle.dns_wire.specs.Written.{earliest}
 use Rattle.dns_wire.specs.Offsets.{offset_of}
 use Rattle.dns_wire.proofs.offsets.find_among.Given as goal

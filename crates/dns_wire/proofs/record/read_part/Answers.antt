@@ -1,5 +1,5 @@
 use Rattle.std.proofs.Common.{ap, subst, sym, ◌∙◌}
-use Rattle.dns_data.specs.Name.{wire_length}
+use Rattle.dns_names.specs.Name.{wire_length}
 use Rattle.dns_wire.specs.Wire.{WholeNameAt}
 use Rattle.dns_wire.proofs.Reading.{fails}
 use Rattle.dns_wire.proofs.Parts.{owned, ends_here, opt_owner, root_only, data_here}

@@ -18,15 +18,15 @@ header_bytes-requires-clause-few c =
     let small : c.room_for_records-room_for_records.result ≤ 65535 = omega (arith, c.requires.limit.1, c.room_for_records-room_for_records.ensures.sum) in
     omega (arith, few c.in_ok-kept.ensures small)
 
-unfoldable longest : (c : goal.After-into_bytes) → IsLongest (message_of c.args.parts.now) c.args.limit c.into_bytes.result
+unfoldable longest : (c : goal.After-into_message) → IsLongest (message_of c.args.parts.now) c.args.limit c.into_message.result
 longest c =
     let m = message_of c.args.parts.now in
     let text : c.put_question.new.writer ≡ put_question empty m.question = c.in_ok-put_question.ensures.text ∙ ap (λ (d : Draft). put_question d m.question) c.over-writer.ensures in
-    let whole : c.into_bytes.result ≡ header (truncated m (total c.in_ok-kept.kept)) ++ (c.put_sections.new.writer.bytes ++ opt_bytes m.opt) =
-    c.into_bytes.ensures ∙ (λ i. c.header_bytes.ensures.text i ++ (c.in_ok-put_opt.ensures.text i).bytes) in
-    is_longest {k = c.in_ok-kept.kept} c.into_bytes.result c.in_ok-kept.ensures text c.room_for_records-room_for_records.ensures.sum whole
+    let whole : c.into_message.result ≡ header (truncated m (total c.in_ok-kept.kept)) ++ (c.put_sections.new.writer.bytes ++ opt_bytes m.opt) =
+    c.into_message.ensures ∙ (λ i. c.header_bytes.ensures.text i ++ (c.in_ok-put_opt.ensures.text i).bytes) in
+    is_longest {k = c.in_ok-kept.kept} c.into_message.result c.in_ok-kept.ensures text c.room_for_records-room_for_records.ensures.sum whole
 
-fits : (c : goal.After-into_bytes) → Fits (truncated (message_of c.args.parts.now) (total c.in_ok-kept.kept))
+fits : (c : goal.After-into_message) → Fits (truncated (message_of c.args.parts.now) (total c.in_ok-kept.kept))
 fits c =
     let small : c.room_for_records-room_for_records.result ≤ 65535 = omega (arith, c.requires.limit.1, c.room_for_records-room_for_records.ensures.sum) in
     fits_truncated (message_of c.args.parts.now) (total c.in_ok-kept.kept) c.header_bytes.ensures.fits c.requires.codes c.in_ok-put_question.ensures.fits c.in_ok-put_opt.ensures.fits c.in_ok-kept.ensures.all.proper (omega (arith, few c.in_ok-kept.ensures small))

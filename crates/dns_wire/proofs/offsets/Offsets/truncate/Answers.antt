@@ -1,19 +1,37 @@
-use Rattle.std.proofs.Common.{List, ◌++◌, take, map, ap, ◌∙◌, arith}
+use Rattle.std.proofs.Common.{◌≡◌, ◌≤◌, ◌-◌, min, ℕ, List, ◌++◌, length, take, map, ap, ◌∙◌, arith}
+use Rattle.dns_names.specs.Name.{labels_of}
 use Rattle.dns_wire.specs.Written.{OffsetData}
-use Rattle.dns_wire.specs.Offsets.{offset_of}
-use Rattle.dns_wire.proofs.Searching.{Stored, truncated_near, truncated_far}
+use Rattle.dns_wire.specs.Offsets.{offset_of, suffixes_at}
+use Rattle.dns_wire.proofs.FirstName.{length-suffixes}
+use Rattle.dns_wire.proofs.Searching.{Stored, truncated_near, truncated_far, truncated_behind}
 use Rattle.dns_wire.proofs.offsets.Offsets.truncate.Goals as goal
 
-pub returns-then-count-near : goal.returns-then-count-near
-returns-then-count-near c =
-    let near = c.self.inside.near in
-    ap (λ (far : List Stored). map offset_of (take c.args.count near ++ far)) c.clear.ensures.items
-    ∙ truncated_near c.args.count c.self.inside.count near c.self.inside.far.items c.if-count-near.true (omega (arith, c.self.invariant.inside, c.self.invariant.long))
-    ∙ ap (λ (ps : List OffsetData). take c.args.count ps) c.self.view_is
+pub returns-then-behind-near : goal.returns-then-behind-near
+returns-then-behind-near c =
+    let i = c.self.inside in
+    let k = c.min-self-inside.result in
+    let count = c.args.count in
+    let front = suffixes_at 12 (labels_of i.first.now) in
+    let behind = map offset_of (take i.count i.near ++ i.far.items) in
+    let is : k ≡ min i.kept count = c.min-self-inside.ensures in
+    let few : i.kept ≤ length front = omega (arith, length-suffixes 12 (labels_of i.first.now), c.self.invariant.few) in
+    let part : map offset_of (take (count - k) i.near ++ c.clear.new.self.items) ≡ take (count - k) behind =
+    ap (λ (far : List Stored). map offset_of (take (count - k) i.near ++ far)) c.clear.ensures.items
+    ∙ truncated_near (count - k) i.count i.near i.far.items c.if-behind-near.true (omega (arith, c.self.invariant.inside, c.self.invariant.long)) in
+    (λ j. take (is j) front ++ part j) ∙ truncated_behind front behind count i.kept (count - k) few (ap (λ (n : ℕ). count - n) is)
+    ∙ ap (λ (ps : List OffsetData). take count ps) c.self.view_is
 
-pub returns-else-count-near : goal.returns-else-count-near
-returns-else-count-near c =
-    let near = c.self.inside.near in
-    ap (λ (far : List Stored). map offset_of (take c.self.inside.count near ++ far)) c.truncate.ensures.items
-    ∙ truncated_far c.args.count c.self.inside.count near c.self.inside.far.items (omega arith) (omega (arith, c.self.invariant.inside, c.self.invariant.long))
-    ∙ ap (λ (ps : List OffsetData). take c.args.count ps) c.self.view_is
+pub returns-else-behind-near : goal.returns-else-behind-near
+returns-else-behind-near c =
+    let i = c.self.inside in
+    let k = c.min-self-inside.result in
+    let count = c.args.count in
+    let front = suffixes_at 12 (labels_of i.first.now) in
+    let behind = map offset_of (take i.count i.near ++ i.far.items) in
+    let is : k ≡ min i.kept count = c.min-self-inside.ensures in
+    let few : i.kept ≤ length front = omega (arith, length-suffixes 12 (labels_of i.first.now), c.self.invariant.few) in
+    let part : map offset_of (take i.count i.near ++ c.truncate.new.self.items) ≡ take (count - k) behind =
+    ap (λ (far : List Stored). map offset_of (take i.count i.near ++ far)) c.truncate.ensures.items
+    ∙ truncated_far (count - k) i.count i.near i.far.items (omega (arith, c.if-behind-near.false)) (omega (arith, c.self.invariant.inside, c.self.invariant.long)) in
+    (λ j. take (is j) front ++ part j) ∙ truncated_behind front behind count i.kept (count - k) few (ap (λ (n : ℕ). count - n) is)
+    ∙ ap (λ (ps : List OffsetData). take count ps) c.self.view_is

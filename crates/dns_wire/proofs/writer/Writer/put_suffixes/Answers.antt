@@ -1,16 +1,18 @@
-use Rattle.std.proofs.Common.{◌≡◌, ◌+◌, ◌-◌, ℕ, List, [], ◌∷◌, length, take, sym, ap, subst, ◌∙◌, arith, length-drop, length-append}
+use Rattle.std.proofs.Common.{◌≡◌, ◌+◌, ◌-◌, ◌++◌, ◌≤◌, ℕ, List, [], ◌∷◌, length, take, drop, sym, ap, subst, ◌∙◌, arith, length-drop, length-append}
 use Rattle.std.proofs.lemmas.Result.{on_ok_weaker}
-use Rattle.dns_data.specs.Name.{spelled, labels_of}
-use Rattle.dns_data.specs.NameLaws.{is_wire, view_of}
+use Rattle.std.proofs.lemmas.List.{length-take-le}
+use Rattle.dns_names.specs.Name.{spelled, labels_of}
+use Rattle.dns_names.specs.NameLaws.{is_wire, view_of}
 use Rattle.dns_wire.specs.Written.{Draft, put, put_pointer, earliest}
+use Rattle.dns_wire.specs.Offsets.{with_offset}
 use Rattle.dns_wire.proofs.Writing.{WrittenTo, points, passes, ends}
 use Rattle.dns_wire.proofs.writer.Writer.put_suffixes.Goals as goal
 
 pub find-requires : goal.find-requires
 find-requires c = is_wire c.loop-label.suffix.now c.loop-label.labels c.loop-label.invariant.suffix c.loop-label.invariant.to.proper
 
-pub keep-requires : goal.keep-requires
-keep-requires c = is_wire c.loop-label.suffix.now c.loop-label.labels c.loop-label.invariant.suffix c.loop-label.invariant.to.proper
+pub push-requires : goal.push-requires
+push-requires c = is_wire c.loop-label.suffix.now c.loop-label.labels c.loop-label.invariant.suffix c.loop-label.invariant.to.proper
 
 pub returns-in-Some-find-clause-text : goal.returns-in-Some-find-clause-text
 returns-in-Some-find-clause-text c =
@@ -31,13 +33,23 @@ loop-label-preserved c =
     let w = rw c.in-Some.ensures.value at c.loop-label.invariant.to in
     let view = view_of suffix c.loop-label.labels c.loop-label.invariant.suffix ∙ c.in-Some.ensures.value in
     let none = sym (c.in_default-find.ensures.value ∙ ap (λ (d : Draft). earliest d.offsets (labels_of suffix)) c.self.view_is ∙ ap (earliest draft.offsets) view) in
-    let kept = rw (view, c.as_wire-wire.ensures.value) at c.in_ok-keep.ensures in
-    let passed = passes c.keep.new.self w none kept in
     let wire = spelled c.args.name.now in
+    let at = length wire - length suffix in
+    let i = c.self.inside in
+    let room : i.end ≤ length i.out.items = omega (arith, c.self.invariant.1) in
+    let bytes : drop 12 (take i.end i.out.items) ≡ draft.bytes = ap (λ (d : Draft). d.bytes) c.self.view_is in
+    let front : i.end ≡ 12 + length draft.bytes = omega (arith, c.self.invariant.0, length-drop 12 (take i.end i.out.items), length-take-le i.end i.out.items room, ap length bytes) in
+    let ahead : length (take (length c.as_wire-wire.result.now - length suffix) c.as_wire-wire.result.now) ≡ length (take at wire) =
+    ap (λ (t : List ℕ). length (take (length t - length suffix) t)) c.as_wire-wire.ensures.value in
+    let size : i.end + length (take (length c.as_wire-wire.result.now - length suffix) c.as_wire-wire.result.now) ≡ 12 + length (draft.bytes ++ take at wire) =
+    omega (arith, front, length-append draft.bytes (take at wire), ahead) in
+    let offsets = c.in_ok-push.ensures ∙ (λ j. with_offset (c.self.view_is j).offsets (view j) (size j)) in
+    let new : Draft = record { bytes = drop 12 (take i.end i.out.items); offsets = c.push.new.self } in
+    let passed = passes new w none (λ j. record { bytes = bytes j; offsets = offsets j }) in
     let long = ap length (c.loop-label.invariant.suffix ∙ ap spelled c.in-Some.ensures.value) in
     let next : length wire - length suffix + (length c.in-Some._label.now + 1) ≡ length wire - length c.as_wire-suffix.result.now =
     omega (arith, long, ap length w.left, length-drop (length wire - length suffix) wire, ap length c.as_wire-suffix.ensures.value, length-append c.in-Some._label.now (spelled c.next.new.self)) in
-    record { suffix = c.as_wire-suffix.ensures.value; to = subst (λ (k : ℕ). WrittenTo c.args.self.now c.keep.new.self c.args.name.now c.next.new.self k) next passed }
+    record { suffix = c.as_wire-suffix.ensures.value; to = subst (λ (k : ℕ). WrittenTo c.args.self.now new c.args.name.now c.next.new.self k) next passed }
 
 pub returns-clause-text : goal.returns-clause-text
 returns-clause-text c =

@@ -1,5 +1,5 @@
 use Rattle.std.proofs.Common.{◌≡◌, ◌-◌, length}
-use Rattle.dns_data.specs.Name.{spelled}
+use Rattle.dns_names.specs.Name.{spelled}
 use Rattle.dns_wire.proofs.Writing.{WrittenTo}
 use Rattle.dns_wire.proofs.writer.Writer.put_suffixes.Given as goal
 

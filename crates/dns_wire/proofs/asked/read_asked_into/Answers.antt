@@ -1,6 +1,6 @@
 use Rattle.std.proofs.Common.{refl, ◌∙◌}
 use Rattle.dns_wire.specs.Asked.{asked_of}
-use Rattle.dns_wire.proofs.asked.read_asked.Goals as goal
+use Rattle.dns_wire.proofs.asked.read_asked_into.Goals as goal
 
 pub returns-in-Err-Bad : goal.returns-in-Err-Bad
 returns-in-Err-Bad c =

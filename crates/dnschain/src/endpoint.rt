@@ -1,5 +1,5 @@
-use dns_data::{NoMemory, Transport};
-use edge_net::{End, TcpEnd, UdpEnd, Why, open_tcp, open_udp};
+use dns_data::Transport;
+use edge_net::{End, TcpEnd, UdpEnd, Why, open_tcp, open_udp, open_udp_beside};
 use std::alloc::Global;
 use std::io;
 use std::io::ErrorKind;
@@ -19,7 +19,8 @@ enum Socket {
     Tcp(TcpListener),
 }
 
-/// A port that is open by one transport. The sides of its workers share the socket.
+/// A port that is open by one transport. The sides of its workers share a listener; each has a
+/// socket for datagrams.
 #[derive(Drop)]
 pub struct Endpoint {
     port: u16,
@@ -48,15 +49,16 @@ impl Endpoint {
         same && self.port == port
     }
 
-    /// One worker's share.
-    pub fn share(&self, net: &impl Net, alloc: Global) -> Result<End, Unopened> {
+    /// The share of a worker of this number. Where the system gives a port one socket alone, the
+    /// workers share it.
+    pub fn share(&self, net: &impl Net, alloc: Global, number: u32) -> Result<End, Unopened> {
         match &self.socket {
-            Socket::Udp(socket) => {
-                let socket = socket.try_clone().map_err(system_fault)?;
-                match UdpEnd::new(alloc, socket, self.port) {
-                    Ok(end) => Ok(End::Udp(end)),
-                    Err(NoMemory) => Err(Unopened::NoMemory),
-                }
+            Socket::Udp(first) => {
+                let socket = match self.beside(net, first, number) {
+                    Some(socket) => socket,
+                    None => first.try_clone().map_err(system_fault)?,
+                };
+                Ok(End::Udp(UdpEnd::new(alloc, socket, self.port)))
             }
             Socket::Tcp(listener) => {
                 match TcpEnd::new(net, alloc, listener, Bounds::usual()) {
@@ -65,6 +67,14 @@ impl Endpoint {
                 }
             }
         }
+    }
+
+    // A socket of its own for a worker that isn't the first.
+    fn beside(&self, net: &impl Net, first: &UdpSocket, number: u32) -> Option<UdpSocket> {
+        if number == 0 {
+            return None;
+        }
+        open_udp_beside(net, first, self.port).ok()
     }
 }
 

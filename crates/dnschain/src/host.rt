@@ -116,11 +116,11 @@ fn open_end(
     let (port, by, number) = place;
     if let Some(endpoint) = last {
         if number != 0 && endpoint.is_at(port, by) {
-            return endpoint.share(net, alloc);
+            return endpoint.share(net, alloc, number);
         }
     }
     let endpoint = Endpoint::open(net, port, by)?;
-    let end = endpoint.share(net, alloc)?;
+    let end = endpoint.share(net, alloc, 0)?;
     *last = Some(endpoint);
     Ok(end)
 }

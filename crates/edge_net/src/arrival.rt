@@ -1,9 +1,7 @@
-use crate::sender::Client;
-
-/// What a look for the next message gave, beside its bytes.
+/// What a look for the next message gave, beside its bytes and its client.
 #[derive(Clone, Copy, Debug, PartialEq, Eq)]
 pub enum Arrival {
-    Got(Client),
+    Got,
     /// No message came, as far as it waits: a second.
     Nothing,
     Failed,

@@ -17,18 +17,19 @@ pub(crate) enum Unreceived {
     Failed,
 }
 
-/// Receives a datagram into the packet, and says how many bytes it has and who sent it. It waits
-/// as long as the socket does, or not at all. It has failed where the call has, a signal among the
+/// Receives a datagram into the packet, and says how many bytes it has. `client` becomes who sent
+/// it. It waits as long as the socket does, or not at all. It has failed where the call has, a signal among the
 /// reasons, and where the sender has no address of either family.
 #[inline(always)]
 pub(crate) fn receive(
     socket: &UdpSocket,
     packet: &mut [u8],
     from: &mut Sender,
+    client: &mut Client,
     waits: bool,
-) -> Result<(usize, Client), Unreceived>
-    ensures count { IfOk result (λ r. r.0 ≤ length packet.new) }
-    ensures client { IfOk result (λ r. client_of from.new.bytes from.new.len ≡ Some r.1) }
+) -> Result<usize, Unreceived>
+    ensures count { IfOk result (λ count. count ≤ length packet.new) }
+    ensures client { IfOk result (λ _. client_of from.new.bytes from.new.len ≡ Some client.new) }
 {
     from.len = SPACE;
     let fd = socket.as_raw_fd();
@@ -47,7 +48,10 @@ pub(crate) fn receive(
         return Err(Unreceived::Failed);
     }
     match client_of(&from.bytes, from.len) {
-        Some(client) => Ok((got as usize, client)),
+        Some(sender) => {
+            *client = sender;
+            Ok(got as usize)
+        }
         None => Err(Unreceived::Failed),
     }
 }

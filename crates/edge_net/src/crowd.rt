@@ -4,7 +4,7 @@ ghost use Rattle.slab.specs.Slab.{slab_len};
 
 use crate::peer::{Peer, Step};
 use crate::sender::Client;
-use dns_data::Bytes;
+use dns_data::Buffer;
 use mio::net::TcpStream;
 use mio::{Interest, Registry, Token};
 use slab::Slab;
@@ -109,7 +109,7 @@ impl Crowd {
     }
 
     /// The turn of the connection at the front of the queue.
-    pub fn turn(&mut self, piece: &mut [u8], message: &mut Bytes, now: u64) -> Turn {
+    pub fn turn(&mut self, piece: &mut [u8], message: &mut Buffer, now: u64) -> Turn {
         let Some(key) = self.ready.pop_front() else {
             return Turn::Nothing;
         };

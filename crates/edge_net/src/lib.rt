@@ -29,7 +29,7 @@ pub use lines::{count, note_line, tell_line};
 pub use pause::longer;
 pub use sender::{Client, Sender, client_of};
 pub use side::{End, NetSide};
-pub use socket::{open_tcp, open_udp};
+pub use socket::{open_tcp, open_udp, open_udp_beside};
 pub use start::open_standard;
 pub use tally::Tally;
 pub use tcp::TcpEnd;

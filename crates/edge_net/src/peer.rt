@@ -2,7 +2,7 @@ ghost use Rattle.std.specs.Prelude.{◌≤◌, length};
 ghost use Rattle.dns_data.specs.declared.limit.TheConstants as limits;
 
 use crate::sender::Client;
-use dns_data::Bytes;
+use dns_data::Buffer;
 use mio::net::TcpStream;
 use std::alloc::Global;
 use std::io::{ErrorKind, Read, Write};
@@ -68,7 +68,7 @@ impl Peer {
 
     /// The next whole message. Before more is read, what waits goes out, so that the replies to a
     /// burst leave together.
-    pub fn step(&mut self, piece: &mut [u8], message: &mut Bytes, now: u64) -> Step {
+    pub fn step(&mut self, piece: &mut [u8], message: &mut Buffer, now: u64) -> Step {
         for _ in 0..READS {
             match self.bytes.next(message, now) {
                 Next::Message => return Step::Message,

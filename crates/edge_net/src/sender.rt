@@ -12,6 +12,16 @@ pub struct Client {
     pub port: u16,
 }
 
+impl Client {
+    /// Nobody, before the first message.
+    pub fn nobody() -> Client {
+        Client {
+            address: Addr::V4(0),
+            port: 0,
+        }
+    }
+}
+
 // The sizes of C's `sockaddr_in` and `sockaddr_in6`.
 const V4_LEN: u32 = 16;
 

@@ -6,11 +6,12 @@ use crate::clock::moment;
 use crate::crew::Crew;
 use crate::lines::{count, note_line};
 use crate::pause::longer;
+use crate::sender::Client;
 use crate::tally::Tally;
 use crate::tcp::TcpEnd;
 use crate::udp::UdpEnd;
 use dns_data::limit::MESSAGE_BYTES;
-use dns_data::{Bytes, Transport};
+use dns_data::{Buffer, Transport};
 use outside::{Datagram, Outcome, Received, Seen, Side, Upstream, Wrote};
 use std::alloc::Global;
 use std::random::RandomSource;
@@ -36,10 +37,15 @@ impl End {
 
     // Waits for a message, for a second.
     #[inline(always)]
-    fn recv(&mut self, rt: &(impl Clock + Files), bytes: &mut Bytes) -> Arrival {
+    fn recv(
+        &mut self,
+        rt: &(impl Clock + Files),
+        bytes: &mut Buffer,
+        client: &mut Client,
+    ) -> Arrival {
         match self {
-            End::Udp(end) => end.recv(rt, bytes),
-            End::Tcp(end) => end.recv(rt, bytes),
+            End::Udp(end) => end.recv(rt, bytes, client),
+            End::Tcp(end) => end.recv(rt, bytes, client),
         }
     }
 }
@@ -53,7 +59,9 @@ pub struct NetSide<R: Wait + Clock + RandomSource + Eprint + Files + Drop> {
     // The port at which it receives.
     local: u16,
     // The bytes of an earlier message, for the memory of the next.
-    spare: Bytes,
+    spare: Buffer,
+    // Who sent the last message.
+    client: Client,
     // How long it waited behind the last receive, where that failed, in milliseconds.
     pause: u64,
     // The sides of the run.
@@ -72,7 +80,8 @@ impl<R: Wait + Clock + RandomSource + Eprint + Files + Drop> NetSide<R> {
             alloc,
             end,
             local,
-            spare: Bytes::new(alloc),
+            spare: Buffer::new(alloc),
+            client: Client::nobody(),
             pause: 0,
             crew,
             tally: Tally::new(),
@@ -90,24 +99,23 @@ impl<R: Wait + Clock + RandomSource + Eprint + Files + Drop> Side for NetSide<R>
     /// Behind a failure it waits, up to 100 milliseconds behind many in a row. It ends once another
     /// side has left and no message is there.
     fn recv(&mut self) -> Received {
-        let mut bytes = mem::replace(&mut self.spare, Bytes::new(self.alloc));
-        match await_message(&self.rt, &mut self.end, &self.crew, &mut bytes) {
-            Arrival::Got(client) => {
-                if bytes.as_slice().is_empty() && self.crew.is_ending() {
+        let (bytes, client) = (&mut self.spare, &mut self.client);
+        match await_message(&self.rt, &mut self.end, &self.crew, bytes, client) {
+            Arrival::Got => {
+                if self.spare.len() == 0 && self.crew.is_ending() {
                     return Received::End;
                 }
                 self.pause = 0;
                 Received::Got(Datagram {
-                    bytes,
-                    client: client.address,
-                    port: client.port,
+                    bytes: mem::replace(&mut self.spare, Buffer::new(self.alloc)),
+                    client: self.client.address,
+                    port: self.client.port,
                     by: self.end.by(),
                     local: self.local,
                 })
             }
             Arrival::Nothing => Received::End,
             Arrival::Failed => {
-                self.spare = bytes;
                 count(&mut self.tally.recv);
                 self.pause = longer(self.pause);
                 thread::sleep(&self.rt, Duration::from_millis(self.pause));
@@ -165,7 +173,7 @@ impl<R: Wait + Clock + RandomSource + Eprint + Files + Drop> Side for NetSide<R>
 
     fn saw(&mut self, _what: Seen<'_>) {}
 
-    fn take_back(&mut self, bytes: Bytes) {
+    fn take_back(&mut self, bytes: Buffer) {
         self.spare = bytes;
     }
 
@@ -186,10 +194,11 @@ fn await_message<R: Clock + Files>(
     rt: &R,
     end: &mut End,
     crew: &Crew,
-    bytes: &mut Bytes,
+    bytes: &mut Buffer,
+    client: &mut Client,
 ) -> Arrival {
-    match end.recv(rt, bytes) {
-        Arrival::Nothing => await_longer(rt, end, crew, bytes),
+    match end.recv(rt, bytes, client) {
+        Arrival::Nothing => await_longer(rt, end, crew, bytes, client),
         arrival => arrival,
     }
 }
@@ -201,13 +210,14 @@ fn await_longer<R: Clock + Files>(
     rt: &R,
     end: &mut End,
     crew: &Crew,
-    bytes: &mut Bytes,
+    bytes: &mut Buffer,
+    client: &mut Client,
 ) -> Arrival {
     for _ in 0..u64::MAX {
         if crew.is_ending() {
             return Arrival::Nothing;
         }
-        match end.recv(rt, bytes) {
+        match end.recv(rt, bytes, client) {
             Arrival::Nothing => {}
             arrival => return arrival,
         }

@@ -4,7 +4,7 @@ use crate::why::Why;
 use dns_data::{Addr, Transport};
 use libc::net as c;
 use os::FromRawFd;
-use std::net::{Net, TcpListener, UdpSocket};
+use std::net::{Net, SocketAddr, TcpListener, UdpSocket};
 use std::os::fd::{AsRawFd, OwnedFd};
 use std::time::Duration;
 
@@ -29,7 +29,26 @@ enum Family {
 /// receive waits for a second, so that the end of a run is seen and the addresses of the host are
 /// looked at now and then.
 pub fn open_udp(_net: &impl Net, port: u16) -> Result<UdpSocket, Why> {
-    let socket = UdpSocket::from(open_any(Transport::Udp, port)?);
+    waiting(UdpSocket::from(open_any(Transport::Udp, port)?))
+}
+
+/// One more socket for datagrams at a port that this one has. The system gives the datagrams of
+/// each client to one of them.
+pub fn open_udp_beside(_net: &impl Net, first: &UdpSocket, port: u16) -> Result<UdpSocket, Why> {
+    let family = match first.local_addr() {
+        Ok(SocketAddr::V4(_)) => Family::V4,
+        Ok(SocketAddr::V6(_)) => Family::Both,
+        Err(fault) => return Err(Why::of_error(&fault)),
+    };
+    share_port(first);
+    let socket = new_socket(family, Transport::Udp)?;
+    share_port(&socket);
+    bind_any(&socket, family, port)?;
+    waiting(UdpSocket::from(socket))
+}
+
+// A socket with a receive buffer of 1 MiB, whose receives wait for a second.
+fn waiting(socket: UdpSocket) -> Result<UdpSocket, Why> {
     widen(&socket);
     match socket.set_read_timeout(Some(Duration::from_secs(1))) {
         Ok(()) => Ok(socket),
@@ -37,8 +56,8 @@ pub fn open_udp(_net: &impl Net, port: u16) -> Result<UdpSocket, Why> {
     }
 }
 
-/// Lets further sockets of this user have the port at single addresses.
-pub(crate) fn share_port(socket: &UdpSocket) {
+/// Lets further sockets of this user have the port.
+pub(crate) fn share_port(socket: &impl AsRawFd) {
     let value = value_of(1);
     // SAFETY: the descriptor is that of a socket which is open for the whole call.
     let _ = unsafe {
@@ -99,18 +118,24 @@ fn open_at(family: Family, by: Transport, port: u16) -> Result<OwnedFd, Why> {
         // SAFETY: the descriptor is that of a socket which is open for the whole call.
         check(unsafe { c::setsockopt(fd, c::SOL_SOCKET, c::SO_REUSEADDR, &value_of(1), 4) })?;
     }
+    bind_any(&socket, family, port)?;
+    Ok(socket)
+}
+
+// Gives a socket the port, at every address of the family.
+fn bind_any(socket: &OwnedFd, family: Family, port: u16) -> Result<(), Why> {
+    let fd = socket.as_raw_fd();
     let (every, len) = match family {
         Family::Both => {
             // The system's own setting may keep IPv4 out.
-            // SAFETY: as above.
+            // SAFETY: the descriptor is that of a socket which is open for the whole call.
             check(unsafe { c::setsockopt(fd, c::IPPROTO_IPV6, c::IPV6_V6ONLY, &value_of(0), 4) })?;
             (Addr::V6(0), V6_LEN)
         }
         Family::V4 => (Addr::V4(0), V4_LEN),
     };
     // SAFETY: as above.
-    check(unsafe { c::bind(fd, &spelt(every, port), len) })?;
-    Ok(socket)
+    check(unsafe { c::bind(fd, &spelt(every, port), len) })
 }
 
 fn new_socket(family: Family, by: Transport) -> Result<OwnedFd, Why> {

@@ -5,8 +5,8 @@ use crate::arrival::Arrival;
 use crate::calls::peer_of;
 use crate::clock::moment;
 use crate::crowd::{Crowd, Turn};
-use crate::sender::Sender;
-use dns_data::Bytes;
+use crate::sender::{Client, Sender};
+use dns_data::Buffer;
 use mio::net::TcpListener;
 use mio::{Events, Interest, Poll, Token};
 use std::alloc::Global;
@@ -73,9 +73,15 @@ impl TcpEnd {
         })
     }
 
-    /// Waits for the next whole message of any connection, each in its turn.
+    /// Waits for the next whole message of any connection, each in its turn. `client` becomes who
+    /// sent it.
     #[inline(never)]
-    pub fn recv(&mut self, clock: &impl Clock, message: &mut Bytes) -> Arrival {
+    pub fn recv(
+        &mut self,
+        clock: &impl Clock,
+        message: &mut Buffer,
+        client: &mut Client,
+    ) -> Arrival {
         self.crowd.requeue();
         for _ in 0..u64::MAX {
             if self.turns == 0 || self.crowd.ready() == 0 {
@@ -88,7 +94,10 @@ impl TcpEnd {
             self.turns = self.turns.saturating_sub(1);
             let now = moment(clock).unwrap_or(0);
             match self.crowd.turn(self.piece.as_mut_slice(), message, now) {
-                Turn::Got(client) => return Arrival::Got(client),
+                Turn::Got(sender) => {
+                    *client = sender;
+                    return Arrival::Got;
+                }
                 Turn::NoMemory => return Arrival::NoMemory,
                 Turn::Nothing => {}
             }

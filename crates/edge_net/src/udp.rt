@@ -1,4 +1,4 @@
-ghost use Rattle.std.specs.Prelude.{◌≡◌, ◌≤◌, length, Some, IfOk};
+ghost use Rattle.std.specs.Prelude.{◌≡◌, ◌≤◌, vec_len, Some, IfOk};
 ghost use Rattle.edge_net.specs.Sender.{client_of};
 
 use crate::addresses::host_addresses;
@@ -7,10 +7,11 @@ use crate::calls::{Unreceived, receive, reply_to};
 use crate::clock::moment;
 use crate::sender::{Client, Sender};
 use crate::socket::{open_udp_at, share_port};
-use dns_data::{Addr, Bytes, NoMemory};
+use dns_data::{Addr, Buffer, NoMemory};
 use libc::net as c;
 use libc::types::pollfd;
 use std::alloc::Global;
+use std::mem;
 use std::net::{Ipv4Addr, Ipv6Addr, SocketAddr, UdpSocket};
 use std::os::fd::AsRawFd;
 use std::rt::Files;
@@ -42,7 +43,6 @@ pub struct UdpEnd {
     asked: Vec<pollfd>,
     // Which had the last datagram: 0 the one at every address, n + 1 the n-th of the others.
     at: usize,
-    packet: Vec<u8>,
     // The sender of the last datagram.
     from: Sender,
     // How many datagrams may come before the clock is looked at.
@@ -53,8 +53,8 @@ pub struct UdpEnd {
 
 impl UdpEnd {
     /// A share of a socket that has the port at every address.
-    pub fn new(alloc: Global, socket: UdpSocket, port: u16) -> Result<UdpEnd, NoMemory> {
-        Ok(UdpEnd {
+    pub fn new(alloc: Global, socket: UdpSocket, port: u16) -> UdpEnd {
+        UdpEnd {
             alloc,
             port,
             socket,
@@ -62,46 +62,57 @@ impl UdpEnd {
             others: Vec::new(alloc),
             asked: Vec::new(alloc),
             at: 0,
-            packet: Vec::from_elem(alloc, 0u8, LARGEST)?,
             from: Sender::nobody(),
             row: 0,
             looked: None,
-        })
+        }
     }
 
-    /// Waits for the next datagram, whose bytes come in place of what the message held.
+    /// Waits for the next datagram, whose bytes come in place of what the message held, and which
+    /// the system writes into the message's room. `client` becomes who sent it.
     #[inline(always)]
-    pub fn recv(&mut self, rt: &(impl Clock + Files), message: &mut Bytes) -> Arrival
-        ensures { (client : Client) → result ≡ Arrival.Got client
-            → client_of self.new.from.bytes self.new.from.len ≡ Some client }
+    pub fn recv(
+        &mut self,
+        rt: &(impl Clock + Files),
+        message: &mut Buffer,
+        client: &mut Client,
+    ) -> Arrival
+        ensures { result ≡ Arrival.Got
+            → client_of self.new.from.bytes self.new.from.len ≡ Some client.new }
     {
         if self.row == 0 {
             self.row = ROW;
             self.look(rt);
         }
         self.row = self.row.saturating_sub(1);
-        match self.receive() {
-            Ok((count, client)) => {
-                message.clear();
-                match message.append(&self.packet[..count]) {
-                    Ok(()) => Arrival::Got(client),
-                    Err(_) => Arrival::NoMemory,
-                }
+        let mut packet = mem::replace(message, Buffer::new(self.alloc)).into_room();
+        if packet.len() < LARGEST && packet.resize(LARGEST, 0).is_err() {
+            return Arrival::NoMemory;
+        }
+        match self.receive(&mut packet, client) {
+            Ok(count) => {
+                *message = Buffer::front(packet, count);
+                Arrival::Got
             }
             Err(Unreceived::Nothing) => {
+                *message = Buffer::front(packet, 0);
                 self.row = 0;
                 Arrival::Nothing
             }
-            Err(Unreceived::Failed) => Arrival::Failed,
+            Err(Unreceived::Failed) => {
+                *message = Buffer::front(packet, 0);
+                Arrival::Failed
+            }
         }
     }
 
-    /// Sends empty datagrams to the port from within, so that so many blocked receives go on. Where
-    /// that fails they go on within a second.
+    /// Sends empty datagrams to the port from within, so that the blocked receives of so many
+    /// workers go on. The system picks a socket by the addresses, so they go to several of the
+    /// loopback's. A worker that gets none goes on within a second.
     pub fn poke(&self, count: u64) {
-        let loopback = SocketAddr::from((Ipv6Addr::LOCALHOST, self.port));
-        let fallback = SocketAddr::from((Ipv4Addr::LOCALHOST, self.port));
-        for _ in 0..count.min(64) {
+        let fallback = SocketAddr::from((Ipv6Addr::LOCALHOST, self.port));
+        for last in 1..=count.min(15) as u8 * 16 {
+            let loopback = SocketAddr::from((Ipv4Addr::new(127, 0, 0, last), self.port));
             if self.socket.send_to(&[], loopback).is_err() {
                 let _ = self.socket.send_to(&[], fallback);
             }
@@ -119,40 +130,42 @@ impl UdpEnd {
 
     // The next datagram. Mostly there is one socket.
     #[inline(always)]
-    fn receive(&mut self) -> Result<(usize, Client), Unreceived>
-        ensures count { IfOk result (λ r. r.0 ≤ length self.new.packet.items) }
-        ensures client { IfOk result (λ r.
-            client_of self.new.from.bytes self.new.from.len ≡ Some r.1) }
+    fn receive(&mut self, packet: &mut Vec<u8>, client: &mut Client) -> Result<usize, Unreceived>
+        ensures count { IfOk result (λ count. count ≤ vec_len packet.new) }
+        ensures client { IfOk result (λ _.
+            client_of self.new.from.bytes self.new.from.len ≡ Some client.new) }
     {
         if self.others.is_empty() {
             self.at = 0;
-            return receive(
-                &self.socket,
-                self.packet.as_mut_slice(),
-                &mut self.from,
-                true,
-            );
+            let (socket, packet) = (&self.socket, packet.as_mut_slice());
+            return receive(socket, packet, &mut self.from, client, true);
         }
-        self.receive_any()
+        self.receive_any(packet, client)
     }
 
     // A datagram of any of the sockets. While the one that had the last has more, it goes on.
     #[inline(never)]
-    fn receive_any(&mut self) -> Result<(usize, Client), Unreceived>
-        ensures count { IfOk result (λ r. r.0 ≤ length self.new.packet.items) }
-        ensures client { IfOk result (λ r.
-            client_of self.new.from.bytes self.new.from.len ≡ Some r.1) }
+    fn receive_any(
+        &mut self,
+        packet: &mut Vec<u8>,
+        client: &mut Client,
+    ) -> Result<usize, Unreceived>
+        ensures count { IfOk result (λ count. count ≤ vec_len packet.new) }
+        ensures client { IfOk result (λ _.
+            client_of self.new.from.bytes self.new.from.len ≡ Some client.new) }
     {
         if self.row % 8 != 0 {
             let socket = socket_at(&self.socket, &self.others, self.at);
-            match receive(socket, self.packet.as_mut_slice(), &mut self.from, false) {
+            let packet = packet.as_mut_slice();
+            match receive(socket, packet, &mut self.from, client, false) {
                 Err(Unreceived::Nothing) => {}
                 received => return received,
             }
         }
         self.at = next_ready(self.asked.as_mut_slice(), self.at)?;
         let socket = socket_at(&self.socket, &self.others, self.at);
-        receive(socket, self.packet.as_mut_slice(), &mut self.from, false)
+        let packet = packet.as_mut_slice();
+        receive(socket, packet, &mut self.from, client, false)
     }
 
     // Looks at the addresses of the host once in ten seconds. Where they changed, the sockets at

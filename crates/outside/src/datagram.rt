@@ -1,10 +1,10 @@
-use dns_data::{Addr, Bytes, Copies, NoMemory, Transport};
+use dns_data::{Addr, Buffer, Bytes, Copies, NoMemory, Transport};
 use std::alloc::Global;
 
 /// A message as it came from a client, with where it came from and where it arrived.
 #[derive(Debug, Drop)]
 pub struct Datagram {
-    pub bytes: Bytes,
+    pub bytes: Buffer,
     pub client: Addr,
     /// The client's port.
     pub port: u16,

@@ -7,7 +7,7 @@ ghost use Rattle.stream_connection.specs.Connections.{HasMessage};
 
 use crate::backlog::Backlog;
 use crate::bounds::{Bounds, is_past};
-use dns_data::{Bytes, NoMemory};
+use dns_data::{Buffer, NoMemory};
 use std::alloc::Global;
 use std::marker::Model;
 use stream_wire::{Front, first_message};
@@ -80,7 +80,7 @@ impl Connection {
     }
 
     /// Gives the first message of what came, in place of what the message held, where it is whole.
-    pub fn next(&mut self, message: &mut Bytes, now: u64) -> Next
+    pub fn next(&mut self, message: &mut Buffer, now: u64) -> Next
         ensures { GivesNext self.old self.new message.new now result }
     {
         let Front::Whole(first) = first_message(self.came.as_slice()) else {

@@ -1,5 +1,5 @@
 use crate::{Bounds, Connection, Next, Replied};
-use dns_data::Bytes;
+use dns_data::Buffer;
 use std::alloc::Global;
 use std::test::Fail;
 
@@ -18,7 +18,7 @@ const TIMES: Bounds = Bounds {
 // are in all.
 fn lengths(alloc: Global, size: usize) -> Result<Vec<usize>, Fail> {
     let mut connection = Connection::new(alloc, 0);
-    let mut message = Bytes::new(alloc);
+    let mut message = Buffer::new(alloc);
     let mut found = Vec::new(alloc);
     for start in 0..STREAM.len() {
         if start % size.max(1) != 0 {
@@ -71,7 +71,7 @@ fn a_connection_is_late_by_its_bounds(rt: HostRuntime) -> Result<(), Fail> {
     connection.come(&STREAM, 1_050)?;
     assert!(rt; !connection.is_late(&TIMES, 1, 1_080));
     assert!(rt; connection.is_late(&TIMES, 1, 1_081), "a part");
-    let mut message = Bytes::new(rt.alloc());
+    let mut message = Buffer::new(rt.alloc());
     assert_eq!(rt; connection.next(&mut message, 1_090), Next::Message);
     assert!(rt; !connection.is_late(&TIMES, 1, 1_120));
     Ok(())

@@ -1,5 +1,5 @@
-use crate::{Arrival, UdpEnd, open_udp};
-use dns_data::{Addr, Bytes};
+use crate::{Arrival, Client, UdpEnd, open_udp};
+use dns_data::{Addr, Buffer};
 use std::net::{Ipv4Addr, SocketAddr, UdpSocket};
 use std::test::Fail;
 
@@ -8,14 +8,15 @@ fn a_datagram_comes_with_its_client_and_the_reply_goes_back(rt: HostRuntime) -> 
     let socket = open_udp(&rt, 0)?;
     let port = socket.local_addr()?.port();
     let server = SocketAddr::from((Ipv4Addr::LOCALHOST, port));
-    let mut end = UdpEnd::new(rt.alloc(), socket, port)?;
+    let mut end = UdpEnd::new(rt.alloc(), socket, port);
     let client = UdpSocket::bind(&rt, SocketAddr::from((Ipv4Addr::LOCALHOST, 0)))?;
     client.send_to(b"query", server)?;
-    let mut message = Bytes::new(rt.alloc());
-    let Arrival::Got(from) = end.recv(&rt, &mut message) else {
+    let mut message = Buffer::new(rt.alloc());
+    let mut from = Client::nobody();
+    let Arrival::Got = end.recv(&rt, &mut message, &mut from) else {
         return Err(Fail::new("no datagram"));
     };
-    assert!(rt; message.is(b"query"));
+    assert_eq!(rt; message.as_slice(), b"query".as_slice());
     assert_eq!(rt; from.address, Addr::V4(0x7f00_0001));
     assert_eq!(rt; from.port, client.local_addr()?.port());
     assert!(rt; end.reply(b"reply"));

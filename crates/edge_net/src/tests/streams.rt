@@ -1,5 +1,5 @@
-use crate::{Arrival, TcpEnd, open_tcp};
-use dns_data::Bytes;
+use crate::{Arrival, Client, TcpEnd, open_tcp};
+use dns_data::Buffer;
 use std::io::{Read, Write};
 use std::net::{Ipv4Addr, SocketAddr, TcpStream};
 use std::test::Fail;
@@ -28,11 +28,12 @@ fn connected(rt: &HostRuntime, server: SocketAddr) -> Result<TcpStream, Fail> {
 
 // Whether the next message is the query, of this client, which gets it back as its reply.
 fn echoes(rt: &HostRuntime, end: &mut TcpEnd, client: &TcpStream) -> Result<bool, Fail> {
-    let mut message = Bytes::new(rt.alloc());
-    let Arrival::Got(from) = end.recv(rt, &mut message) else {
+    let mut message = Buffer::new(rt.alloc());
+    let mut from = Client::nobody();
+    let Arrival::Got = end.recv(rt, &mut message, &mut from) else {
         return Ok(false);
     };
-    let is_query = message.is(&STREAM[2..]) && from.port == client.local_addr()?.port();
+    let is_query = message.as_slice() == &STREAM[2..] && from.port == client.local_addr()?.port();
     Ok(end.reply(&STREAM[2..]) && is_query)
 }
 
@@ -111,13 +112,14 @@ fn many_queries_in_one_write_share_the_turns(rt: HostRuntime) -> Result<(), Fail
 fn a_client_that_never_reads_is_closed(rt: HostRuntime) -> Result<(), Fail> {
     let (mut end, server) = opened(&rt, Bounds::usual())?;
     let mut client = connected(&rt, server)?;
-    let mut message = Bytes::new(rt.alloc());
+    let mut message = Buffer::new(rt.alloc());
+    let mut from = Client::nobody();
     let large = Vec::from_elem(rt.alloc(), 7u8, 65_535)?;
     let mut refused = false;
     for _ in 0..400 {
         client.write_all(&STREAM)?;
-        let arrival = end.recv(&rt, &mut message);
-        assert!(rt; matches!(arrival, Arrival::Got(_)));
+        let arrival = end.recv(&rt, &mut message, &mut from);
+        assert_eq!(rt; arrival, Arrival::Got);
         if !end.reply(&large[..large.len().min(65_535)]) {
             refused = true;
             break;

@@ -2,7 +2,7 @@ ghost use Rattle.std.specs.Prelude.{IfOk};
 ghost use Rattle.outside_mem.specs.Unused.{IsUnusedSide, IsUnusedWatch};
 
 use crate::{MemHost, MemSide, MemWatch};
-use dns_data::{Addr, Answer, Bytes, Name, NoMemory, Query, Seq, Text, Transport};
+use dns_data::{Addr, Answer, Buffer, Bytes, Name, NoMemory, Query, Seq, Text, Transport};
 use outside::{
     Class, Datagram, Entry, FileSet, Host, InnerMark, Key, Outcome, ReadOut, Received, Seen, Side,
     SideScript, Upstream, Watch, WatchScript,
@@ -16,7 +16,7 @@ const UPSTREAM: Upstream = Upstream {
 
 fn datagram(alloc: Global, byte: u8) -> Result<Datagram, NoMemory> {
     Ok(Datagram {
-        bytes: Bytes::from_slice(alloc, &[byte])?,
+        bytes: Buffer::from_slice(alloc, &[byte])?,
         client: Addr::V4(0x7f00_0001),
         port: 4000,
         by: Transport::Udp,

@@ -1,8 +1,9 @@
 -- What a text says, step by step.
 use Rattle.std.proofs.Common.{◌≡◌, ℕ, zero, suc, List, [], ◌∷◌, ◌++◌, drop, Option, Some, None, option_map, false, refl, sym, ap, append_assoc, ◌∙◌}
-use Rattle.dns_data.specs.NameText.{byte_at}
+use Rattle.dns_names.specs.NameText.{byte_at}
 use Rattle.record_text.specs.declared.form.Form.TheVariants.{Alone}
 use Rattle.record_text.specs.Strings.{byte_then, bytes_from, hex_byte, hex_of}
+use Rattle.record_text.specs.HeadLaws.{words-skip}
 use Rattle.record_text.specs.Words.{WordData, is_blank, word_in, word_then, words_from}
 
 -- an item more in front of what follows
@@ -15,11 +16,6 @@ pub bytes-skip : (skip : ℕ) (text : List ℕ) → bytes_from skip text ≡ byt
 bytes-skip zero text = refl
 bytes-skip (suc skip) [] = refl
 bytes-skip (suc skip) (x ∷ text) = bytes-skip skip text
-
-pub words-skip : (skip : ℕ) (text : List ℕ) → words_from skip text ≡ words_from 0 (drop skip text)
-words-skip zero text = refl
-words-skip (suc skip) [] = refl
-words-skip (suc skip) (x ∷ text) = words-skip skip text
 
 -- one more byte of hexadecimal digits
 pub hex_step : (digits found new rest behind others : List ℕ) (high low byte : ℕ) → option_map (λ o. found ++ o) (hex_of rest) ≡ hex_of digits

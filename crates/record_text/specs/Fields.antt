@@ -4,7 +4,7 @@ use Rattle.std.specs.Prelude.{Some, None, option_map, option_and_then, Result, O
 use Rattle.std.specs.Prelude.{if◌then◌else◌}
 use Rattle.dns_addr.specs.AddrText.{addr_of}
 use Rattle.dns_data.specs.Addresses.{Addr, V4, V6}
-use Rattle.dns_data.specs.NameText.{name_of}
+use Rattle.dns_names.specs.NameText.{name_of}
 use Rattle.record_text.specs.declared.form.Form.{Form}
 use Rattle.record_text.specs.declared.form.Form.TheVariants.{Alone, ZoneFile}
 use Rattle.record_text.specs.declared.fault.RecordFault.{RecordFault}

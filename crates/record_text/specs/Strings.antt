@@ -4,7 +4,7 @@ use Rattle.std.specs.Prelude.{Option, Some, None, option_map, option_and_then, i
 use Rattle.std.specs.List.{list_all}
 use Rattle.std.specs.Char.{is_ascii_alphanumeric}
 use Rattle.dns_addr.specs.AddrText.{hex_digit}
-use Rattle.dns_data.specs.NameText.{byte_at}
+use Rattle.dns_names.specs.NameText.{byte_at}
 use Rattle.dns_data.specs.declared.limit.TheConstants as limits
 
 -- a byte, and the bytes behind its spelling

@@ -1,6 +1,6 @@
 ghost use Rattle.std.specs.Prelude.{◌≡◌, ◌≤◌, ◌+◌, true, length, IfSome};
 ghost use Rattle.std.specs.Char.{is_ascii_digit};
-ghost use Rattle.dns_data.specs.NameText.{byte_at, escaped, numbered};
+ghost use Rattle.dns_names.specs.NameText.{byte_at, escaped, numbered};
 
 /// The byte at the head of a text, which may be escaped, and how many bytes behind the first spell
 /// it.

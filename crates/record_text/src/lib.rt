@@ -6,6 +6,7 @@ mod escape;
 mod fault;
 mod fields;
 mod form;
+mod head;
 mod hex;
 mod read;
 mod rows;
@@ -17,6 +18,7 @@ mod word;
 
 pub use fault::RecordFault;
 pub use form::{Form, Place};
+pub use head::{AddressHead, is_simple, read_address, read_address_head};
 pub use read::{read_of_owner, read_owned, read_record};
 pub use ttl::read_ttl;
 pub use word::{Word, Words, first_word, read_name};

@@ -65,8 +65,8 @@ pub fn read_of_owner(
     Ok(Record::new(owner, class::IN, ttl, rdata))
 }
 
-// The TTL, and the words behind TTL and class.
-fn behind_head<'w, 'a>(words: &'w [Word<'a>], given: u32) -> (u32, &'w [Word<'a>])
+/// The TTL, and the words behind TTL and class.
+pub(crate) fn behind_head<'w, 'a>(words: &'w [Word<'a>], given: u32) -> (u32, &'w [Word<'a>])
     requires { given < 2 ^ 31 }
     ensures value { (result.0, result.1.now) ≡ head_of given words.now }
     ensures below { result.0 < 2 ^ 31 }

@@ -3,3 +3,4 @@ mod Judged
 mod Saying
 mod Searched
 mod Codes
+mod Headed

@@ -5,6 +5,7 @@ pub mod Judging
 pub mod Template
 pub mod Parts
 pub mod Made
+pub mod Heads
 -- what public clauses cite
 pub use Rattle.pattern_judging.specs.{maker_behind}
 pub use Rattle.template_plugin.specs.Judging.{ReadsTemplate, template_task}

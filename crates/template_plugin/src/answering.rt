@@ -1,16 +1,19 @@
-ghost use Rattle.std.specs.Prelude.{◌≡◌, ◌<◌, ℕ, [], false, IfOk, OnOk};
+ghost use Rattle.std.specs.Prelude.{◌≡◌, ◌<◌, ◌≤◌, ℕ, [], drop, false, length, slice_index, IfOk};
+ghost use Rattle.std.specs.Prelude.{OnOk};
 ghost use Rattle.dns_data.specs.Message.{no_answer};
 ghost use Rattle.record_text.specs.{record_spelt};
+ghost use Rattle.template_plugin.specs.Heads.{BeginsAddress};
 ghost use Rattle.template_plugin.specs.Made.{HasParts, Says, filling_data};
-ghost use Rattle.template_plugin.specs.Parts.{answer_by, full_answer, joined, records_by};
-ghost use Rattle.template_plugin.specs.Parts.{whole, with_one};
-ghost use Rattle.template_plugin.specs.Template.{default_ttl, said_of};
+ghost use Rattle.template_plugin.specs.Parts.{answer_by, full_answer, joined, record_by};
+ghost use Rattle.template_plugin.specs.Parts.{records_by, whole, with_one};
+ghost use Rattle.template_plugin.specs.Template.{default_ttl, said_of, searched};
 
 use crate::filling::{Filling, fill_in};
 use crate::part::{Part, Sections};
+use crate::record_parts::{DEFAULT_TTL, RecordParts};
 use crate::say::TemplateSay;
-use dns_data::{Bytes, Name, NoMemory, RecordRoom, Seq, Slot};
-use record_text::{RecordFault, read_record};
+use dns_data::{Bytes, Name, NoMemory, RecordRoom, Slot};
+use record_text::{AddressHead, RecordFault, is_simple, read_address, read_record};
 use std::alloc::Global;
 
 /// Answers with the records of texts, where each makes one. `text` is room for one of them.
@@ -23,6 +26,7 @@ pub(crate) fn answer(
     slot: &mut Slot,
 ) -> Result<TemplateSay, NoMemory>
     requires parts { HasParts filling.now }
+    requires name { filling.now.name.now ≡ searched filling.now.query.now.name }
     requires clear { slot.old ≡ no_answer }
     requires small { rcode < 16 }
     ensures { IfOk result (λ say.
@@ -47,6 +51,7 @@ fn push_sections(
     slot: &mut Slot,
 ) -> Result<bool, NoMemory>
     requires parts { HasParts filling.now }
+    requires name { filling.now.name.now ≡ searched filling.now.query.now.name }
     requires clear { slot.old ≡ no_answer }
     ensures value { IfOk result (λ full. (rcode : ℕ) →
         answer_by (filling_data filling.now) sections.now rcode ≡ full_answer full rcode slot.new) }
@@ -67,20 +72,19 @@ fn push_sections(
 // Adds the records of texts, where each makes one.
 fn push_records(
     alloc: Global,
-    texts: &[Seq<Part>],
+    texts: &[RecordParts],
     filling: &Filling<'_, '_, '_, '_>,
     text: &mut Bytes,
     out: &mut RecordRoom,
 ) -> Result<bool, NoMemory>
     requires parts { HasParts filling.now }
+    requires name { filling.now.name.now ≡ searched filling.now.query.now.name }
     ensures { IfOk result (λ full.
         joined out.old (records_by (filling_data filling.now) texts.now) ≡ whole full out.new) }
 {
     let mut rest = texts;
     while let Some((parts, behind)) = rest.split_first() {
-        text.clear();
-        fill_in(alloc, parts.as_slice(), filling, text)?;
-        if !push_record(alloc, text.as_slice(), out)? {
+        if !push_filled(alloc, parts, filling, text, out)? {
             return Ok(false);
         }
         rest = behind;
@@ -89,6 +93,93 @@ fn push_records(
 }
 
 // Adds the record of a text, where it makes one.
+fn push_filled(
+    alloc: Global,
+    parts: &RecordParts,
+    filling: &Filling<'_, '_, '_, '_>,
+    text: &mut Bytes,
+    out: &mut RecordRoom,
+) -> Result<bool, NoMemory>
+    requires parts { HasParts filling.now }
+    requires name { filling.now.name.now ≡ searched filling.now.query.now.name }
+    ensures { IfOk result (λ full.
+        with_one out.old (record_by (filling_data filling.now) parts.now) ≡ whole full out.new) }
+{
+    match parts.head() {
+        Some(head) => push_headed(alloc, parts.as_slice(), head, filling, text, out),
+        None => push_read(alloc, parts.as_slice(), filling, text, out),
+    }
+}
+
+// The same for a text that begins with the name, which needn't be read anew: what stands behind the
+// head is read alone, where it is one word.
+fn push_headed(
+    alloc: Global,
+    parts: &[Part],
+    head: AddressHead,
+    filling: &Filling<'_, '_, '_, '_>,
+    text: &mut Bytes,
+    out: &mut RecordRoom,
+) -> Result<bool, NoMemory>
+    requires head { BeginsAddress parts.now head }
+    requires parts { HasParts filling.now }
+    requires name { filling.now.name.now ≡ searched filling.now.query.now.name }
+    ensures { IfOk result (λ full.
+        with_one out.old (record_by (filling_data filling.now) parts.now) ≡ whole full out.new) }
+{
+    text.clear();
+    fill_in(alloc, behind_name(parts), filling, text)?;
+    let word = behind(text.as_slice(), head.size);
+    if !is_simple(word) {
+        return push_read(alloc, parts, filling, text, out);
+    }
+    let owner = filling.query.name.lower(alloc)?;
+    are_bytes(owner.as_wire());
+    let Some(addr) = read_address(head.six, word) else {
+        return Ok(false);
+    };
+    out.push_address(alloc, &owner, head.ttl, addr)?;
+    Ok(true)
+}
+
+// The parts behind the name, which is the second.
+fn behind_name(parts: &[Part]) -> &[Part]
+    requires { 2 ≤ length parts.now }
+    ensures { result.now ≡ drop 2 parts.now }
+{
+    &parts[2..]
+}
+
+fn behind(text: &[u8], size: usize) -> &[u8]
+    requires { size ≤ length text.now }
+    ensures { result.now ≡ drop size text.now }
+{
+    &text[size..]
+}
+
+// Tells the caller what the type says of each item.
+fn are_bytes(items: &[u8])
+    ensures { (k : ℕ) → slice_index items.now k < 256 }
+{}
+
+// Adds the record of a text that is read as a whole.
+fn push_read(
+    alloc: Global,
+    parts: &[Part],
+    filling: &Filling<'_, '_, '_, '_>,
+    text: &mut Bytes,
+    out: &mut RecordRoom,
+) -> Result<bool, NoMemory>
+    requires parts { HasParts filling.now }
+    ensures { IfOk result (λ full.
+        with_one out.old (record_by (filling_data filling.now) parts.now) ≡ whole full out.new) }
+{
+    text.clear();
+    fill_in(alloc, parts, filling, text)?;
+    push_record(alloc, text.as_slice(), out)
+}
+
+// Adds the record that a text spells, where it spells one.
 fn push_record(alloc: Global, text: &[u8], out: &mut RecordRoom) -> Result<bool, NoMemory>
     ensures { IfOk result (λ full.
         with_one out.old (record_spelt text.now [] default_ttl) ≡ whole full out.new) }
@@ -102,6 +193,3 @@ fn push_record(alloc: Global, text: &[u8], out: &mut RecordRoom) -> Result<bool,
         Err(RecordFault::NoMemory) => Err(NoMemory),
     }
 }
-
-// The TTL of a record whose text has none, in seconds.
-const DEFAULT_TTL: u32 = 3600;

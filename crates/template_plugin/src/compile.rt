@@ -10,6 +10,7 @@ ghost use Rattle.template_plugin.specs.Words.{all_words};
 use crate::part::{Part, Sections};
 use crate::piece::{Piece, Place};
 use crate::piece_read::read_pieces;
+use crate::record_parts::RecordParts;
 use crate::words::words_after;
 use dns_data::{Bytes, Line, NoMemory, Seq, Text};
 use pattern::Pattern;
@@ -55,7 +56,7 @@ fn section_of(
     pattern: Option<&Pattern>,
     section: &[u8],
     lines: &[Line],
-) -> Result<Seq<Seq<Part>>, NoMemory>
+) -> Result<Seq<RecordParts>, NoMemory>
     ensures { IfOk result (λ texts. texts
         ≡ compiled_texts (numbers_of (option_map (λ p. p.now) pattern.entry))
         (all_words section.now lines.now)) }
@@ -75,7 +76,7 @@ fn add_texts(
     alloc: Global,
     pattern: Option<&Pattern>,
     words: &[Text],
-    texts: &mut Seq<Seq<Part>>,
+    texts: &mut Seq<RecordParts>,
 ) -> Result<(), NoMemory>
     ensures { OnOk result (texts.new ≡ texts.old
         ++ compiled_texts (numbers_of (option_map (λ p. p.now) pattern.entry)) words.now) }
@@ -89,13 +90,13 @@ fn add_texts(
 }
 
 // A text as it is filled in.
-fn text_of(alloc: Global, pattern: Option<&Pattern>, text: &[u8]) -> Result<Seq<Part>, NoMemory>
+fn text_of(alloc: Global, pattern: Option<&Pattern>, text: &[u8]) -> Result<RecordParts, NoMemory>
     ensures { IfOk result (λ parts. parts
         ≡ compiled_text (numbers_of (option_map (λ p. p.now) pattern.entry)) text.now) }
 {
     match read_pieces(alloc, text)? {
-        Some(pieces) => parts_of(alloc, pattern, pieces.as_slice()),
-        None => Ok(Seq::new(alloc)),
+        Some(pieces) => RecordParts::new(alloc, parts_of(alloc, pattern, pieces.as_slice())?),
+        None => RecordParts::new(alloc, Seq::new(alloc)),
     }
 }
 

@@ -11,6 +11,7 @@ mod piece;
 mod piece_read;
 mod plan;
 mod reading;
+mod record_parts;
 mod say;
 mod searching;
 #[cfg(test)]
@@ -21,4 +22,5 @@ pub use options::{Earlier, Opens, Seen};
 pub use part::{Part, Sections};
 pub use piece::{Piece, Place};
 pub use plan::TemplatePlan;
+pub use record_parts::RecordParts;
 pub use say::{TemplateRoom, TemplateSay, decide};

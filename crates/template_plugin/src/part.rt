@@ -1,3 +1,4 @@
+use crate::record_parts::RecordParts;
 use dns_data::{Bytes, Seq};
 
 /// A piece of a text as it is filled in, with groups by their numbers.
@@ -14,7 +15,7 @@ pub enum Part {
 /// The texts of the three sections of an answer.
 #[derive(Debug, Drop)]
 pub struct Sections {
-    pub answer: Seq<Seq<Part>>,
-    pub authority: Seq<Seq<Part>>,
-    pub additional: Seq<Seq<Part>>,
+    pub answer: Seq<RecordParts>,
+    pub authority: Seq<RecordParts>,
+    pub additional: Seq<RecordParts>,
 }

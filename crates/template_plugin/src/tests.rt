@@ -82,6 +82,110 @@ fn answers_with_the_address_that_a_text_makes(rt: HostRuntime) -> Result<(), Fai
     Ok(())
 }
 
+#[test]
+fn answers_with_what_the_whole_text_spells(rt: HostRuntime) -> Result<(), Fail> {
+    for (text, ttl) in [
+        ("{{.Name}}_60_IN_A_10.0.0.7", Some(60)),
+        ("{{.Name}}_IN_1m_A_10.0.0.7", Some(60)),
+        ("{{.Name}}_A_10.0.0.7", Some(3600)),
+        ("{{.Name}}_A_10.0.0.7_", Some(3600)),
+        ("{{.Name}}__60_IN_A_10.0.0.7", Some(60)),
+        ("{{.Name}}_60_{{.Class}}_{{.Type}}_10.0.0.7", Some(60)),
+        ("{{.Name}}_60_IN_A_\"10.0.0.7\"", Some(60)),
+        ("{{.Name}}_60_IN_A_10.0.0.7_x", None),
+        ("{{.Name}}_60_IN_A_", None),
+        ("{{.Name}}_60_IN_A_::7", None),
+        ("{{.Name}}_60_IN_AAAA_10.0.0.7", None),
+        ("{{.Name}}_60_CH_A_10.0.0.7", None),
+    ] {
+        let mut slot = Slot::new(rt.alloc());
+        let body = body_of(rt.alloc(), text)?;
+        say(
+            rt.alloc(),
+            "IN A",
+            body.as_str(),
+            "h7.example.org.",
+            &mut slot,
+        )?;
+        let made = address_of(slot.answer.as_slice()).map(|found| found.0);
+        assert_eq!(rt; made, ttl, "{text}");
+    }
+    Ok(())
+}
+
+#[test]
+fn names_the_owner_as_the_query_does_in_small_letters(rt: HostRuntime) -> Result<(), Fail> {
+    for (name, owner) in [
+        ("h7.example.org.", "h7.example.org."),
+        ("H7.Example.ORG.", "h7.example.org."),
+        (r"a\.B.example.org.", r"a\.b.example.org."),
+        (r#"a\\\032\".org."#, r#"a\\\032\".org."#),
+        (r"\255\000.", r"\255\000."),
+        (".", "."),
+    ] {
+        let mut slot = Slot::new(rt.alloc());
+        let body = "answer {{.Name}}_60_IN_A_10.0.0.7";
+        say(rt.alloc(), "IN A", body, name, &mut slot)?;
+        let made = owner_of(rt.alloc(), slot.answer.as_slice())?;
+        assert_eq!(rt; made.as_str(), owner, "{name}");
+    }
+    Ok(())
+}
+
+#[test]
+fn knows_the_texts_of_addresses_behind_the_name(rt: HostRuntime) -> Result<(), Fail> {
+    for (text, want) in [
+        ("{{.Name}}_60_IN_A_10.0.0.7", Some((9, 60, false))),
+        ("{{_.Name_}}_IN_1m_A_{{.Group.n}}", Some((9, 60, false))),
+        (
+            "{{.Name}}_AAAA_2001:db8::{{.Group.n}}",
+            Some((6, 3600, true)),
+        ),
+        ("{{.Name}}__A_10.0.0.7", None),
+        ("{{.Name}}.org._A_10.0.0.7", None),
+        ("www.{{.Name}}_A_10.0.0.7", None),
+        ("{{.Zone}}_A_10.0.0.7", None),
+        ("{{.Name}}_MX_10_mail.org.", None),
+    ] {
+        let found = head_in(rt.alloc(), text)?;
+        assert_eq!(rt; found, want, "{text}");
+    }
+    Ok(())
+}
+
+// What was read behind the name in the first text of an answer: its size, TTL, and whether the type
+// is AAAA.
+fn head_in(alloc: Global, text: &str) -> Result<Option<(usize, u32, bool)>, Fail> {
+    let body = body_of(alloc, text)?;
+    match read(alloc, "IN A", body.as_str())? {
+        Ok(plan) => Ok(first_head(&plan)),
+        Err(_) => Err("a plan".into()),
+    }
+}
+
+fn first_head(plan: &TemplatePlan) -> Option<(usize, u32, bool)> {
+    let parts = plan.whole.answer.as_slice().first()?;
+    let head = parts.head()?;
+    Some((head.size, head.ttl, head.six))
+}
+
+// The line of a text.
+fn body_of(alloc: Global, text: &str) -> Result<Text, NoMemory> {
+    let mut body = Text::from_str(alloc, "answer ")?;
+    for character in text.chars() {
+        body.push(character)?;
+    }
+    Ok(body)
+}
+
+// The text of the owner of the first record of an answer.
+fn owner_of(alloc: Global, answer: &[Record]) -> Result<Text, NoMemory> {
+    match answer.first() {
+        Some(made) => made.owner.text(alloc),
+        None => Ok(Text::new(alloc)),
+    }
+}
+
 // What one template says of a query of type A, whose records stand in the slot.
 fn say(
     alloc: Global,

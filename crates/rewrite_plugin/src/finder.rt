@@ -8,7 +8,7 @@ ghost use Rattle.rewrite_plugin.specs.Texts.{filled};
 
 use crate::text::append_filled;
 use crate::words::PatternAt;
-use dns_data::{Bytes, Copies, Limit, NoMemory, Seq, Text, limit};
+use dns_data::{Buffer, Copies, Limit, NoMemory, Seq, Text, limit};
 use outside::{Made, PatternMaker};
 use pattern::{Pattern, Scratch};
 use plugin_api::{DirectiveFault, DirectiveWhy};
@@ -53,7 +53,7 @@ impl Finder {
         scratch: &mut Scratch,
         text: &str,
         to: &[u8],
-        out: &mut Bytes,
+        out: &mut Buffer,
     ) -> Result<bool, NoMemory>
         ensures found { IfOk result (λ found. found ≡ is_some (finding_of self.now text.now)) }
         ensures filled { OnOk result (IfSome (finding_of self.now text.now)

@@ -1,4 +1,4 @@
-use dns_data::{Addr, Name, Query, Seq, Transport, kind};
+use dns_data::{Name, Query, Seq};
 use std::alloc::Global;
 
 /// A rule that was applied to a query, by its number among the directives of a block.
@@ -20,18 +20,7 @@ impl Changed {
     /// Room for a query that is changed.
     pub fn new(alloc: Global) -> Changed {
         Changed {
-            query: Query {
-                name: Name::root(alloc),
-                kind: kind::A,
-                dnssec: false,
-                cd: false,
-                rd: false,
-                edns: false,
-                client: Addr::V4(0),
-                port: 0,
-                by: Transport::Udp,
-                local: 0,
-            },
+            query: Query::blank(alloc),
             steps: Seq::new(alloc),
         }
     }

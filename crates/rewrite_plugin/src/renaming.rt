@@ -10,7 +10,7 @@ use crate::finder::Finder;
 use crate::room::Turning;
 use crate::rule::Matcher;
 use crate::text::{append_replaced, begins, ends, has_part, is_text};
-use dns_data::{Bytes, Name, NameFault, NoMemory, Text};
+use dns_data::{Buffer, Bytes, Name, NameFault, NoMemory, Text};
 use pattern::Scratch;
 use std::alloc::Global;
 
@@ -78,7 +78,7 @@ fn turn(
     finders: &[Finder],
     text: &str,
     scratch: &mut Scratch,
-    out: &mut Bytes,
+    out: &mut Buffer,
 ) -> Result<bool, NoMemory>
     requires { take (length (matcher_patterns from.now)) finders.now ≡ matcher_patterns from.now }
     ensures matched { IfOk result (λ matched. matched ≡ is_matched from.now text.now) }
@@ -99,7 +99,7 @@ fn turn(
     }
 }
 
-fn turn_exact(from: &[u8], to: &Bytes, text: &[u8], out: &mut Bytes) -> Result<bool, NoMemory>
+fn turn_exact(from: &[u8], to: &Bytes, text: &[u8], out: &mut Buffer) -> Result<bool, NoMemory>
     ensures matched { IfOk result (λ matched. matched ≡ is_word text.now from.now) }
     ensures turned { OnOk result (is_word text.now from.now ≡ true
         → out.new ≡ out.old ++ to.now) }
@@ -111,7 +111,7 @@ fn turn_exact(from: &[u8], to: &Bytes, text: &[u8], out: &mut Bytes) -> Result<b
     Ok(true)
 }
 
-fn turn_prefix(from: &[u8], to: &Bytes, text: &[u8], out: &mut Bytes) -> Result<bool, NoMemory>
+fn turn_prefix(from: &[u8], to: &Bytes, text: &[u8], out: &mut Buffer) -> Result<bool, NoMemory>
     ensures matched { IfOk result (λ matched. matched ≡ begins from.now text.now) }
     ensures turned { OnOk result (begins from.now text.now ≡ true
         → out.new ≡ out.old ++ (to.now ++ drop (length from.now) text.now)) }
@@ -124,7 +124,7 @@ fn turn_prefix(from: &[u8], to: &Bytes, text: &[u8], out: &mut Bytes) -> Result<
     Ok(true)
 }
 
-fn turn_suffix(from: &[u8], to: &Bytes, text: &[u8], out: &mut Bytes) -> Result<bool, NoMemory>
+fn turn_suffix(from: &[u8], to: &Bytes, text: &[u8], out: &mut Buffer) -> Result<bool, NoMemory>
     ensures matched { IfOk result (λ matched. matched ≡ ends from.now text.now) }
     ensures turned { OnOk result (ends from.now text.now ≡ true
         → out.new ≡ out.old ++ (take (length text.now - length from.now) text.now ++ to.now)) }
@@ -137,7 +137,7 @@ fn turn_suffix(from: &[u8], to: &Bytes, text: &[u8], out: &mut Bytes) -> Result<
     Ok(true)
 }
 
-fn turn_substring(from: &[u8], to: &Bytes, text: &[u8], out: &mut Bytes) -> Result<bool, NoMemory>
+fn turn_substring(from: &[u8], to: &Bytes, text: &[u8], out: &mut Buffer) -> Result<bool, NoMemory>
     ensures matched { IfOk result (λ matched. matched ≡ has_part from.now text.now) }
     ensures turned { OnOk result (has_part from.now text.now ≡ true
         → out.new ≡ out.old ++ replaced from.now to.now text.now) }

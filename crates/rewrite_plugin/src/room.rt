@@ -1,4 +1,4 @@
-use dns_data::{Bytes, RecordRoom, Text};
+use dns_data::{Buffer, RecordRoom, Text};
 use pattern::Scratch;
 use std::alloc::Global;
 
@@ -17,7 +17,7 @@ pub struct RewriteRoom {
 pub(crate) struct Turning {
     pub(crate) scratch: Scratch,
     /// The text that a name becomes.
-    pub(crate) out: Bytes,
+    pub(crate) out: Buffer,
 }
 
 impl RewriteRoom {
@@ -26,7 +26,7 @@ impl RewriteRoom {
             text: Text::new(alloc),
             turning: Turning {
                 scratch: Scratch::new(alloc),
-                out: Bytes::new(alloc),
+                out: Buffer::new(alloc),
             },
             spare: RecordRoom::new(alloc),
         }

@@ -5,7 +5,7 @@ ghost use Rattle.plugin_api.specs.{is_word};
 ghost use Rattle.rewrite_plugin.specs.Texts.{begins, ends, filled, has_part, part_at, place_at};
 ghost use Rattle.rewrite_plugin.specs.Texts.{place_behind, replaced, spanned, two_digits};
 
-use dns_data::{Bytes, NoMemory};
+use dns_data::{Buffer, NoMemory};
 use equal_bytes::are_equal;
 use pattern::Scratch;
 
@@ -50,7 +50,7 @@ pub(crate) fn append_replaced(
     part: &[u8],
     to: &[u8],
     text: &[u8],
-    out: &mut Bytes,
+    out: &mut Buffer,
 ) -> Result<(), NoMemory>
     ensures { OnOk result (out.new ≡ out.old ++ replaced part.now to.now text.now) }
 {
@@ -62,7 +62,7 @@ pub(crate) fn append_replaced(
                 rest = behind_skip(behind, skip);
             }
             None => {
-                out.push(*byte)?;
+                out.append(&[*byte])?;
                 rest = behind;
             }
         }
@@ -98,7 +98,7 @@ pub(crate) fn append_filled(
     scratch: &Scratch,
     text: &str,
     to: &[u8],
-    out: &mut Bytes,
+    out: &mut Buffer,
 ) -> Result<(), NoMemory>
     requires { (n : ℕ) → IfSome (scratch_group scratch.now n) (IsPartOf text.now) }
     ensures { OnOk result
@@ -112,7 +112,7 @@ pub(crate) fn append_filled(
                 rest = &behind[size..];
             }
             None => {
-                out.push(*byte)?;
+                out.append(&[*byte])?;
                 rest = behind;
             }
         }
@@ -125,7 +125,7 @@ fn append_group(
     scratch: &Scratch,
     text: &str,
     number: usize,
-    out: &mut Bytes,
+    out: &mut Buffer,
 ) -> Result<(), NoMemory>
     requires { IfSome (scratch_group scratch.now number) (IsPartOf text.now) }
     ensures { OnOk result

@@ -1,7 +1,7 @@
 use Rattle.std.proofs.Common.{refl}
 use Rattle.std.proofs.lemmas.Bool.Decides.{same_from_decides, Decides-eqb}
 use Rattle.std.proofs.lemmas.Slice.Eq.{slice_eq-Decides}
-use Rattle.dns_data.specs.Name.{lowered}
+use Rattle.dns_names.specs.Name.{lowered}
 use Rattle.rewrite_plugin.proofs.restoring.is_same.Goals as goal
 
 pub returns : goal.returns

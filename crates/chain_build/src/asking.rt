@@ -3,24 +3,25 @@ ghost use Rattle.std.specs.Prelude.{◌≡◌, ◌≤◌, ◌<◌, IfOk};
 ghost use Rattle.chain_meaning.specs.Serving.{header_reply, is_known_version, limit_of, opt_reply};
 ghost use Rattle.chain_meaning.specs.Serving.{query_of, reply_message, upper_code};
 ghost use Rattle.dns_data.specs.Message.{AreCodes};
+ghost use Rattle.dns_wire.specs.{asked_by};
 ghost use Rattle.dns_wire.specs.Assembled.{message_of};
 
 use dns_data::{
-    Bytes, NoMemory, Opt, Query, Question, Slot, Transport, class, limit, opcode, rcode,
+    Buffer, NoMemory, Opt, Query, Question, Slot, Transport, class, limit, opcode, rcode,
 };
-use dns_wire::{Asked, Flags, Head, MessageParts};
+use dns_wire::{Asked, AskedBeside, Flags, Head, MessageParts};
 use outside::Datagram;
 use std::alloc::Global;
 
 /// A header alone, for a query that wasn't read.
 #[tactic(auto, unfolding(chain_meaning::specs::Serving::header_reply))]
-pub fn header_reply(alloc: Global, head: Head, rcode: u8) -> Result<Bytes, NoMemory>
+pub fn header_reply(alloc: Global, head: Head, rcode: u8) -> Result<Buffer, NoMemory>
     requires { head.opcode < limits.CODE_END }
     ensures { IfOk result (λ bytes. bytes ≡ header_reply head.id head.opcode head.rd rcode) }
 {
     let [high, low] = head.id.to_be_bytes();
     let flags = 128 + 8 * head.opcode + u8::from(head.rd);
-    Bytes::from_slice(alloc, &[high, low, flags, rcode, 0, 0, 0, 0, 0, 0, 0, 0])
+    Buffer::from_slice(alloc, &[high, low, flags, rcode, 0, 0, 0, 0, 0, 0, 0, 0])
 }
 
 /// As many bytes as a reply may have.
@@ -98,6 +99,26 @@ pub fn query_of(datagram: &Datagram, asked: Asked) -> Query
         by: datagram.by,
         local: datagram.local,
     }
+}
+
+/// Becomes the query that a chain is asked, whose name stands there already.
+#[inline]
+pub fn fill_query(query: &mut Query, datagram: &Datagram, beside: AskedBeside)
+    ensures { query.new ≡ query_of datagram.now (asked_by query.old.name beside) }
+{
+    let (edns, dnssec) = match beside.opt {
+        Some(opt) => (true, opt.dnssec),
+        None => (false, false),
+    };
+    query.kind = beside.kind;
+    query.dnssec = dnssec;
+    query.cd = beside.cd;
+    query.rd = beside.rd;
+    query.edns = edns;
+    query.client = datagram.client;
+    query.port = datagram.port;
+    query.by = datagram.by;
+    query.local = datagram.local;
 }
 
 /// The message that answers a query of this id, class and OPT record.

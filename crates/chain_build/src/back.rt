@@ -30,6 +30,7 @@ pub enum BackAnswerer {
 
 /// Runs what stands behind a cache: the rest is asked what the rules make of the query, and its
 /// reply is restored. The slot is clear.
+#[inline(always)]
 pub fn run_behind<S: Side>(
     alloc: Global,
     chain: &BlockChain,
@@ -50,7 +51,9 @@ pub fn run_behind<S: Side>(
     run_rewritten(alloc, rewrites, back, query, side, kept, room, slot)
 }
 
-// Runs the rest on what the rules make of the query, and restores its reply.
+// Runs the rest on what the rules make of the query, and restores its reply. Stays a call, so that a
+// chain without rules is short.
+#[inline(never)]
 fn run_rewritten<S: Side>(
     alloc: Global,
     rewrites: &[RewritePlan],

@@ -67,7 +67,7 @@ pub fn run_front<S: Side>(
 }
 
 /// Runs what stands behind a cache in a chain that has none. The slot is clear.
-#[inline]
+#[inline(always)]
 pub fn run_uncached<S: Side>(
     alloc: Global,
     chain: &BlockChain,

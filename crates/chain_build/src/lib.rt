@@ -17,7 +17,8 @@ mod room;
 mod serving;
 
 pub use asking::{
-    header_reply, is_known_version, limit_of, opt_reply, query_of, reply_message, upper_code,
+    fill_query, header_reply, is_known_version, limit_of, opt_reply, query_of, reply_message,
+    upper_code,
 };
 pub use back::{BackAnswerer, run_back, run_behind};
 pub use chain::{Chain, build};

@@ -1,17 +1,19 @@
 ghost use Rattle.std.specs.Prelude.{◌≡◌, []};
 ghost use Rattle.dns_data.specs.Message.{no_answer};
 
-use dns_data::{Bytes, Slot};
+use dns_data::{Buffer, Query, Slot};
 use rewrite_plugin::{Changed, RewriteRoom};
 use std::alloc::Global;
 use std::mem;
 use template_plugin::TemplateRoom;
 
 /// What a worker keeps from one query to the next, so that the next takes no memory for it: the
-/// bytes of a reply that was sent, the room of an answer's records, and what plugins write in.
+/// query, the bytes of a reply that was sent, the room of an answer's records, and what plugins
+/// write in.
 #[derive(Drop)]
 pub struct Room {
-    pub reply: Bytes,
+    pub query: Query,
+    pub reply: Buffer,
     pub slot: Slot,
     pub plugins: PluginRoom,
 }
@@ -41,7 +43,8 @@ impl Room {
         ensures slot { result.slot ≡ no_answer }
     {
         Room {
-            reply: Bytes::new(alloc),
+            query: Query::blank(alloc),
+            reply: Buffer::new(alloc),
             slot: Slot::new(alloc),
             plugins: PluginRoom::new(alloc),
         }
@@ -49,10 +52,10 @@ impl Room {
 
     /// Takes the reply's bytes out.
     #[inline]
-    pub fn take_reply(&mut self, alloc: Global) -> Bytes
+    pub fn take_reply(&mut self, alloc: Global) -> Buffer
         ensures bytes { result ≡ self.old.reply }
         ensures rest { self.new ≡ record self.old { reply = [] } }
     {
-        mem::replace(&mut self.reply, Bytes::new(alloc))
+        mem::replace(&mut self.reply, Buffer::new(alloc))
     }
 }

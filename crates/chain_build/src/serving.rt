@@ -1,7 +1,7 @@
 ghost use Rattle.dns_data.specs.declared.limit.TheConstants as limits;
 ghost use Rattle.std.specs.Prelude.{◌≡◌, ◌<◌, Some, None, IsTrue, IsFalse, option_map};
 ghost use Rattle.dns_data.specs.Message.{no_answer};
-ghost use Rattle.dns_wire.specs.{QueriesThis};
+ghost use Rattle.dns_wire.specs.{QueriesThis, asked_by};
 ghost use Rattle.outside.specs.Taking.{Takes};
 ghost use Rattle.chain_meaning.specs.Mean.{nothing};
 ghost use Rattle.chain_meaning.specs.Serving.{answer_in, block_decides, block_of, chain_decides};
@@ -14,7 +14,7 @@ ghost use Rattle.chain_build.specs.Replying.{TellsServing};
 ghost use Rattle.chain_build.specs.Walking.{decided, decision_of};
 
 use crate::asking::{
-    header_reply, is_known_version, limit_of, opt_reply, query_of, reply_message, upper_code,
+    fill_query, header_reply, is_known_version, limit_of, opt_reply, reply_message, upper_code,
 };
 use crate::chain::Chain;
 use crate::compiling::BlockChain;
@@ -24,7 +24,7 @@ use crate::plans::Plans;
 use crate::room::{PluginRoom, Room};
 use chain_meaning::{Served, Silence, number};
 use dns_data::{NoMemory, Opt, Query, Slot, class, rcode};
-use dns_wire::{Asked, QueryFault, read_asked, write_parts};
+use dns_wire::{AskedBeside, QueryFault, read_asked_into, write_parts};
 use outside::{Datagram, Side};
 use std::alloc::Global;
 
@@ -53,8 +53,8 @@ fn serve_by<S: Side>(
     ensures { TellsServing plans.now.bundle plans.now.default_port datagram.now result
         (S.state side.old) (S.state side.new) }
 {
-    match read_asked(alloc, datagram.bytes.as_slice()) {
-        Ok(asked) => reply(alloc, plans, datagram, asked, side, room),
+    match read_asked_into(alloc, datagram.bytes.as_slice(), &mut room.query.name) {
+        Ok(beside) => reply(alloc, plans, datagram, beside, side, room),
         Err(QueryFault::Short) => Served::Silent(Silence::Short),
         Err(QueryFault::Response) => Served::Silent(Silence::Response),
         Err(QueryFault::NotImp(head)) => match header_reply(alloc, head, rcode::NOTIMP) {
@@ -69,33 +69,33 @@ fn serve_by<S: Side>(
     }
 }
 
-// The reply to what a query asks.
+// The reply to what a query asks, whose name stands in the room.
 fn reply<S: Side>(
     alloc: Global,
     plans: &Plans,
     datagram: &Datagram,
-    asked: Asked,
+    beside: AskedBeside,
     side: &mut S,
     room: &mut Room,
 ) -> Served
-    requires asks { QueriesThis datagram.now.bytes asked }
+    requires asks { QueriesThis datagram.now.bytes (asked_by room.old.query.name beside) }
     ensures { TellsServing plans.now.bundle plans.now.default_port datagram.now result
         (S.state side.old) (S.state side.new) }
 {
     plans.tell();
-    let (id, class, opt) = (asked.id, asked.question.class, asked.opt);
-    let limit = limit_of(datagram.by, opt);
-    let query = query_of(datagram, asked);
-    let (plugins, slot) = (&mut room.plugins, &mut room.slot);
-    let Ok(ended) = decide(alloc, opt, class, plans, &query, side, plugins, slot) else {
+    let (class, opt) = (beside.class, beside.opt);
+    fill_query(&mut room.query, datagram, beside);
+    let (query, plugins, slot) = (&room.query, &mut room.plugins, &mut room.slot);
+    let Ok(ended) = decide(alloc, opt, class, plans, query, side, plugins, slot) else {
         return Served::NoMemory;
     };
     if !settle(ended, &mut room.slot) {
         return Served::Silent(Silence::Dropped);
     }
-    let code = upper_code(opt);
     let free = room.take_reply(alloc);
-    let parts = reply_message(id, class, opt_reply(code, opt), &query, &room.slot);
+    let opt_back = opt_reply(upper_code(opt), opt);
+    let parts = reply_message(beside.id, class, opt_back, &room.query, &room.slot);
+    let limit = limit_of(datagram.by, opt);
     match write_parts(alloc, free, &parts, limit) {
         Ok(bytes) => Served::Reply(bytes),
         Err(NoMemory) => Served::NoMemory,

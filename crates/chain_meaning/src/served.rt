@@ -1,4 +1,4 @@
-use dns_data::Bytes;
+use dns_data::Buffer;
 
 /// Why a datagram gets no reply: fewer than 12 bytes, a response, or a chain that drops it.
 #[derive(Clone, Copy, Debug, PartialEq, Eq)]
@@ -11,7 +11,7 @@ pub enum Silence {
 /// What serving one datagram gives.
 #[derive(Debug, Drop)]
 pub enum Served {
-    Reply(Bytes),
+    Reply(Buffer),
     Silent(Silence),
     NoMemory,
 }

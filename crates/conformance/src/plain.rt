@@ -5,7 +5,7 @@ ghost use Rattle.std.specs.Prelude.{◌≤◌, length};
 use crate::fault::CaseFault;
 use corefile_blocks::Bundle;
 use corefile_words::{Pair, Pairs};
-use dns_data::{Bytes, Copies, FileText, FileTexts};
+use dns_data::{Buffer, Bytes, Copies, FileText, FileTexts};
 use dns_server::Report;
 use outside::{Datagram, Mark, ReadOut, RegexMaker, WatchMark};
 use outside_mem::MemHost;
@@ -81,7 +81,7 @@ fn taken_of(turn: &[Mark]) -> usize
     turn.len()
 }
 
-fn is_same(sent: Option<&Bytes>, meant: &Option<Bytes>) -> bool {
+fn is_same(sent: Option<&Bytes>, meant: &Option<Buffer>) -> bool {
     match (sent, meant) {
         (Some(sent), Some(meant)) => sent.as_slice() == meant.as_slice(),
         (None, None) => true,

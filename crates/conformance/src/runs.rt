@@ -4,7 +4,7 @@
 use crate::fault::CaseFault;
 use crate::fields::{read_bytes, read_text};
 use corefile_words::Pair;
-use dns_data::{Addr, Bytes, FileText, Seq, Text, Transport};
+use dns_data::{Addr, Buffer, Bytes, FileText, Seq, Text, Transport};
 use outside::{Datagram, FileSet, SideScript, WatchScript};
 use std::alloc::Global;
 
@@ -147,7 +147,7 @@ fn read_datagram(alloc: Global, fields: &str) -> Result<Datagram, CaseFault> {
         return Err(CaseFault::Bad);
     };
     Ok(Datagram {
-        bytes: Bytes::of(read_bytes(alloc, bytes)?),
+        bytes: Buffer::from_slice(alloc, &read_bytes(alloc, bytes)?)?,
         client,
         port,
         by,

@@ -15,7 +15,7 @@ use crate::reading::read_all;
 use chain_build::{Places, header_reply, limit_of, opt_reply, query_of, reply_message, upper_code};
 use chain_meaning::{Decision, Refusal, number};
 use corefile_blocks::{Bundle, CorefileFault, read_blocks};
-use dns_data::{Blocks, Bytes, FileText, NoMemory, Slot, rcode};
+use dns_data::{Blocks, Buffer, FileText, NoMemory, Slot, rcode};
 use dns_wire::{Asked, QueryFault, read_asked, write_parts};
 use outside::{Datagram, Mark, PatternMaker};
 use std::alloc::Global;
@@ -24,7 +24,7 @@ use std::alloc::Global;
 #[derive(Debug, Drop)]
 pub struct Plain {
     /// The reply's bytes, where there is one.
-    pub reply: Option<Bytes>,
+    pub reply: Option<Buffer>,
     /// How many of the marks are taken.
     pub used: u32,
 }
@@ -92,7 +92,7 @@ fn silent() -> Plain
     }
 }
 
-fn header(bytes: Bytes) -> Plain
+fn header(bytes: Buffer) -> Plain
     ensures { result ≡ record { reply = Some bytes; used = 0 } }
 {
     Plain {
@@ -131,7 +131,7 @@ fn reply(
     }
     let opt = opt_reply(upper_code(opt), opt);
     let parts = reply_message(id, class, opt, &query, &slot);
-    let bytes = write_parts(alloc, Bytes::new(alloc), &parts, limit)?;
+    let bytes = write_parts(alloc, Buffer::new(alloc), &parts, limit)?;
     Ok(Plain {
         reply: Some(bytes),
         used,

@@ -3,7 +3,7 @@ ghost use Rattle.std.specs.Prelude.{◌<◌, ◌^◌, length};
 use super::*;
 use chain_meaning::Refusal;
 use corefile_blocks::Bundle;
-use dns_data::{Addr, Bytes, NoMemory, Seq, Transport, kind, rcode};
+use dns_data::{Addr, Buffer, Bytes, NoMemory, Seq, Transport, kind, rcode};
 use outside::{Datagram, Mark, RegexMaker};
 use plugin_api::DirectiveWhy;
 use std::alloc::Global;
@@ -150,7 +150,7 @@ fn meant(
         env: Seq::new(alloc),
         files: Seq::new(alloc),
     };
-    let mut bytes = Bytes::from_slice(alloc, &QUERY[..25])?;
+    let mut bytes = Buffer::from_slice(alloc, &QUERY[..25])?;
     bytes.append(&kind.to_be_bytes())?;
     bytes.append(&QUERY[27..])?;
     let datagram = Datagram {

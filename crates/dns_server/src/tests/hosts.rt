@@ -1,7 +1,7 @@
 ghost use Rattle.std.specs.Prelude.{◌≡◌, ◌+◌, None};
 
 use crate::{Report, Status, run};
-use dns_data::{Addr, Bytes, NoMemory, Text, Transport};
+use dns_data::{Addr, Buffer, NoMemory, Text, Transport};
 use outside::{
     Datagram, FileSet, Host, Mark, OpenFault, SideScript, WatchMark, WatchScript, Wrote,
 };
@@ -16,7 +16,7 @@ pub const SERVE: &str = "serve --conf /Corefile";
 /// From 127.0.0.1, port 4000, over UDP to port 53.
 pub fn datagram(alloc: Global, bytes: &[u8]) -> Result<Datagram, NoMemory> {
     Ok(Datagram {
-        bytes: Bytes::from_slice(alloc, bytes)?,
+        bytes: Buffer::from_slice(alloc, bytes)?,
         client: Addr::V4(0x7f00_0001),
         port: 4000,
         by: Transport::Udp,

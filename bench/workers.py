@@ -3,12 +3,13 @@
 
 A client in C, with threads, keeps so many queries under way over so many sockets, and sends and receives them by bursts: a worker
 that has answered one finds the next, and doesn't sleep, since a client that waits measures the waiting. The same number of
-queries is asked of each; the ratio to one worker is what counts, since the time itself is the machine's. Wants a C compiler, and
-strace for the system calls. Nothing here is a test.
+queries is asked of each; the ratio to one worker of the same round is what counts, since the time itself is the machine's. Wants a
+C compiler, and strace for the system calls. Nothing here is a test.
 """
 import os
 import re
 import shutil
+import statistics
 import subprocess
 import sys
 import tempfile
@@ -20,6 +21,7 @@ from load import ASKS, built, queries_file, spent  # noqa: E402
 from program import PROGRAM, Served  # noqa: E402
 
 ASKED = 2_000_000
+ROUNDS = 5
 THREADS = 2
 # Of each thread, and the queries under way on each socket.
 SOCKETS = 8
@@ -63,12 +65,18 @@ def main():
         sys.exit("there is no built program (make build)")
     with tempfile.TemporaryDirectory() as folder:
         asks, queries = built(folder, "asks", ASKS), queries_file(folder, [QUERY])
-        one = None
-        for workers in (1, 2, 4, 1, 2, 4):
-            user, system, got, lost, took = measured(asks, queries, workers)
-            each = (user + system) / got * 1e6
-            one = one or each
-            print(f"{workers} workers: {each:.2f} us of CPU a query ({user / got * 1e6:.2f} user), {each / one:.2f} of one worker's; {got / took:.0f} a second, {lost} lost")
+        ratios = {2: [], 4: []}
+        for _ in range(ROUNDS):
+            for workers in (1, 2, 4):
+                user, system, got, lost, took = measured(asks, queries, workers)
+                each = (user + system) / got * 1e6
+                if workers == 1:
+                    one = each
+                else:
+                    ratios[workers].append(each / one)
+                print(f"{workers} workers: {each:.2f} us of CPU a query ({user / got * 1e6:.2f} user), {each / one:.2f} of one worker's; {got / took:.0f} a second, {lost} lost")
+        for workers, found in ratios.items():
+            print(f"{workers} workers: {statistics.median(found):.2f} of one worker's, the median of {ROUNDS} rounds")
         if shutil.which("strace"):
             few, many = (calls(asks, queries, asked) for asked in (1_000, 11_000))
             for name in sorted(set(few) | set(many)):

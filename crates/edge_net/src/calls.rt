@@ -18,8 +18,8 @@ pub(crate) enum Unreceived {
 }
 
 /// Receives a datagram into the packet, and says how many bytes it has. `client` becomes who sent
-/// it. It waits as long as the socket does, or not at all. It has failed where the call has, a signal among the
-/// reasons, and where the sender has no address of either family.
+/// it. It waits as long as the socket does, or not at all. It has failed where the call has, a
+/// signal among the reasons, and where the sender has no address of either family.
 #[inline(always)]
 pub(crate) fn receive(
     socket: &UdpSocket,

@@ -4,7 +4,7 @@ use crate::why::Why;
 use dns_data::{Addr, Transport};
 use libc::net as c;
 use os::FromRawFd;
-use std::net::{Net, SocketAddr, TcpListener, UdpSocket};
+use std::net::{Ipv4Addr, Ipv6Addr, Net, SocketAddr, TcpListener, UdpSocket};
 use std::os::fd::{AsRawFd, OwnedFd};
 use std::time::Duration;
 
@@ -45,6 +45,21 @@ pub fn open_udp_beside(_net: &impl Net, first: &UdpSocket, port: u16) -> Result<
     share_port(&socket);
     bind_any(&socket, family, port)?;
     waiting(UdpSocket::from(socket))
+}
+
+/// Sends an empty datagram to a port from within, by a socket of its own.
+pub(crate) fn poke(port: u16) {
+    if !poke_at(Family::Both, SocketAddr::from((Ipv6Addr::LOCALHOST, port))) {
+        poke_at(Family::V4, SocketAddr::from((Ipv4Addr::LOCALHOST, port)));
+    }
+}
+
+// Whether the system took an empty datagram.
+fn poke_at(family: Family, to: SocketAddr) -> bool {
+    match new_socket(family, Transport::Udp) {
+        Ok(socket) => UdpSocket::from(socket).send_to(&[], to).is_ok(),
+        Err(_) => false,
+    }
 }
 
 // A socket with a receive buffer of 1 MiB, whose receives wait for a second.

@@ -6,13 +6,13 @@ use crate::arrival::Arrival;
 use crate::calls::{Unreceived, receive, reply_to};
 use crate::clock::moment;
 use crate::sender::{Client, Sender};
-use crate::socket::{open_udp_at, share_port};
+use crate::socket::{open_udp_at, poke, share_port};
 use dns_data::{Addr, Buffer, NoMemory};
 use libc::net as c;
 use libc::types::pollfd;
 use std::alloc::Global;
 use std::mem;
-use std::net::{Ipv4Addr, Ipv6Addr, SocketAddr, UdpSocket};
+use std::net::UdpSocket;
 use std::os::fd::AsRawFd;
 use std::rt::Files;
 use std::time::Clock;
@@ -107,15 +107,11 @@ impl UdpEnd {
     }
 
     /// Sends empty datagrams to the port from within, so that the blocked receives of so many
-    /// workers go on. The system picks a socket by the addresses, so they go to several of the
-    /// loopback's. A worker that gets none goes on within a second.
+    /// workers go on. The system picks a socket by the sender's port, so each comes from another.
+    /// A worker that gets none goes on within a second.
     pub fn poke(&self, count: u64) {
-        let fallback = SocketAddr::from((Ipv6Addr::LOCALHOST, self.port));
-        for last in 1..=count.min(15) as u8 * 16 {
-            let loopback = SocketAddr::from((Ipv4Addr::new(127, 0, 0, last), self.port));
-            if self.socket.send_to(&[], loopback).is_err() {
-                let _ = self.socket.send_to(&[], fallback);
-            }
+        for _ in 0..count.min(15) * 16 {
+            poke(self.port);
         }
     }
 

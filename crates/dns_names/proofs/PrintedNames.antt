@@ -125,6 +125,11 @@ dotted_on before text new label at left others name d e plain is =
           ∙ ap (λ (l : List ℕ). pre ++ ((l ++ 46 ∷ []) ++ more)) (sym plain) ∙ ap (λ (l : List (List ℕ)). pre ++ flat_map label_text l) (sym e) ∙ d.front;
     }
 
+-- a label without capitals, where those behind it have none
+pub small_on : (label : List ℕ) (left others name : List (List ℕ)) → left ≡ label ∷ others → map to_ascii_lowercase label ≡ label → (lowered left ≡ left → lowered name ≡ name) → lowered others ≡ others
+    → lowered name ≡ name
+small_on label left others name e small on o = on (ap lowered e ∙ (λ i. small i ∷ o i) ∙ sym e)
+
 -- no label is left
 pub dotted_all : (before text wire : List ℕ) (at : ℕ) (left name : List (List ℕ)) → Dotted before text at left name → left ≡ [] → wire ≡ spelled name → (length wire ≡ 0 → ⊥)
     → text ≡ before ++ name_text name

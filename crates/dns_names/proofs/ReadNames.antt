@@ -3,12 +3,18 @@ use Rattle.std.proofs.Common.{◌≡◌, ◌≢◌, ℕ, zero, suc, ◌+◌, ◌
 use Rattle.std.proofs.lemmas.List.{append-nil, drop_more, length-drop, length-take-le, nil_from_length, set_at, take-append-drop, take_all, take_at}
 use Rattle.std.proofs.lemmas.Bool.{ltb-true, and_parts, eq-eqb, ne_eqb, false_from_ne_true}
 use Rattle.std.specs.List.{AllByRecursion}
+use Rattle.std.specs.Result.{OnErr}
 use Rattle.dns_names.specs.Name.{IsLabel, IsName, IsWire, labels_of, spelled, wire_length}
 use Rattle.dns_names.specs.NameLaws.{IsName-push, is_wire, length-spelled, spelled-append, view_of, wire_length-push}
 use Rattle.dns_names.specs.declared.name_read.NameFault.{NameFault}
 use Rattle.dns_names.specs.declared.name_read.NameFault.TheVariants.{Bad, NoMemory}
 use Rattle.dns_names.specs.NameText.{Character, dot, byte, byte_at, byte_then, characters, byte_first, parted, completed, placed, is_label, are_labels, is_name, if_name, is_dot, name_of, Fits, IsRun, ReadsName, Completes}
 use Rattle.dns_names.specs.NameTextLaws.{completed_end, name_test}
+
+-- what holds anyway holds on a refusal
+pub on_err : {A E : Type 0} → (r : Result A E) → {P : Type 0} → P → OnErr r P
+on_err (Ok x) p = tt
+on_err (Err e) p = p
 
 -- bytes at the front of the first label
 abbrev pub bytes_first : List ℕ → List (List ℕ) → List (List ℕ)

@@ -136,6 +136,12 @@ ReadsName text origin (Ok name) = name_of text origin ≡ Some name
 ReadsName text origin (Err Bad) = name_of text origin ≡ None
 ReadsName text origin (Err NoMemory) = Unit {0}
 
+-- the same of a name that becomes what the text spells
+abbrev pub SetsName : List ℕ → List (List ℕ) → List (List ℕ) → Result (Unit {0}) NameFault
+    → Type 0
+SetsName text origin name (Ok set) = ReadsName text origin (Ok name)
+SetsName text origin name (Err fault) = ReadsName text origin (Err fault)
+
 -- none of the first bytes is a dot or a backslash
 abbrev pub IsRun : ℕ → List ℕ → Type 0
 IsRun size text = (k : ℕ) → k < size → (slice_index text k ≢ 46) × (slice_index text k ≢ 92)

@@ -24,3 +24,11 @@ unfolding is_within
 decides_within name zone b e =
     let both : IsTrue b ↔ (lowered (drop (length name - length zone) name) ≡ lowered zone) = (λ t. within_is name zone (e.0 t), λ h. e.1 (record { above = length name - length zone; inside = omega arith; same = h })) in
     same_from_decides _ _ both (slice_eq-Decides (λ a b. slice_eq-Decides Decides-eqb a b _ refl) (lowered (drop (length name - length zone) name)) (lowered zone) _ refl)
+
+-- the test is true just where the name is within the zone
+pub exact_within : (name zone : List (List ℕ)) → IsTrue (is_within name zone) ↔ IsWithin name zone
+unfolding is_within
+exact_within name zone =
+    let last = drop (length name - length zone) name in
+    let same : IsTrue (is_within name zone) ↔ (lowered last ≡ lowered zone) = slice_eq-Decides (λ a b. slice_eq-Decides Decides-eqb a b _ refl) (lowered last) (lowered zone) _ refl in
+    (λ t. record { above = length name - length zone; inside = omega arith; same = same.0 t }, λ w. same.1 (within_is name zone w))

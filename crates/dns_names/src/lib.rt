@@ -9,8 +9,6 @@ mod name;
 mod name_read;
 mod name_text;
 mod reverse;
-#[cfg(test)]
-mod tests;
 
 pub use labels::Labels;
 pub use name::Name;

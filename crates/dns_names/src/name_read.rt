@@ -1,8 +1,8 @@
 ghost use Rattle.std.specs.Prelude.{◌≡◌, ◌<◌, ◌≤◌, ◌+◌, ◌↔◌, [], ◌∷◌, ◌++◌, true, false, length};
-ghost use Rattle.std.specs.Prelude.{IfSome, OnOk, IsTrue, take};
+ghost use Rattle.std.specs.Prelude.{ℕ, List, IfSome, OnOk, OnErr, IsTrue, take};
 ghost use Rattle.std.specs.Char.{is_ascii_digit};
 ghost use Rattle.dns_names.specs.NameText.{ReadsName, Completes, Fits, byte_at, escaped, is_dot};
-ghost use Rattle.dns_names.specs.NameText.{IsRun, numbered};
+ghost use Rattle.dns_names.specs.NameText.{IsRun, SetsName, numbered};
 
 use crate::Name;
 use crate::limit::{LABEL_BYTES, NAME_BYTES};
@@ -35,11 +35,23 @@ impl Name {
     pub fn read(alloc: Global, text: &[u8], origin: &Name) -> Result<Name, NameFault>
         ensures { ReadsName text.now origin.now result }
     {
+        let mut name = Name::root(alloc);
+        name.set_read(alloc, text, origin)?;
+        Ok(name)
+    }
+
+    /// Becomes the name that a text spells, as `read` tells it, in the room that is there. Where
+    /// the text spells none, it stays as it is.
+    pub fn set_read(&mut self, alloc: Global, text: &[u8], origin: &Name) -> Result<(), NameFault>
+        ensures value { SetsName text.now origin.now self.new result }
+        ensures err { OnErr result (self.new ≡ self.old) }
+    {
         if is_dot(text) {
-            return Ok(Name::root(alloc));
+            self.clear();
+            return Ok(());
         }
         if NAME_BYTES <= text.len() {
-            return read_slowly(alloc, text, origin);
+            return self.set_to(read_slowly(alloc, text, origin));
         }
         // The text behind one byte: a label's length then takes the place of the dot in front.
         let mut wire = [0; NAME_BYTES];
@@ -49,18 +61,34 @@ impl Name {
         loop {
             let size = run_len(rest);
             if size == rest.len() {
-                let name = Name::of_wire(alloc, &wire[..at])?;
                 if size == 0 && 0 < at {
-                    return Ok(name);
+                    self.set_wire(&wire[..at])?;
+                    return Ok(());
                 }
-                return completed(name, rest, origin);
+                let name = Name::of_wire(alloc, &wire[..at])?;
+                return self.set_to(completed(name, rest, origin));
             }
             if rest[size] != b'.' || size == 0 || LABEL_BYTES < size {
-                return read_slowly(alloc, text, origin);
+                return self.set_to(read_slowly(alloc, text, origin));
             }
             wire[at] = size as u8;
             at += size + 1;
             rest = &rest[size + 1..];
+        }
+    }
+
+    // Becomes the name that was read, where there is one.
+    fn set_to(&mut self, read: Result<Name, NameFault>) -> Result<(), NameFault>
+        ensures value { (text : List ℕ) → (origin : List (List ℕ))
+            → ReadsName text origin read → SetsName text origin self.new result }
+        ensures err { OnErr result (self.new ≡ self.old) }
+    {
+        match read {
+            Ok(name) => {
+                *self = name;
+                Ok(())
+            }
+            Err(fault) => Err(fault),
         }
     }
 }

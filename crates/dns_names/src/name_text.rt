@@ -1,5 +1,6 @@
-ghost use Rattle.std.specs.Prelude.{◌≡◌, ◌<◌, ℕ, List, [], ◌∷◌, ◌++◌, slice_index, Some, OnOk};
-ghost use Rattle.std.specs.Prelude.{IfOk, IsTrue};
+ghost use Rattle.std.specs.Prelude.{◌≡◌, ◌<◌, ℕ, List, [], ◌∷◌, ◌++◌, slice_index, map, Some};
+ghost use Rattle.std.specs.Prelude.{IfOk, IsTrue, OnOk};
+ghost use Rattle.std.specs.Char.{to_ascii_lowercase};
 ghost use Rattle.std.specs.List.{flat_map};
 ghost use Rattle.std.specs.Str.{IsUtf8};
 ghost use Rattle.dns_names.specs.Name.{lowered};
@@ -32,36 +33,56 @@ impl Name {
         are_bytes(self.as_wire());
         let mut bytes = text.take(alloc).into_bytes();
         bytes.clear();
-        self.print(&mut bytes)?;
-        bytes.make_ascii_lowercase();
+        self.print_lower(&mut bytes)?;
         *text = text_of(bytes);
         Ok(())
     }
 
-    // Adds the name in presentation format.
-    fn print(&self, text: &mut Vec<u8>) -> Result<(), NoMemory>
-        ensures { OnOk result (text.new.items ≡ text.old.items ++ name_text self.now) }
+    // Adds the same to no bytes.
+    #[inline]
+    fn print_lower(&self, text: &mut Vec<u8>) -> Result<(), NoMemory>
+        requires { text.old.items ≡ [] }
+        ensures { OnOk result (text.new.items ≡ name_text (lowered self.now)) }
+    {
+        are_bytes(self.as_wire());
+        if self.print(text)? {
+            return Ok(());
+        }
+        text.make_ascii_lowercase();
+        Ok(())
+    }
+
+    // Adds the name in presentation format, and tells whether it is seen to have no capital.
+    fn print(&self, text: &mut Vec<u8>) -> Result<bool, NoMemory>
+        ensures text { OnOk result (text.new.items ≡ text.old.items ++ name_text self.now) }
+        ensures small { IfOk result
+            (λ is_small. IsTrue is_small → lowered self.now ≡ self.now) }
     {
         let wire = self.as_wire();
         if wire.len() == 0 {
             text.push(b'.')?;
-            return Ok(());
+            return Ok(false);
         }
         let mut at = text.len();
         text.extend_from_slice(&wire[1..])?;
         text.push(b'.')?;
         // The text is there, with the length bytes of further labels in the place of dots.
+        let mut is_small = true;
         let mut labels = self.labels();
         while let Some(label) = labels.next() {
-            if !is_plain(label) {
-                text.truncate(at);
-                put_label(text, label)?;
-                return put_labels(text, labels);
+            if !are_common(label) {
+                if !is_plain(label) {
+                    text.truncate(at);
+                    put_label(text, label)?;
+                    put_labels(text, labels)?;
+                    return Ok(false);
+                }
+                is_small = false;
             }
             text[at + label.len()] = b'.';
             at += label.len() + 1;
         }
-        Ok(())
+        Ok(is_small)
     }
 }
 
@@ -108,19 +129,33 @@ fn is_plain(label: &[u8]) -> bool
     ensures { IsTrue result → flat_map byte_text label.now ≡ label.now }
 {
     for byte in label {
-        if !is_common(*byte) {
-            if is_special(*byte) || !byte.is_ascii_graphic() {
-                return false;
-            }
+        if is_special(*byte) || !byte.is_ascii_graphic() {
+            return false;
         }
     }
     true
 }
 
-// Whether a byte is one of those of which most names are made. They are printed as they are.
+// Whether each byte of the label is one of those of which most names are made.
+#[inline]
+fn are_common(label: &[u8]) -> bool
+    ensures plain { IsTrue result → flat_map byte_text label.now ≡ label.now }
+    ensures small { IsTrue result → map to_ascii_lowercase label.now ≡ label.now }
+{
+    for byte in label {
+        if !is_common(*byte) {
+            return false;
+        }
+    }
+    true
+}
+
+// Whether a byte is one of those of which most names are made. They are printed as they are, and
+// are no capitals.
 #[inline]
 fn is_common(byte: u8) -> bool
-    ensures { IsTrue result → byte_text byte ≡ byte ∷ [] }
+    ensures plain { IsTrue result → byte_text byte ≡ byte ∷ [] }
+    ensures small { IsTrue result → to_ascii_lowercase byte ≡ byte }
 {
     byte.is_ascii_lowercase() || byte.is_ascii_digit() || byte == b'-'
 }

@@ -171,3 +171,26 @@ pub address_at_once : (d : Draft) (k s t a : List ℕ) (kind class ttl addr : �
 address_at_once d k s t a kind class ttl addr ek es et ea =
     (λ i. put d (slice_index (ek i) 0 ∷ slice_index (ek i) 1 ∷ slice_index (es i) 0 ∷ slice_index (es i) 1 ∷ slice_index (et i) 0 ∷ slice_index (et i) 1 ∷ slice_index (et i) 2 ∷ slice_index (et i) 3 ∷ 0 ∷ 4 ∷ slice_index (ea i) 0 ∷ slice_index (ea i) 1 ∷ slice_index (ea i) 2 ∷ slice_index (ea i) 3 ∷ []))
     ∙ five_puts d (to_be_bytes w16 kind) (to_be_bytes w16 class) (to_be_bytes w32 ttl) (to_be_bytes w16 4) (to_be_bytes w32 addr)
+
+-- the numbers behind the names of an SOA record
+pub times_at_once : (d : Draft) (a b c e f : List ℕ) (serial refresh retry expire minimum : ℕ) → a ≡ to_be_bytes w32 serial → b ≡ to_be_bytes w32 refresh → c ≡ to_be_bytes w32 retry → e ≡ to_be_bytes w32 expire
+    → f ≡ to_be_bytes w32 minimum
+    → put d (slice_index a 0 ∷ slice_index a 1 ∷ slice_index a 2 ∷ slice_index a 3 ∷ slice_index b 0 ∷ slice_index b 1 ∷ slice_index b 2 ∷ slice_index b 3 ∷ slice_index c 0 ∷ slice_index c 1 ∷ slice_index c 2 ∷ slice_index c 3 ∷ slice_index e 0 ∷ slice_index e 1 ∷ slice_index e 2 ∷ slice_index e 3 ∷ slice_index f 0 ∷ slice_index f 1 ∷ slice_index f 2 ∷ slice_index f 3 ∷ [])
+    ≡ put_u32 (put_u32 (put_u32 (put_u32 (put_u32 d serial) refresh) retry) expire) minimum
+times_at_once d a b c e f serial refresh retry expire minimum ea eb ec ee ef =
+    (λ i. put d (slice_index (ea i) 0 ∷ slice_index (ea i) 1 ∷ slice_index (ea i) 2 ∷ slice_index (ea i) 3 ∷ slice_index (eb i) 0 ∷ slice_index (eb i) 1 ∷ slice_index (eb i) 2 ∷ slice_index (eb i) 3 ∷ slice_index (ec i) 0 ∷ slice_index (ec i) 1 ∷ slice_index (ec i) 2 ∷ slice_index (ec i) 3 ∷ slice_index (ee i) 0 ∷ slice_index (ee i) 1 ∷ slice_index (ee i) 2 ∷ slice_index (ee i) 3 ∷ slice_index (ef i) 0 ∷ slice_index (ef i) 1 ∷ slice_index (ef i) 2 ∷ slice_index (ef i) 3 ∷ []))
+    ∙ five_puts d (to_be_bytes w32 serial) (to_be_bytes w32 refresh) (to_be_bytes w32 retry) (to_be_bytes w32 expire) (to_be_bytes w32 minimum)
+
+-- what stands between the owner of an SRV record and its target
+pub service_at_once : (d : Draft) (k s t l a b c : List ℕ) (kind class ttl length p w port : ℕ) → k ≡ to_be_bytes w16 kind → s ≡ to_be_bytes w16 class → t ≡ to_be_bytes w32 ttl → l ≡ to_be_bytes w16 length
+    → a ≡ to_be_bytes w16 p → b ≡ to_be_bytes w16 w → c ≡ to_be_bytes w16 port
+    → put d (slice_index k 0 ∷ slice_index k 1 ∷ slice_index s 0 ∷ slice_index s 1 ∷ slice_index t 0 ∷ slice_index t 1 ∷ slice_index t 2 ∷ slice_index t 3 ∷ slice_index l 0 ∷ slice_index l 1 ∷ slice_index a 0 ∷ slice_index a 1 ∷ slice_index b 0 ∷ slice_index b 1 ∷ slice_index c 0 ∷ slice_index c 1 ∷ [])
+    ≡ put_u16 (put_u16 (put_u16 (put_u16 (put_u32 (put_u16 (put_u16 d kind) class) ttl) length) p) w) port
+service_at_once d k s t l a b c kind class ttl n p w port ek es et el ea eb ec =
+    let numbers = to_be_bytes w16 p ++ (to_be_bytes w16 w ++ to_be_bytes w16 port) in
+    let head = put_u16 (put_u32 (put_u16 (put_u16 d kind) class) ttl) n in
+    let three : put head numbers ≡ put_u16 (put_u16 (put_u16 head p) w) port =
+    ap (λ (bytes : List ℕ). record { bytes = bytes; offsets = d.offsets }) (sym (append_assoc head.bytes (to_be_bytes w16 p) (to_be_bytes w16 w ++ to_be_bytes w16 port)) ∙ sym (append_assoc (head.bytes ++ to_be_bytes w16 p) (to_be_bytes w16 w) (to_be_bytes w16 port))) in
+    (λ i. put d (slice_index (ek i) 0 ∷ slice_index (ek i) 1 ∷ slice_index (es i) 0 ∷ slice_index (es i) 1 ∷ slice_index (et i) 0 ∷ slice_index (et i) 1 ∷ slice_index (et i) 2 ∷ slice_index (et i) 3 ∷ slice_index (el i) 0 ∷ slice_index (el i) 1 ∷ slice_index (ea i) 0 ∷ slice_index (ea i) 1 ∷ slice_index (eb i) 0 ∷ slice_index (eb i) 1 ∷ slice_index (ec i) 0 ∷ slice_index (ec i) 1 ∷ []))
+    ∙ five_puts d (to_be_bytes w16 kind) (to_be_bytes w16 class) (to_be_bytes w32 ttl) (to_be_bytes w16 n) numbers
+    ∙ three

@@ -18,8 +18,6 @@ mod rdata;
 mod record;
 mod reply;
 mod section;
-#[cfg(test)]
-mod tests;
 mod write;
 mod write_record;
 mod writer;

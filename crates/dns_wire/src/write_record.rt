@@ -1,12 +1,14 @@
-ghost use Rattle.std.specs.Prelude.{◌≡◌, OnOk};
+ghost use Rattle.std.specs.Prelude.{◌≡◌, ◌+◌, length, slice_index, OnOk};
 ghost use Rattle.std.specs.List.{AllByRecursion};
 ghost use Rattle.dns_data.specs.Record.{IsFormed, IsProper, IsCharacterString, fields_of};
+ghost use Rattle.dns_names.specs.Name.{spelled};
+ghost use Rattle.dns_data.specs.declared.kind.TheConstants as kinds;
 ghost use Rattle.dns_data.specs.declared.record.Rdata.TheVariants as rdata;
 ghost use Rattle.dns_wire.specs.Written.{put_u16, put_u32, put_string, put_strings, put_fields};
 ghost use Rattle.dns_wire.specs.Written.{put_data, put_record};
 
 use crate::writer::Writer;
-use dns_data::{Bytes, NoMemory, Rdata, Record, Soa};
+use dns_data::{Bytes, Name, NoMemory, Rdata, Record, Soa, kind};
 
 /// Puts a record, at whatever length.
 pub fn put_record<'a>(writer: &mut Writer<'a>, rr: &'a Record) -> Result<(), NoMemory>
@@ -21,10 +23,8 @@ pub fn put_record<'a>(writer: &mut Writer<'a>, rr: &'a Record) -> Result<(), NoM
             put_head(writer, kind, class, ttl, 16)?;
             writer.put_few(addr.to_be_bytes())
         }
-        Rdata::Srv(_, _, _, target) => {
-            let length = target.as_wire().len() as u16 + 7;
-            put_head(writer, kind, class, ttl, length)?;
-            put_data(writer, &rr.rdata)
+        Rdata::Srv(priority, weight, port, target) => {
+            put_service(writer, class, ttl, [*priority, *weight, *port], target)
         }
         rdata => {
             put_head(writer, kind, class, ttl, 0)?;
@@ -80,6 +80,52 @@ fn put_address(
     ])
 }
 
+// What stands behind the owner of an SRV record: all in front of its target by one put, and the
+// target, which is written whole (RFC 2782).
+#[inline]
+fn put_service(
+    writer: &mut Writer<'_>,
+    class: u16,
+    ttl: u32,
+    numbers: [u16; 3],
+    target: &Name,
+) -> Result<(), NoMemory>
+    ensures { OnOk result (writer.new ≡ put_data
+        (put_u16 (put_u32 (put_u16 (put_u16 writer.old kinds.SRV) class) ttl)
+        (length (spelled target.now) + 7))
+        (rdata.Srv (slice_index numbers 0) (slice_index numbers 1)
+        (slice_index numbers 2) target.now)) }
+{
+    let wire = target.as_wire();
+    let kind = kind::SRV.to_be_bytes();
+    let class = class.to_be_bytes();
+    let ttl = ttl.to_be_bytes();
+    let length = (wire.len() as u16 + 7).to_be_bytes();
+    let priority = numbers[0].to_be_bytes();
+    let weight = numbers[1].to_be_bytes();
+    let port = numbers[2].to_be_bytes();
+    writer.put_few([
+        kind[0],
+        kind[1],
+        class[0],
+        class[1],
+        ttl[0],
+        ttl[1],
+        ttl[2],
+        ttl[3],
+        length[0],
+        length[1],
+        priority[0],
+        priority[1],
+        weight[0],
+        weight[1],
+        port[0],
+        port[1],
+    ])?;
+    writer.put_labels(wire)?;
+    writer.put_few([0])
+}
+
 // The data alone.
 #[tactic(auto, unfolding(crate::specs::Written::put_data))]
 fn put_data<'a>(writer: &mut Writer<'a>, rdata: &'a Rdata) -> Result<(), NoMemory>
@@ -131,11 +177,17 @@ fn put_soa<'a>(writer: &mut Writer<'a>, soa: &'a Soa) -> Result<(), NoMemory>
 {
     writer.put_name(&soa.mname)?;
     writer.put_name(&soa.rname)?;
-    writer.put_few(soa.serial.to_be_bytes())?;
-    writer.put_few(soa.refresh.to_be_bytes())?;
-    writer.put_few(soa.retry.to_be_bytes())?;
-    writer.put_few(soa.expire.to_be_bytes())?;
-    writer.put_few(soa.minimum.to_be_bytes())
+    let serial = soa.serial.to_be_bytes();
+    let refresh = soa.refresh.to_be_bytes();
+    let retry = soa.retry.to_be_bytes();
+    let expire = soa.expire.to_be_bytes();
+    let minimum = soa.minimum.to_be_bytes();
+    // The serial and the four times by one put.
+    writer.put_few([
+        serial[0], serial[1], serial[2], serial[3], refresh[0], refresh[1], refresh[2], refresh[3],
+        retry[0], retry[1], retry[2], retry[3], expire[0], expire[1], expire[2], expire[3],
+        minimum[0], minimum[1], minimum[2], minimum[3],
+    ])
 }
 
 // A character-string behind its length.

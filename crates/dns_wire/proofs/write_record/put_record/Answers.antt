@@ -1,7 +1,8 @@
-use Rattle.std.proofs.Common.{◌≡◌, ◌+◌, [], ◌∷◌, length, ap, sym, subst, ◌∙◌, arith, length-append}
+use Rattle.std.proofs.Common.{◌≡◌, ◌+◌, [], ◌∷◌, length, ap, refl, sym, subst, ◌∙◌, arith, length-append}
 use Rattle.dns_data.specs.Record.{RecordData, kind_of, data_length}
 use Rattle.std.proofs.lemmas.Result.{on_ok_weaker}
 use Rattle.dns_data.specs.declared.record.Rdata.TheVariants as rdata
+use Rattle.dns_data.specs.declared.kind.TheConstants as kinds
 use Rattle.dns_names.specs.Name.{spelled}
 use Rattle.dns_names.specs.NameLaws.{length-spelled}
 use Rattle.dns_wire.proofs.Swaps.{head_by, a_record, aaaa_record, srv_record}
@@ -11,12 +12,12 @@ use Rattle.dns_wire.proofs.write_record.put_record.Goals as goal
 
 pub fill_length-requires-clause-inside : goal.fill_length-requires-clause-inside
 fill_length-requires-clause-inside c =
-    let size = data_size c.put_head-in_default.new.writer c.put_data-in_default.new.writer c.rr.inside.rdata c.in_ok-put_data-in_default.ensures in
+    let size = data_size c.put_head-in_default.new.writer c.put_data.new.writer c.rr.inside.rdata c.in_ok-put_data-in_default.ensures in
     omega (arith, size.0, c.len-at.ensures)
 
 pub fill_length-requires-clause-small : goal.fill_length-requires-clause-small
 fill_length-requires-clause-small c =
-    let size = data_size c.put_head-in_default.new.writer c.put_data-in_default.new.writer c.rr.inside.rdata c.in_ok-put_data-in_default.ensures in
+    let size = data_size c.put_head-in_default.new.writer c.put_data.new.writer c.rr.inside.rdata c.in_ok-put_data-in_default.ensures in
     omega (arith, size.1, c.len-at.ensures, c.rr.invariant.rdata.short)
 
 pub returns-in_ok-put_data-in_default-clause-text : goal.returns-in_ok-put_data-in_default-clause-text
@@ -26,11 +27,11 @@ returns-in_ok-put_data-in_default-clause-text c =
     let head = put_u32 (put_u16 (put_u16 (put_name c.args.writer.now r.owner) (kind_of r.rdata)) r.class) r.ttl in
     let begun : c.put_head-in_default.new.writer ≡ put_u16 head 0 =
     c.in_ok-put_head-in_default.ensures ∙ (λ i. put_u16 (put_u32 (put_u16 (put_u16 (named i) (c.kind-kind.ensures i)) r.class) r.ttl) 0) in
-    let more : c.put_data-in_default.new.writer ≡ put_data (put_u16 head 0) r.rdata = c.in_ok-put_data-in_default.ensures ∙ ap (λ (d : Draft). put_data d r.rdata) begun in
-    let grown : Grown (put_u16 head 0) c.put_data-in_default.new.writer 0 (data_length r.rdata) =
+    let more : c.put_data.new.writer ≡ put_data (put_u16 head 0) r.rdata = c.in_ok-put_data-in_default.ensures ∙ ap (λ (d : Draft). put_data d r.rdata) begun in
+    let grown : Grown (put_u16 head 0) c.put_data.new.writer 0 (data_length r.rdata) =
     subst (λ (e : Draft). Grown (put_u16 head 0) e 0 (data_length r.rdata)) (sym more) (grown-data (put_u16 head 0) r.rdata) in
     let at : c.len-at.result ≡ length head.bytes + 14 = omega (arith, c.len-at.ensures, ap (λ (d : Draft). length d.bytes) begun, length-append head.bytes (0 ∷ 0 ∷ [])) in
-    c.fill_length.ensures ∙ filled head c.put_data-in_default.new.writer c.len-at.result (data_length r.rdata) at grown ∙ ap (with_length head) more
+    c.fill_length.ensures ∙ filled head c.put_data.new.writer c.len-at.result (data_length r.rdata) at grown ∙ ap (with_length head) more
     ∙ record_by_parts c.args.writer.now r ∙ ap (put_record c.args.writer.now) c.rr.view_is
 
 pub returns-in-A-clause-text : goal.returns-in-A-clause-text
@@ -51,24 +52,13 @@ returns-in_ok-put_head-in-Aaaa-clause-text c =
     let whole = (λ i. put (begun i) (c.to_be_bytes.ensures i)) ∙ aaaa_record c.args.writer.now r c.in-Aaaa.addr c.in-Aaaa.is ∙ ap (put_record c.args.writer.now) c.rr.view_is in
     on_ok_weaker c.put_few.result (λ (p : c.put_few.new.self ≡ put c.put_head.new.writer c.to_be_bytes.result). p ∙ whole) c.put_few.ensures
 
-pub overflow_cast-length : goal.overflow_cast-length
-overflow_cast-length c =
-    let short = c.as_wire.ensures.proper.short in
-    omega (arith, ap length c.as_wire.ensures.value, length-spelled c.in-Srv.target, short)
-
-pub overflow_add-length : goal.overflow_add-length
-overflow_add-length c =
-    let short = c.as_wire.ensures.proper.short in
-    omega (arith, ap length c.as_wire.ensures.value, length-spelled c.in-Srv.target, short)
-
-pub returns-in_ok-put_head-in-Srv-clause-text : goal.returns-in_ok-put_head-in-Srv-clause-text
-returns-in_ok-put_head-in-Srv-clause-text c =
+pub returns-in-Srv-clause-text : goal.returns-in-Srv-clause-text
+returns-in-Srv-clause-text c =
     let r : RecordData = record { owner = c.rr.inside.owner; class = c.rr.inside.class; ttl = c.rr.inside.ttl; rdata = c.rr.inside.rdata } in
     let target = c.in-Srv.target in
-    let n = length c.as_wire.result.now + 7 in
-    let kind = c.kind-kind.ensures ∙ ap kind_of c.in-Srv.is in
-    let begun : c.put_head-in-Srv.new.writer ≡ put_u16 (head_by c.args.writer.now r (rdata.Srv c.in-Srv.field-0 c.in-Srv.field-1 c.in-Srv.field-2 target)) n =
-    c.in_ok-put_head-in-Srv.ensures ∙ (λ i. put_u16 (put_u32 (put_u16 (put_u16 (c.in_ok-put_name.ensures.text i) (kind i)) r.class) r.ttl) n) in
-    let long : n ≡ length (spelled target) + 7 = omega (arith, ap length c.as_wire.ensures.value) in
-    let whole = (λ i. put_data (begun i) (c.in-Srv.is i)) ∙ srv_record c.args.writer.now r _ _ _ n target c.in-Srv.is long ∙ ap (put_record c.args.writer.now) c.rr.view_is in
-    on_ok_weaker c.put_data.result (λ (p : c.put_data.new.writer ≡ put_data c.put_head-in-Srv.new.writer r.rdata). p ∙ whole) c.put_data.ensures
+    let n = length (spelled target) + 7 in
+    let srv = rdata.Srv c.in-Srv.priority c.in-Srv.weight c.in-Srv.port target in
+    let begun : put_data (put_u16 (put_u32 (put_u16 (put_u16 c.put_name.new.self kinds.SRV) r.class) r.ttl) n) srv ≡ put_data (put_u16 (head_by c.args.writer.now r srv) n) srv =
+    λ i. put_data (put_u16 (put_u32 (put_u16 (put_u16 (c.in_ok-put_name.ensures.text i) kinds.SRV) r.class) r.ttl) n) srv in
+    let whole = begun ∙ srv_record c.args.writer.now r _ _ _ n target c.in-Srv.is refl ∙ ap (put_record c.args.writer.now) c.rr.view_is in
+    on_ok_weaker c.put_service.result (λ (p : c.put_service.new.writer ≡ put_data (put_u16 (put_u32 (put_u16 (put_u16 c.put_name.new.self kinds.SRV) r.class) r.ttl) n) srv). p ∙ whole) c.put_service.ensures

@@ -7,7 +7,7 @@ use Rattle.dns_data.specs.Message.{AnswerData}
 use Rattle.dns_data.specs.declared.record.Rdata.{Rdata}
 use Rattle.dns_data.specs.declared.record.Rdata.TheVariants as rdata
 use Rattle.plugin_api.specs.Picking.{is_same}
-use Rattle.rewrite_plugin.specs.declared.plan_data.Step.{Step}
+use Rattle.rewrite_plugin.specs.declared.steps.Step.{Step}
 use Rattle.rewrite_plugin.specs.declared.rule.Answering.{Answering}
 use Rattle.rewrite_plugin.specs.declared.rule.Answering.TheVariants as answering
 use Rattle.rewrite_plugin.specs.declared.rule.Matcher.TheVariants as matcher

@@ -1,4 +1,5 @@
 pub mod Texts
+pub mod Renaming
 pub mod Rules
 pub mod Answers
 pub mod Words

@@ -2,17 +2,16 @@ ghost use Rattle.std.specs.Prelude.{◌≡◌, [], true, is_some, length, take, 
 ghost use Rattle.rewrite_plugin.specs.declared.rule.Rule.TheVariants as rule;
 ghost use Rattle.rewrite_plugin.specs.Rewrite.{applied_by, changed_by, goes_on_by, written_of};
 ghost use Rattle.rewrite_plugin.specs.Rules.{applied, matcher_patterns, searched, step_behind};
-ghost use Rattle.rewrite_plugin.specs.Rules.{stepped, unchanged, with_name};
+ghost use Rattle.rewrite_plugin.specs.Rules.{stepped, unchanged};
 
 use crate::finder::Finder;
 use crate::plan::RewritePlan;
-use crate::plan_data::{Changed, Step};
-use crate::renaming::{is_matched, renamed, write_searched};
+use crate::plan_data::Changed;
+use crate::renaming::{is_matched, rename_to, write_searched};
 use crate::room::RewriteRoom;
 use crate::rule::{Renaming, Rule};
 use dns_data::{Copies, Name, NoMemory, Query, Text};
 use std::alloc::Global;
-use std::mem;
 
 /// Applies the rules of a block to a query, in the order of the text.
 #[tactic(auto, unfolding(crate::specs::Rewrite::changed_by))]
@@ -135,35 +134,16 @@ fn apply_name(
 {
     freshen(alloc, &changed.query.name, is_fresh, &mut room.text)?;
     let text = room.text.as_str();
-    match renamed(
-        alloc,
-        &renaming.from,
-        &renaming.to,
-        finders,
-        text,
-        &mut room.turning,
-    )? {
-        None => Ok(false),
-        Some(name) => {
-            *is_fresh = false;
-            rename(alloc, name, number, changed)?;
-            Ok(true)
-        }
+    let before = changed.query.name.copy(alloc)?;
+    let name = &mut changed.query.name;
+    if !rename_to(alloc, renaming, finders, text, &mut room.turning, name)? {
+        return Ok(false);
     }
-}
-
-// Gives the query another name, and notes the rule.
-fn rename(alloc: Global, name: Name, number: usize, changed: &mut Changed) -> Result<(), NoMemory>
-    ensures { OnOk result
-        (changed.new ≡ stepped number changed.old (with_name changed.old.query name)) }
-{
-    let after = name.copy(alloc)?;
-    let before = mem::replace(&mut changed.query.name, name);
-    changed.steps.push(Step {
-        rule: number,
-        before,
-        after,
-    })
+    *is_fresh = false;
+    changed
+        .steps
+        .push(alloc, number, &before, &changed.query.name)?;
+    Ok(true)
 }
 
 fn apply_type(
@@ -190,11 +170,6 @@ fn apply_type(
 fn note(alloc: Global, number: usize, changed: &mut Changed) -> Result<(), NoMemory>
     ensures { OnOk result (changed.new ≡ stepped number changed.old changed.old.query) }
 {
-    let before = changed.query.name.copy(alloc)?;
-    let after = changed.query.name.copy(alloc)?;
-    changed.steps.push(Step {
-        rule: number,
-        before,
-        after,
-    })
+    let name = &changed.query.name;
+    changed.steps.push(alloc, number, name, name)
 }

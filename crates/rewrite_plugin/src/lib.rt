@@ -11,13 +11,13 @@ mod renaming;
 mod restoring;
 mod room;
 mod rule;
-#[cfg(test)]
-mod tests;
+mod steps;
 mod text;
 mod words;
 
 pub use changing::change;
 pub use plan::RewritePlan;
-pub use plan_data::{Changed, Step};
+pub use plan_data::Changed;
 pub use restoring::restore;
 pub use room::RewriteRoom;
+pub use steps::{Step, Steps};

@@ -2,13 +2,14 @@ ghost use Rattle.std.specs.Prelude.{◌≡◌, ◌++◌, ◌-◌, [], true, leng
 ghost use Rattle.dns_data.specs.{name_of};
 ghost use Rattle.plugin_api.specs.{is_word};
 ghost use Rattle.rewrite_plugin.specs.declared.rule.Matcher.TheVariants as matcher;
+ghost use Rattle.rewrite_plugin.specs.Renaming.{Becomes};
 ghost use Rattle.rewrite_plugin.specs.Rules.{is_matched, matcher_patterns, renamed_text, searched};
 ghost use Rattle.rewrite_plugin.specs.Rules.{turned};
 ghost use Rattle.rewrite_plugin.specs.Texts.{begins, ends, has_part, replaced};
 
 use crate::finder::Finder;
 use crate::room::Turning;
-use crate::rule::Matcher;
+use crate::rule::{Matcher, Renaming};
 use crate::text::{append_replaced, begins, ends, has_part, is_text};
 use dns_data::{Buffer, Bytes, Name, NameFault, NoMemory, Text};
 use pattern::Scratch;
@@ -21,25 +22,39 @@ pub(crate) fn write_searched(alloc: Global, name: &Name, text: &mut Text) -> Res
     name.write_lower(alloc, text)
 }
 
-/// The name that a text becomes; None where it doesn't match, or the result is no name. The pattern
-/// that is sought, if any, stands first.
+/// A name becomes the one that a text becomes; false where the text doesn't match, or the result is
+/// no name, and the name stays. The pattern that is sought, if any, stands first.
 #[tactic(auto, unfolding(crate::specs::Rules::renamed_text))]
-pub(crate) fn renamed(
+pub(crate) fn rename_to(
     alloc: Global,
-    from: &Matcher,
-    to: &Bytes,
+    renaming: &Renaming,
     finders: &[Finder],
     text: &str,
     room: &mut Turning,
-) -> Result<Option<Name>, NoMemory>
-    requires { take (length (matcher_patterns from.now)) finders.now ≡ matcher_patterns from.now }
-    ensures { IfOk result (λ name. name ≡ renamed_text from.now to.now text.now) }
+    name: &mut Name,
+) -> Result<bool, NoMemory>
+    requires { take (length (matcher_patterns renaming.now.from)) finders.now
+        ≡ matcher_patterns renaming.now.from }
+    ensures { IfOk result (λ done.
+        Becomes (renamed_text renaming.now.from renaming.now.to text.now) done name.old name.new) }
 {
     room.out.clear();
+    let (from, to) = (&renaming.from, &renaming.to);
     if !turn(from, to, finders, text, &mut room.scratch, &mut room.out)? {
-        return Ok(None);
+        return Ok(false);
     }
-    read_name(alloc, room.out.as_slice())
+    set_name(alloc, room.out.as_slice(), name)
+}
+
+// A name becomes the one that a text spells below the root; false where it spells none.
+fn set_name(alloc: Global, text: &[u8], name: &mut Name) -> Result<bool, NoMemory>
+    ensures { IfOk result (λ done. Becomes (name_of text.now []) done name.old name.new) }
+{
+    match name.set_read(alloc, text, &Name::root(alloc)) {
+        Ok(()) => Ok(true),
+        Err(NameFault::Bad) => Ok(false),
+        Err(NameFault::NoMemory) => Err(NoMemory),
+    }
 }
 
 /// The name that a text becomes by a pattern; None where it isn't found, or the result is no name.

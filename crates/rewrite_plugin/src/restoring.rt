@@ -7,16 +7,17 @@ ghost use Rattle.rewrite_plugin.specs.Answers.{replaced_data, replaced_name, rul
 ghost use Rattle.rewrite_plugin.specs.Answers.{sections_restored, with_ttl};
 ghost use Rattle.rewrite_plugin.specs.Made.{answering_patterns, answers_patterns};
 ghost use Rattle.rewrite_plugin.specs.Rules.{matcher_patterns};
-ghost use Rattle.rewrite_plugin.specs.declared.plan_data.Step.{Step};
+ghost use Rattle.rewrite_plugin.specs.declared.steps.Step.{Step};
 ghost use Rattle.rewrite_plugin.specs.declared.rule.Answering.TheVariants as answering;
 ghost use Rattle.rewrite_plugin.specs.Rewrite.{restored, restored_by, written_at, written_of};
 
 use crate::finder::Finder;
 use crate::plan::RewritePlan;
-use crate::plan_data::{Changed, Step};
+use crate::plan_data::Changed;
 use crate::renaming::{renamed_by, write_searched};
 use crate::room::RewriteRoom;
 use crate::rule::{Answering, Matcher, Replacing, Rule, Seconds};
+use crate::steps::Step;
 use dns_data::{Name, NoMemory, Rdata, Record, RecordRoom, Slot};
 use std::alloc::Global;
 use std::mem;

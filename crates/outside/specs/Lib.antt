@@ -10,6 +10,8 @@ pub mod Patterns
 pub mod Meanings
 pub mod Weight
 pub mod Kept
+pub mod Same
+pub mod SameLaws
 pub mod Taking
 pub mod TakingLaws
 -- what public clauses cite
@@ -32,5 +34,7 @@ pub use Rattle.outside.specs.WatchMarks.{AddsWatch, AnsweredWatch, IsReadLimited
 pub use Rattle.outside.specs.WatchMarks.{look_marks, published, read_marks, watch_noted}
 pub use Rattle.outside.specs.Kept.{Keeps, is_on}
 pub use Rattle.outside.specs.Meanings.{Meaning, Starved, Took, onward}
+pub use Rattle.outside.specs.Same.{same_answer, same_ask, same_entry, same_inner, same_key}
+pub use Rattle.outside.specs.Same.{same_line, same_outcome, same_query}
 pub use Rattle.outside.specs.Taking.{Asks, Takes}
 pub use Rattle.outside.specs.Weight.{inner_weight, weight_of}

@@ -1,3 +1,7 @@
+ghost use Rattle.std.specs.Prelude.{◌≡◌, ◌↔◌, IsTrue};
+ghost use Rattle.outside.specs.Same.{same_entry, same_inner, same_key};
+
+use crate::same::{are_same_inner, is_same_answer, is_same_ask, is_same_query};
 use crate::{Outcome, Upstream};
 use dns_data::{Answer, Bytes, Copies, Name, NoMemory, Query, Seq, Transport};
 use std::alloc::Global;
@@ -21,6 +25,19 @@ pub struct Key {
     pub cd: bool,
 }
 
+impl Key {
+    /// Whether two keys are the same, the letters of their names among it.
+    pub fn is_same(&self, other: &Key) -> bool
+        ensures test { result ≡ same_key self.now other.now }
+        ensures same { IsTrue result ↔ (self.now ≡ other.now) }
+    {
+        self.name.equals(&other.name)
+            && self.kind == other.kind
+            && self.dnssec == other.dnssec
+            && self.cd == other.cd
+    }
+}
+
 impl Copies for Key {
     fn copy(&self, alloc: Global) -> Result<Key, NoMemory> {
         Ok(Key {
@@ -39,6 +56,30 @@ pub enum InnerMark {
     Word(u64),
     Asked(Upstream, Transport, Bytes, Outcome),
     More(Outcome),
+}
+
+impl InnerMark {
+    /// Whether two marks are the same, byte for byte.
+    pub fn is_same(&self, other: &InnerMark) -> bool
+        ensures test { result ≡ same_inner self.now other.now }
+        ensures same { IsTrue result ↔ (self.now ≡ other.now) }
+    {
+        match (self, other) {
+            (InnerMark::Word(a), InnerMark::Word(b)) => a == b,
+            (InnerMark::Asked(to, by, message, a), InnerMark::Asked(other, over, others, b)) => {
+                is_same_ask(
+                    *to,
+                    *by,
+                    message.as_slice(),
+                    *other,
+                    *over,
+                    others.as_slice(),
+                ) && a.is_same(b)
+            }
+            (InnerMark::More(a), InnerMark::More(b)) => a.is_same(b),
+            _ => false,
+        }
+    }
 }
 
 impl Copies for InnerMark {
@@ -84,6 +125,22 @@ impl Model for Entry {
     } };
 
     ghost invariant = { λ e. e.life < 2 ^ 31 };
+}
+
+impl Entry {
+    /// Whether two entries are the same: class, times, answer, query and marks, byte for byte.
+    #[tactic(auto, using(crate::specs::SameLaws::exact_inners))]
+    pub fn is_same(&self, other: &Entry) -> bool
+        ensures test { result ≡ same_entry self.now other.now }
+        ensures same { IsTrue result ↔ (self.now ≡ other.now) }
+    {
+        self.class == other.class
+            && self.born == other.born
+            && self.life == other.life
+            && is_same_answer(&self.answer, &other.answer)
+            && is_same_query(&self.origin, &other.origin)
+            && are_same_inner(self.inner.as_slice(), other.inner.as_slice())
+    }
 }
 
 impl Copies for Entry {

@@ -14,7 +14,7 @@ use Rattle.dns_data.specs.Message.{AnswerData, no_answer}
 use Rattle.dns_data.specs.declared.kind.TheConstants as kinds
 use Rattle.zone_lookup.specs.Zone.{is_under, has_items, cut_of, set_at}
 use Rattle.zone_lookup.specs.declared.find.Step.TheVariants as step
-use Rattle.zone_lookup.specs.ZoneAnswer.{Finds, Chain, Ends, found, chain, is_followed, with_hosts, with_addresses, host_of, referral, positive, additional, the_answer, rcode_of, authority, own_answer, whole_chain, answer_under, zone_answer, sought, with_answer, Steps, StepsAt}
+use Rattle.zone_lookup.specs.ZoneAnswer.{Finds, Chain, Ends, found, chain, is_followed, with_hosts, with_addresses, host_of, referral, positive, additional, the_answer, rcode_of, authority, own_answer, whole_chain, answer_under, zone_answer, sought, with_answer, asks_servers, with_authority, Refers, RefersAt, Steps, StepsAt}
 
 length_drop : {X : Type 0} (n : ℕ) (xs : List X) → n ≤ length xs → length (drop n xs) + n ≡ length xs
 length_drop zero xs h = omega arith
@@ -141,52 +141,97 @@ refers zone slot servers answer authority additional e was moved add =
     ap (λ (a : AnswerData). with_sections a answer authority additional) e ∙ referral_is zone servers answer authority additional none same glue
 
 -- the answer from what the name itself gave, in a slot that had that as its answer
-pub answers : (zone : Zone) (name : List (List ℕ)) (kind : ℕ) (slot : AnswerData) (first : List RecordData) (rcode : ℕ) (end : End) (answer auth middle additional : List RecordData) → slot ≡ with_answer first
-    → rcode ≡ rcode_of end.absent → Ends (whole_chain zone name kind) end [] answer → auth ≡ slot.authority ++ authority zone name kind end.denied → middle ≡ with_hosts zone answer slot.additional answer
-    → additional ≡ with_hosts zone answer middle auth → with_code (with_sections slot answer auth additional) rcode ≡ own_answer zone name kind
-answers zone name kind slot first rcode end answer auth middle additional e code0 ends was mid add =
+pub answers : (zone : Zone) (name : List (List ℕ)) (kind : ℕ) (slot : AnswerData) (first : List RecordData) (rcode : ℕ) (end : End) (answer middle : List RecordData) → slot ≡ with_answer first
+    → rcode ≡ rcode_of end.absent → Ends (whole_chain zone name kind) end [] answer → middle ≡ with_hosts zone answer slot.additional answer
+    → with_authority zone (with_code (with_sections slot answer slot.authority middle) rcode) (authority zone name kind end.denied) ≡ own_answer zone name kind
+answers zone name kind slot first rcode end answer middle e code0 ends mid =
     let c = whole_chain zone name kind in
-    let servers : auth ≡ authority zone name kind c.denied = was ∙ ap (λ (a : AnswerData). a.authority ++ authority zone name kind end.denied) e ∙ ap (authority zone name kind) ends.denied in
     let begun : middle ≡ with_hosts zone answer [] answer = mid ∙ ap (λ (a : AnswerData). with_hosts zone answer a.additional answer) e in
     let code : rcode ≡ rcode_of c.absent = code0 ∙ ap rcode_of ends.absent in
-    ap (λ (a : AnswerData). with_code (with_sections a answer auth additional) rcode) e ∙ ap (λ (n : ℕ). the_answer true n answer auth additional) code
-    ∙ own_is zone name kind _ (positive_is zone c end _ answer auth middle additional ends servers begun add)
+    let servers = ap (authority zone name kind) ends.denied in
+    ap (λ (a : AnswerData). with_authority zone (with_code (with_sections a answer a.authority middle) rcode) (authority zone name kind end.denied)) e
+    ∙ ap (λ (n : ℕ). with_authority zone (the_answer true n answer [] middle) (authority zone name kind end.denied)) code
+    ∙ ap (λ (rs : List RecordData). with_authority zone (the_answer true (rcode_of c.absent) answer [] middle) rs) servers
+    ∙ own_is zone name kind _ (positive_is zone c end _ answer (authority zone name kind c.denied) middle (with_hosts zone answer middle (authority zone name kind c.denied)) ends refl begun refl)
+
+-- no authority section
+pub no_authority : (zone : Zone) (a : AnswerData) → a.authority ≡ [] → a ≡ with_authority zone a []
+unfolding with_hosts
+no_authority zone a e = ap (λ (rs : List RecordData). with_sections a a.answer rs a.additional) e
+
+-- the question is for the zone's own servers
+pub asks : (zone : Zone) (name : List (List ℕ)) (kind : ℕ) (denied asked : Bool) → denied ≡ false → asked ≡ asks_servers zone name kind → asked ≡ true → authority zone name kind denied ≡ []
+unfolding authority
+asks zone name kind denied asked not_denied is asked_so =
+    let both : asks_servers zone name kind ≡ true = sym is ∙ asked_so in
+    rw (not_denied, both) refl
+
+pub adds_authority : (zone : Zone) (a : AnswerData) (records authority additional : List RecordData) → a.authority ≡ [] → authority ≡ a.authority ++ records → additional ≡ with_hosts zone a.answer a.additional records
+    → with_sections a a.answer authority additional ≡ with_authority zone a records
+adds_authority zone a records authority additional none is glue =
+    let same : authority ≡ records = is ∙ ap (λ (rs : List RecordData). rs ++ records) none in
+    λ j. with_sections a a.answer (same j) (glue j)
 
 -- an answer section in a slot that was clear
 pub begins_with : (slot : AnswerData) (answer : List RecordData) → slot ≡ no_answer → with_sections slot answer slot.authority slot.additional ≡ with_answer answer
 begins_with slot answer e = ap (λ (a : AnswerData). with_sections a answer a.authority a.additional) e
 
-cut_at : (zone : Zone) (name : List (List ℕ)) (kind : ℕ) (cut : Option (List (List ℕ))) (new : List RecordData) → StepsAt cut (sought zone name kind) step.Cut [] new
-    → referral zone new ≡ answer_under zone name kind cut
-unfolding answer_under sought
-cut_at zone name kind (Some cut) new s = ap (referral zone) s
-cut_at zone name kind None new s = absurd s
-
--- the step came to a cut
-pub step_cut : (zone : Zone) (name : List (List ℕ)) (kind : ℕ) (new : List RecordData) → Steps (sought zone name kind) step.Cut [] new → referral zone new ≡ zone_answer zone name kind
-unfolding zone_answer sought
-step_cut zone name kind new s = cut_at zone name kind (cut_of zone name) new s
-
-found_at_none : (zone : Zone) (name : List (List ℕ)) (kind : ℕ) (cut : Option (List (List ℕ))) (find : Find) (new : List RecordData) → StepsAt cut (sought zone name kind) (step.Found find) [] new
-    → Finds (found zone name kind) find [] new
+refers_cut_at : (zone : Zone) (name : List (List ℕ)) (kind : ℕ) (cut : Option (List (List ℕ))) (new : List RecordData) (a : AnswerData) → StepsAt cut (sought zone name kind) step.Cut [] new → a ≡ referral zone new
+    → RefersAt cut zone (sought zone name kind) step.Cut a
 unfolding sought
-found_at_none zone name kind (Some cut) find new s = absurd s
-found_at_none zone name kind None find new s = s
+refers_cut_at zone name kind (Some cut) new a s e = e ∙ ap (referral zone) s
+refers_cut_at zone name kind None new a s e = absurd s
 
-pub step_found : (zone : Zone) (name : List (List ℕ)) (kind : ℕ) (find : Find) (new : List RecordData) → Steps (sought zone name kind) (step.Found find) [] new → Finds (found zone name kind) find [] new
+-- a step that came to a cut, of which the referral was made
+pub refers_cut : (zone : Zone) (name : List (List ℕ)) (kind : ℕ) (new : List RecordData) (a : AnswerData) → Steps (sought zone name kind) step.Cut [] new → a ≡ referral zone new → Refers zone (sought zone name kind) step.Cut a
 unfolding sought
-step_found zone name kind find new s = found_at_none zone name kind (cut_of zone name) find new s
+refers_cut zone name kind new a s e = refers_cut_at zone name kind (cut_of zone name) new a s e
 
-own_at : (zone : Zone) (name : List (List ℕ)) (kind : ℕ) (cut : Option (List (List ℕ))) (find : Find) (new : List RecordData) → StepsAt cut (sought zone name kind) (step.Found find) [] new
-    → own_answer zone name kind ≡ answer_under zone name kind cut
+refers_found_at : (zone : Zone) (name : List (List ℕ)) (kind : ℕ) (cut : Option (List (List ℕ))) (find : Find) (new : List RecordData) (a : AnswerData) → StepsAt cut (sought zone name kind) (step.Found find) [] new
+    → a ≡ with_answer new → RefersAt cut zone (sought zone name kind) (step.Found find) a
+unfolding sought
+refers_found_at zone name kind (Some cut) find new a s e = absurd s
+refers_found_at zone name kind None find new a s e =
+    let same : new ≡ a.answer = sym (ap (λ (x : AnswerData). x.answer) e) in
+    (e ∙ ap with_answer same, subst (λ (rs : List RecordData). Finds (found zone name kind) find [] rs) same s)
+
+-- one that came to no cut
+pub refers_found : (zone : Zone) (name : List (List ℕ)) (kind : ℕ) (find : Find) (new : List RecordData) (a : AnswerData) → Steps (sought zone name kind) (step.Found find) [] new → a ≡ with_answer new
+    → Refers zone (sought zone name kind) (step.Found find) a
+unfolding sought
+refers_found zone name kind find new a s e = refers_found_at zone name kind (cut_of zone name) find new a s e
+
+-- by its cut
+pub refers_by_cut : (zone : Zone) (name cut : List (List ℕ)) (kind : ℕ) (a : AnswerData) → cut_of zone name ≡ Some cut → a ≡ referral zone (set_at zone cut kinds.NS) → Refers zone (sought zone name kind) step.Cut a
+unfolding sought
+refers_by_cut zone name cut kind a e is = rw e is
+
+cut_at : (zone : Zone) (name : List (List ℕ)) (kind : ℕ) (cut : Option (List (List ℕ))) (a : AnswerData) → RefersAt cut zone (sought zone name kind) step.Cut a → a ≡ answer_under zone name kind cut
 unfolding answer_under sought
-own_at zone name kind (Some cut) find new s = absurd s
-own_at zone name kind None find new s = refl
+cut_at zone name kind (Some cut) a r = r
+cut_at zone name kind None a r = absurd r
 
--- the step came to no cut
-pub found_under : (zone : Zone) (name : List (List ℕ)) (kind : ℕ) (find : Find) (new : List RecordData) → Steps (sought zone name kind) (step.Found find) [] new → own_answer zone name kind ≡ zone_answer zone name kind
+pub cut_answers : (zone : Zone) (name : List (List ℕ)) (kind : ℕ) (a : AnswerData) → Refers zone (sought zone name kind) step.Cut a → a ≡ zone_answer zone name kind
 unfolding zone_answer sought
-found_under zone name kind find new s = own_at zone name kind (cut_of zone name) find new s
+cut_answers zone name kind a r = cut_at zone name kind (cut_of zone name) a r
+
+-- what there is where no cut stands above
+pub record Begun (zone : Zone) (name : List (List ℕ)) (kind : ℕ) (find : Find) (a : AnswerData) : Type 0 where
+  pub clear : a ≡ with_answer a.answer
+  pub finds : Finds (found zone name kind) find [] a.answer
+  pub own : own_answer zone name kind ≡ zone_answer zone name kind
+
+begun_at : (zone : Zone) (name : List (List ℕ)) (kind : ℕ) (cut : Option (List (List ℕ))) (find : Find) (a : AnswerData) → RefersAt cut zone (sought zone name kind) (step.Found find) a
+    → (a ≡ with_answer a.answer) × Finds (found zone name kind) find [] a.answer × (own_answer zone name kind ≡ answer_under zone name kind cut)
+unfolding answer_under sought
+begun_at zone name kind (Some cut) find a r = absurd r
+begun_at zone name kind None find a r = (r.0, r.1, refl)
+
+pub begun : (zone : Zone) (name : List (List ℕ)) (kind : ℕ) (find : Find) (a : AnswerData) → Refers zone (sought zone name kind) (step.Found find) a → Begun zone name kind find a
+unfolding zone_answer sought
+begun zone name kind find a r =
+    let parts = begun_at zone name kind (cut_of zone name) find a r in
+    record { clear = parts.0; finds = parts.1; own = parts.2 }
 
 -- what a step appends, by its cut
 pub steps_cut : (zone : Zone) (name cut : List (List ℕ)) (kind : ℕ) (old new : List RecordData) → cut_of zone name ≡ Some cut → new ≡ old ++ set_at zone cut kinds.NS → Steps (sought zone name kind) step.Cut old new

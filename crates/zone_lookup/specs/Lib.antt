@@ -1,6 +1,7 @@
 pub mod Zone
 pub mod ZoneAnswer
 -- what public clauses cite
-pub use Rattle.zone_lookup.specs.Zone.{Begins, cut_of, encloser, exists_in, has_at, set_at}
-pub use Rattle.zone_lookup.specs.ZoneAnswer.{Finds, Steps, denying, found, found_at, is_alias}
-pub use Rattle.zone_lookup.specs.ZoneAnswer.{sought, zone_answer}
+pub use Rattle.zone_lookup.specs.Zone.{Begins, cut_of, encloser, exists_in, has_at, is_of, set_at}
+pub use Rattle.zone_lookup.specs.ZoneAnswer.{Finds, Refers, Steps, denying, found, found_at}
+pub use Rattle.zone_lookup.specs.ZoneAnswer.{host_of, is_alias, sought, with_addresses, with_hosts}
+pub use Rattle.zone_lookup.specs.ZoneAnswer.{with_set, zone_answer}

@@ -255,3 +255,26 @@ answer_under zone name kind None = own_answer zone name kind
 -- the whole answer
 unfoldable pub zone_answer : Zone → List (List ℕ) → ℕ → AnswerData
 zone_answer zone name kind = answer_under zone name kind (cut_of zone name)
+
+-- an answer with records as its authority section, and the addresses of the hosts that these name
+abbrev pub with_authority : Zone → AnswerData → List RecordData → AnswerData
+with_authority zone a records = record {
+  rcode = a.rcode;
+  aa = a.aa;
+  ra = a.ra;
+  tc = a.tc;
+  answer = a.answer;
+  authority = records;
+  additional = with_hosts zone a.answer a.additional records;
+}
+
+abbrev pub RefersAt : Option (List (List ℕ)) → Zone → Sought → Step → AnswerData → Type 0
+RefersAt (Some cut) zone s step.Cut a = a ≡ referral zone (s.servers cut)
+RefersAt (Some cut) zone s (step.Found find) a = ⊥
+RefersAt None zone s step.Cut a = ⊥
+RefersAt None zone s (step.Found find) a =
+    (a ≡ with_answer a.answer) × Finds s.found find [] a.answer
+
+-- the whole referral, or what the name gives as the answer section, and nothing else yet
+abbrev pub Refers : Zone → Sought → Step → AnswerData → Type 0
+Refers zone s step a = RefersAt s.cut zone s step a

@@ -3,17 +3,15 @@ ghost use Rattle.dns_data.specs.Message.{no_answer};
 ghost use Rattle.dns_data.specs.declared.kind.TheConstants as kinds;
 ghost use Rattle.dns_data.specs.declared.rcode.TheConstants as rcodes;
 ghost use Rattle.zone_lookup.specs.Zone.{is_same};
-ghost use Rattle.zone_lookup.specs.ZoneAnswer.{chain, is_followed, authority, referral, rcode_of};
+ghost use Rattle.zone_lookup.specs.ZoneAnswer.{chain, is_followed, authority, rcode_of};
 ghost use Rattle.zone_lookup.specs.ZoneAnswer.{own_answer, zone_answer, whole_chain, found};
-ghost use Rattle.zone_lookup.specs.ZoneAnswer.{Ends, Finds, with_answer};
+ghost use Rattle.zone_lookup.specs.ZoneAnswer.{Ends, Finds, with_answer, with_authority};
 
 use crate::ZoneStore;
 use crate::find::{Find, Step};
-use crate::hosts::push_hosts;
 use crate::names::{is_under, same};
 use dns_data::{Name, NoMemory, RecordRoom, Slot, kind, rcode};
 use std::alloc::Global;
-use std::mem;
 
 /// CNAME records that are followed at most, the first one among them.
 const STEPS: u32 = 8;
@@ -37,25 +35,10 @@ pub fn lookup<Z: ZoneStore>(
     requires clear { slot.old ≡ no_answer }
     ensures { OnOk result (slot.new ≡ zone_answer (Z.zone zone.now) name.now kind) }
 {
-    match zone.step(alloc, name, kind, &mut slot.answer)? {
-        Step::Cut => referral(alloc, zone, slot),
+    match zone.refer_or_find(alloc, name, kind, slot)? {
+        Step::Cut => Ok(()),
         Step::Found(find) => positive(alloc, zone, name, kind, find, slot),
     }
-}
-
-// The referral of the NS set that stands in the slot, which moves to authority.
-fn referral<Z: ZoneStore>(alloc: Global, zone: &Z, slot: &mut Slot) -> Result<(), NoMemory>
-    requires { slot.old ≡ with_answer slot.old.answer }
-    ensures { OnOk result (slot.new ≡ referral (Z.zone zone.now) slot.old.answer) }
-{
-    mem::swap(&mut slot.answer, &mut slot.authority);
-    push_hosts(
-        alloc,
-        zone,
-        slot.answer.as_slice(),
-        slot.authority.as_slice(),
-        &mut slot.additional,
-    )
 }
 
 // The answer from what the name itself gave, which stands in the slot.
@@ -74,21 +57,13 @@ fn positive<Z: ZoneStore>(
     let end = follow(alloc, zone, kind, name, find, &mut slot.answer)?;
     slot.aa = true;
     slot.rcode = rcode_of(end.absent);
-    push_authority(alloc, zone, name, kind, end.denied, &mut slot.authority)?;
-    push_hosts(
+    zone.push_hosts(
         alloc,
-        zone,
         slot.answer.as_slice(),
         slot.answer.as_slice(),
         &mut slot.additional,
     )?;
-    push_hosts(
-        alloc,
-        zone,
-        slot.answer.as_slice(),
-        slot.authority.as_slice(),
-        &mut slot.additional,
-    )
+    push_authority(alloc, zone, name, kind, end.denied, slot)
 }
 
 fn rcode_of(absent: bool) -> u8
@@ -177,6 +152,7 @@ fn is_followed<Z: ZoneStore>(alloc: Global, zone: &Z, name: &Name) -> Result<boo
     Ok(zone.cut(alloc, name)?.is_none())
 }
 
+// Adds the authority section, and the addresses of the hosts that it names.
 #[tactic(auto, unfolding(crate::specs::ZoneAnswer::authority))]
 fn push_authority<Z: ZoneStore>(
     alloc: Global,
@@ -184,23 +160,35 @@ fn push_authority<Z: ZoneStore>(
     name: &Name,
     kind: u16,
     denied: bool,
-    out: &mut RecordRoom,
+    slot: &mut Slot,
 ) -> Result<(), NoMemory>
-    ensures { OnOk result
-        (out.new ≡ out.old ++ authority (Z.zone zone.now) name.now kind denied) }
+    requires { slot.old.authority ≡ [] }
+    ensures { OnOk result (slot.new ≡ with_authority (Z.zone zone.now) slot.old
+        (authority (Z.zone zone.now) name.now kind denied)) }
 {
     if denied {
-        return zone.copy_denial(alloc, out);
+        zone.copy_denial(alloc, &mut slot.authority)?;
+        return zone.push_hosts(
+            alloc,
+            slot.answer.as_slice(),
+            slot.authority.as_slice(),
+            &mut slot.additional,
+        );
     }
     if is_question(zone.origin(), name, kind) {
         return Ok(());
     }
-    zone.copy_top(alloc, kind::NS, out)
+    zone.push_servers(
+        alloc,
+        slot.answer.as_slice(),
+        &mut slot.authority,
+        &mut slot.additional,
+    )
 }
 
 // Whether the question is for the origin's NS.
 fn is_question(origin: &Name, name: &Name, kind: u16) -> bool
     ensures { result ≡ (is_same name.now origin.now && kind == kinds.NS) }
 {
-    same(name, origin) && kind == kind::NS
+    kind == kind::NS && same(name, origin)
 }

@@ -1,32 +1,15 @@
-ghost use Rattle.std.specs.Prelude.{◌≡◌, ◌++◌, ◌||◌, OnOk, IfOk};
+ghost use Rattle.std.specs.Prelude.{◌≡◌, ◌||◌};
 ghost use Rattle.std.specs.List.{list_any};
 ghost use Rattle.std.specs.Option.{option_map};
 ghost use Rattle.zone_lookup.specs.Zone.{is_of};
-ghost use Rattle.zone_lookup.specs.ZoneAnswer.{host_of, with_set, with_addresses, with_hosts};
+ghost use Rattle.zone_lookup.specs.ZoneAnswer.{host_of};
 
-use crate::ZoneStore;
 use crate::names::is_of;
-use dns_data::{Name, NoMemory, Rdata, Record, RecordRoom, kind};
-use std::alloc::Global;
+use dns_data::{Name, Rdata, Record};
 
-/// Appends the addresses of the hosts that records name.
-pub fn push_hosts<Z: ZoneStore>(
-    alloc: Global,
-    zone: &Z,
-    answer: &[Record],
-    records: &[Record],
-    out: &mut RecordRoom,
-) -> Result<(), NoMemory>
-    ensures { OnOk result
-        (out.new ≡ with_hosts (Z.zone zone.now) answer.now out.old records.now) }
-{
-    for record in records {
-        push_addresses(alloc, zone, answer, host_of(record), out)?;
-    }
-    Ok(())
-}
-
-fn host_of(entry: &Record) -> Option<&Name>
+/// The host that a record names.
+#[inline]
+pub fn host_of(entry: &Record) -> Option<&Name>
     ensures { option_map (λ name. name.now) result ≡ host_of entry.now.rdata }
 {
     match &entry.rdata {
@@ -35,44 +18,7 @@ fn host_of(entry: &Record) -> Option<&Name>
     }
 }
 
-#[tactic(auto, unfolding(crate::specs::ZoneAnswer::with_addresses))]
-fn push_addresses<Z: ZoneStore>(
-    alloc: Global,
-    zone: &Z,
-    answer: &[Record],
-    host: Option<&Name>,
-    out: &mut RecordRoom,
-) -> Result<(), NoMemory>
-    ensures { OnOk result (out.new ≡ with_addresses (Z.zone zone.now) answer.now out.old
-        (option_map (λ name. name.now) host.entry)) }
-{
-    if let Some(name) = host {
-        push_set(alloc, zone, answer, name, kind::A, out)?;
-        push_set(alloc, zone, answer, name, kind::AAAA, out)?;
-    }
-    Ok(())
-}
-
-#[tactic(auto, unfolding(crate::specs::ZoneAnswer::with_set))]
-fn push_set<Z: ZoneStore>(
-    alloc: Global,
-    zone: &Z,
-    answer: &[Record],
-    name: &Name,
-    kind: u16,
-    out: &mut RecordRoom,
-) -> Result<(), NoMemory>
-    ensures { OnOk result (out.new ≡ with_set (Z.zone zone.now) answer.now out.old name.now kind) }
-{
-    let answered = stands_in(answer, name, kind);
-    let there = stands_in(out.as_slice(), name, kind);
-    if either(answered, there) {
-        return Ok(());
-    }
-    zone.copy_set(alloc, name, kind, out)
-}
-
-fn either(a: bool, b: bool) -> bool
+pub fn either(a: bool, b: bool) -> bool
     ensures { result ≡ (a || b) }
 {
     a || b

@@ -7,11 +7,10 @@ mod hosts;
 mod names;
 mod plain;
 mod store;
-#[cfg(test)]
-mod tests;
 
 pub use answering::lookup;
 pub use find::{Find, Step, is_aliased_kind, nothing, push_one_denying, push_owned, target_from};
-pub use names::{is_star, same, type_of};
+pub use hosts::host_of;
+pub use names::{is_of, is_star, same, type_of};
 pub use plain::PlainZone;
 pub use store::ZoneStore;

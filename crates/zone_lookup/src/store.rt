@@ -1,16 +1,21 @@
 ghost use Rattle.std.specs.Prelude.{◌≡◌, ◌++◌, map, OnOk, OnErr, IfOk};
+ghost use Rattle.std.specs.Option.{option_map};
+ghost use Rattle.dns_data.specs.Message.{no_answer};
 ghost use Rattle.dns_data.specs.declared.kind.TheConstants as kinds;
 ghost use Rattle.dns_data.specs.declared.zone.Zone.{Zone};
 ghost use Rattle.zone_lookup.specs.Zone.{exists_in, has_at, set_at, cut_of, encloser, Begins};
 ghost use Rattle.zone_lookup.specs.ZoneAnswer.{found, found_at, is_alias, denying, sought};
-ghost use Rattle.zone_lookup.specs.ZoneAnswer.{Finds, Steps};
+ghost use Rattle.zone_lookup.specs.ZoneAnswer.{with_addresses, with_hosts, with_set};
+ghost use Rattle.zone_lookup.specs.ZoneAnswer.{Finds, Refers, Steps};
 
 use crate::find::{
     Find, Step, cut_or, is_aliased_kind, nothing, push_denying, push_owned, star_below, target_from,
 };
+use crate::hosts::{either, host_of, stands_in};
 use crate::names::is_star;
-use dns_data::{Copies, Name, NoMemory, RecordRoom, kind};
+use dns_data::{Copies, Name, NoMemory, Record, RecordRoom, Slot, kind};
 use std::alloc::Global;
+use std::mem;
 
 /// The records of a zone, which contracts see as a list.
 pub trait ZoneStore {
@@ -172,5 +177,110 @@ pub trait ZoneStore {
         }
         let find = self.find(alloc, name, kind, out)?;
         Ok(Step::Found(find))
+    }
+
+    /// Appends a set, unless one of its records stands in the answer or is there.
+    #[tactic(auto, unfolding(crate::specs::ZoneAnswer::with_set))]
+    fn push_set(
+        &self,
+        alloc: Global,
+        answer: &[Record],
+        name: &Name,
+        kind: u16,
+        out: &mut RecordRoom,
+    ) -> Result<(), NoMemory>
+        ensures { OnOk result
+            (out.new ≡ with_set (zone self.now) answer.now out.old name.now kind) }
+    {
+        let answered = stands_in(answer, name, kind);
+        let there = stands_in(out.as_slice(), name, kind);
+        if either(answered, there) {
+            return Ok(());
+        }
+        self.copy_set(alloc, name, kind, out)
+    }
+
+    /// Appends the addresses of a host: A, then AAAA.
+    #[tactic(auto, unfolding(crate::specs::ZoneAnswer::with_addresses))]
+    fn push_addresses(
+        &self,
+        alloc: Global,
+        answer: &[Record],
+        host: Option<&Name>,
+        out: &mut RecordRoom,
+    ) -> Result<(), NoMemory>
+        ensures { OnOk result (out.new ≡ with_addresses (zone self.now) answer.now out.old
+            (option_map (λ name. name.now) host.entry)) }
+    {
+        if let Some(name) = host {
+            self.push_set(alloc, answer, name, kind::A, out)?;
+            self.push_set(alloc, answer, name, kind::AAAA, out)?;
+        }
+        Ok(())
+    }
+
+    /// Appends the addresses of the hosts that records name.
+    fn push_hosts(
+        &self,
+        alloc: Global,
+        answer: &[Record],
+        records: &[Record],
+        out: &mut RecordRoom,
+    ) -> Result<(), NoMemory>
+        ensures { OnOk result
+            (out.new ≡ with_hosts (zone self.now) answer.now out.old records.now) }
+    {
+        for record in records {
+            self.push_addresses(alloc, answer, host_of(record), out)?;
+        }
+        Ok(())
+    }
+
+    /// Appends the origin's NS to the authority section, and the addresses of its hosts to the
+    /// additional one.
+    fn push_servers(
+        &self,
+        alloc: Global,
+        answer: &[Record],
+        authority: &mut RecordRoom,
+        additional: &mut RecordRoom,
+    ) -> Result<(), NoMemory>
+        ensures authority { OnOk result (authority.new
+            ≡ authority.old ++ set_at (zone self.now) (zone self.now).origin kinds.NS) }
+        ensures additional { OnOk result (additional.new
+            ≡ with_hosts (zone self.now) answer.now additional.old
+            (set_at (zone self.now) (zone self.now).origin kinds.NS)) }
+    {
+        let start = authority.len();
+        self.copy_top(alloc, kind::NS, authority)?;
+        self.push_hosts(alloc, answer, &authority.as_slice()[start..], additional)
+    }
+
+    /// Fills a slot with the referral of the cut at or above a name, or else its answer section
+    /// with what the name gives.
+    fn refer_or_find(
+        &self,
+        alloc: Global,
+        name: &Name,
+        kind: u16,
+        slot: &mut Slot,
+    ) -> Result<Step, NoMemory>
+        requires clear { slot.old ≡ no_answer }
+        ensures { IfOk result (λ step.
+            Refers (zone self.now) (sought (zone self.now) name.now kind) step slot.new) }
+    {
+        match self.step(alloc, name, kind, &mut slot.answer)? {
+            Step::Cut => {
+                mem::swap(&mut slot.answer, &mut slot.authority);
+                self.push_hosts(
+                    alloc,
+                    slot.answer.as_slice(),
+                    slot.authority.as_slice(),
+                    &mut slot.additional,
+                )?;
+                Ok(Step::Cut)
+            }
+            Step::Found(find) => Ok(Step::Found(find)),
+        }
     }
 }

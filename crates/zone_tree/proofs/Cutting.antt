@@ -17,13 +17,13 @@ use Rattle.zone_lookup.specs.declared.find.Find.{Find}
 use Rattle.zone_lookup.specs.declared.find.Step.TheVariants as step
 use Rattle.zone_lookup.proofs.Suffixes.{encloser_here, encloser_up, no_encloser}
 use Rattle.zone_lookup.proofs.Finding.{finds_here, finds_wild, finds_none}
-use Rattle.zone_lookup.proofs.Chaining.{steps_cut, steps_found}
+use Rattle.zone_lookup.proofs.Chaining.{steps_found}
 use Rattle.zone_tree.specs.declared.node.Node.{Node}
 use Rattle.zone_tree.specs.declared.tree.Tree.{Tree}
-use Rattle.zone_tree.specs.Sets.{is_asked, is_kind, picked, found_in}
+use Rattle.zone_tree.specs.Sets.{is_asked, picked, found_in}
 use Rattle.zone_tree.specs.Tree.{star_at, IsStarOf, IsShape, IsNodeOf, AreNames, AreSets, IsCutAt, AreCuts, IsTree, exists_among}
 use Rattle.zone_tree.proofs.Shapes.{there, named_as, named_from, named_case, missing_case, inside, length_case, star_case, get_either, wire_case}
-use Rattle.zone_tree.proofs.Filling.{node_is, none_at, has_in_at, found_in_at, kind_at}
+use Rattle.zone_tree.proofs.Filling.{node_is, none_at, has_in_at, found_in_at}
 
 -- a test over a list of records asks of a name in small letters
 abbrev low_at : List (List ℕ) → RecordData → Bool
@@ -34,7 +34,7 @@ unfolding has_at set_at is_at is_of
 has_case zone a b kind e =
     ap (λ (low : List (List ℕ)). has_items (cond (kind == 255) (by_type [] (filter (low_at low) zone.records)) (filter (λ r. low_at low r && (kind_of r.rdata == kind)) zone.records))) e
 
-set_case : (zone : Zone) (a b : List (List ℕ)) (kind : ℕ) → lowered a ≡ lowered b → set_at zone a kind ≡ set_at zone b kind
+pub set_case : (zone : Zone) (a b : List (List ℕ)) (kind : ℕ) → lowered a ≡ lowered b → set_at zone a kind ≡ set_at zone b kind
 unfolding set_at is_at is_of
 set_case zone a b kind e =
     ap (λ (low : List (List ℕ)). cond (kind == 255) (by_type [] (filter (low_at low) zone.records)) (filter (λ r. low_at low r && (kind_of r.rdata == kind)) zone.records)) e
@@ -183,16 +183,6 @@ cut_name tree name i node c t is =
 -- what a number of the table gives, by its records
 pub set_of_number : (tree : Tree) (name : List (List ℕ)) (i : ℕ) (set : List ℕ) → IsTree tree → IsNamed tree.table i name → set ≡ get_or tree.sets.items i set → picked tree.zone.records set ≡ filter (is_at name) tree.zone.records
 set_of_number tree name i set t n is = node_is tree.table tree.zone.records tree.sets.items i name set t.sets n is
-
--- the NS set of a name
-set_is : (zone : Zone) (name : List (List ℕ)) → filter (is_kind 2) (filter (is_at name) zone.records) ≡ set_at zone name 2
-unfolding set_at
-set_is zone name = kind_at name 2 zone.records
-
-pub steps_at_cut : (tree : Tree) (name : List (List ℕ)) (kind i : ℕ) (set : List ℕ) (old new : List RecordData) (c : CutOf tree.table (cut_of tree.zone name) i) → IsTree tree → set ≡ get_or tree.sets.items i set
-    → new ≡ old ++ filter (is_kind 2) (picked tree.zone.records set) → Steps (sought tree.zone name kind) step.Cut old new
-steps_at_cut tree name kind i set old new c t is e =
-    steps_cut tree.zone name c.name kind old new c.is (e ∙ ap (λ (rs : List RecordData). old ++ rs) (ap (filter (is_kind 2)) (set_of_number tree c.name i set t c.named is) ∙ set_is tree.zone c.name))
 
 -- names that are there exist, and no others
 pub named_in : (names : List (List (List ℕ))) (zone : Zone) (i : ℕ) (name : List (List ℕ)) → AreNames names zone.records → IsNamed names i name → exists_in zone name ≡ true

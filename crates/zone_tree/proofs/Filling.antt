@@ -223,6 +223,45 @@ alias_finds node kind find old new e code is target = rw e (record {
   records = is;
 })
 
+-- the type that is asked for is CNAME or ANY
+not_aliased : (x y c : Bool) → (not x && not y) ≡ false → (not x && not y && c) ≡ false
+not_aliased true y c e = refl
+not_aliased false true c e = refl
+not_aliased false false c e = absurd cc
+
+is_aliased : (x y c : Bool) → (not x && not y) ≡ true → (not x && not y && c) ≡ c
+is_aliased true y c e = absurd cc
+is_aliased false true c e = absurd cc
+is_aliased false false c e = refl
+
+pub no_alias_kind : (node : List RecordData) (kind : ℕ) (aliased : Bool) → aliased ≡ (not (kind == 5) && not (kind == 255)) → aliased ≡ false → is_alias_in node kind ≡ false
+unfolding is_alias_in
+no_alias_kind node kind aliased is e = not_aliased (kind == 5) (kind == 255) (list_any (is_asked 5) node) (sym is ∙ e)
+
+pub alias_kind : (node : List RecordData) (kind : ℕ) (aliased has : Bool) → aliased ≡ (not (kind == 5) && not (kind == 255)) → aliased ≡ true → has ≡ list_any (is_kind 5) node → is_alias_in node kind ≡ has
+unfolding is_alias_in is_asked
+alias_kind node kind aliased has is e h = is_aliased (kind == 5) (kind == 255) (list_any (is_asked 5) node) (sym is ∙ e) ∙ sym h
+
+no_any : (x y : Bool) → (not x && not y) ≡ true → y ≡ true → ⊥
+no_any true y e t = absurd cc
+no_any false true e t = absurd cc
+no_any false false e t = absurd cc
+
+pub kind_set : (node : List RecordData) (kind : ℕ) (aliased : Bool) → aliased ≡ (not (kind == 5) && not (kind == 255)) → aliased ≡ true → set_in node kind ≡ filter (is_kind kind) node
+kind_set node kind aliased is e = set_in_of node kind (λ any. no_any (kind == 5) (kind == 255) (sym is ∙ e) (eqb-same kind 255 any))
+
+-- CNAME records behind what there was
+pub alias_tells : (set : List RecordData) (find : Find) (old new : List RecordData) (from : ℕ) → length old ≡ from → find.absent ≡ false → new ≡ old ++ set → find.target ≡ target_of (drop from new) → Finds (alias_found set) find old new
+alias_tells set find old new from e code is target = record {
+  absent = code;
+  target = target ∙ ap target_of (ap (drop from) is ∙ drop_at old set from e);
+  records = is;
+}
+
+pub alias_found_in : (node : List RecordData) (kind : ℕ) (find : Find) (old new : List RecordData) → is_alias_in node kind ≡ true → Finds (alias_found (filter (is_kind 5) node)) find old new → Finds (found_in node kind) find old new
+unfolding found_in set_in
+alias_found_in node kind find old new e f = rw e f
+
 target_as : (name : List (List ℕ)) (rs : List RecordData) → target_of (map (with_owner name) rs) ≡ target_of rs
 target_as name [] = refl
 target_as name (r ∷ rs) = refl

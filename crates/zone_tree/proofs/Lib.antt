@@ -3,3 +3,4 @@ mod Picking
 mod Shapes
 mod Filling
 mod Cutting
+mod Glue

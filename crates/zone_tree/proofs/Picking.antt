@@ -1,9 +1,10 @@
 -- The records of numbers.
-use Rattle.std.proofs.Common.{◌≡◌, ℕ, ◌+◌, ◌<◌, ◌≤◌, Bool, true, false, List, [], ◌∷◌, ◌++◌, length, take, drop, get_or, map, Option, Some, None, refl, sym, ap, ◌∙◌, append_assoc}
+use Rattle.std.proofs.Common.{◌≡◌, ℕ, ◌+◌, ◌<◌, ◌≤◌, Bool, true, false, cond, List, [], ◌∷◌, ◌++◌, length, take, drop, get_or, map, Option, Some, None, refl, sym, ap, ◌∙◌, append_assoc}
 use Rattle.std.specs.Prelude.{◌||◌, slice_get}
 use Rattle.std.specs.List.{filter, list_any}
 use Rattle.std.proofs.lemmas.List.{drop_more, drop_all, take_all, take_more, append-nil, map-append}
 use Rattle.std.proofs.lemmas.List.Elements.{filter-append}
+use Rattle.std.proofs.lemmas.List.Folds.{list_any-append}
 use Rattle.std.proofs.lemmas.Bool.{cond-true, cond-false}
 use Rattle.dns_data.specs.Record.{RecordData}
 use Rattle.zone_tree.specs.Sets.{before, picked}
@@ -50,6 +51,16 @@ leaves p records old out set i r was inside at fails =
     let none : filter p (r ∷ []) ≡ [] = cond-false _ _ _ fails in
     was ∙ ap (λ (rs : List RecordData). old ++ rs) (sym (append-nil (filter p done)) ∙ ap (λ (rs : List RecordData). filter p done ++ rs) (sym none)
     ∙ sym (filter-append p done (r ∷ [])) ∙ ap (filter p) (sym more))
+
+takes_by : (p : RecordData → Bool) (b : Bool) (records old out new : List RecordData) (set : List ℕ) (i : ℕ) (r : RecordData) → out ≡ old ++ filter p (picked records (take i set)) → i < length set
+    → slice_get records (get_or set i 0) ≡ Some r → p r ≡ b → new ≡ cond b (out ++ r ∷ []) out → new ≡ old ++ filter p (picked records (take (i + 1) set))
+takes_by p true records old out new set i r was inside at e is = takes p records old out new set i r was inside at e is
+takes_by p false records old out new set i r was inside at e is = is ∙ leaves p records old out set i r was inside at e
+
+-- either
+pub takes_or_leaves : (p : RecordData → Bool) (records old out new : List RecordData) (set : List ℕ) (i : ℕ) (r : RecordData) → out ≡ old ++ filter p (picked records (take i set)) → i < length set
+    → slice_get records (get_or set i 0) ≡ Some r → new ≡ cond (p r) (out ++ r ∷ []) out → new ≡ old ++ filter p (picked records (take (i + 1) set))
+takes_or_leaves p records old out new set i r was inside at is = takes_by p (p r) records old out new set i r was inside at refl is
 
 -- a number without a record
 pub leaves_none : (p : RecordData → Bool) (records old out : List RecordData) (set : List ℕ) (i : ℕ) → out ≡ old ++ filter p (picked records (take i set)) → i < length set
@@ -137,3 +148,42 @@ leaves_none_as f p records old out set i was inside at =
 
 pub takes_none_as : (f : RecordData → RecordData) (p : RecordData → Bool) (records old : List RecordData) → old ≡ old ++ map f (filter p (picked records []))
 takes_none_as f p records old = sym (append-nil old) ∙ ap (λ (rs : List RecordData). old ++ map f (filter p rs)) (sym (picked_none records))
+
+or_no : (b : Bool) → (b || false) ≡ b
+or_no true = refl
+or_no false = refl
+
+any_last : (p : RecordData → Bool) (rs : List RecordData) (r : RecordData) → (list_any p rs || p r) ≡ list_any p (rs ++ r ∷ [])
+any_last p rs r = sym (list_any-append p rs (r ∷ []) ∙ ap (λ (b : Bool). list_any p rs || b) (or_no (p r)))
+
+-- copies of all behind others
+pub copied_one : (records old out new : List RecordData) (set : List ℕ) (i : ℕ) (r : RecordData) → out ≡ old ++ picked records (take i set) → i < length set
+    → slice_get records (get_or set i 0) ≡ Some r → new ≡ out ++ r ∷ [] → new ≡ old ++ picked records (take (i + 1) set)
+copied_one records old out new set i r was inside at is =
+    let done = picked records (take i set) in
+    is ∙ ap (λ (rs : List RecordData). rs ++ r ∷ []) was ∙ append_assoc old done (r ∷ []) ∙ ap (λ (rs : List RecordData). old ++ rs) (copies_one records done (done ++ r ∷ []) set i r refl inside at refl)
+
+pub copied_none : (records old out : List RecordData) (set : List ℕ) (i : ℕ) → out ≡ old ++ picked records (take i set) → i < length set
+    → slice_get records (get_or set i 0) ≡ None → out ≡ old ++ picked records (take (i + 1) set)
+copied_none records old out set i was inside at = was ∙ ap (λ (rs : List RecordData). old ++ rs) (copies_none records (picked records (take i set)) set i refl inside at)
+
+pub copied_first : (records old : List RecordData) → old ≡ old ++ picked records []
+copied_first records old = sym (append-nil old) ∙ ap (λ (rs : List RecordData). old ++ rs) (sym (picked_none records))
+
+-- a number more
+pub picked_pushed : (records : List RecordData) (is : List ℕ) (i : ℕ) (r : RecordData) → slice_get records i ≡ Some r → picked records (is ++ i ∷ []) ≡ picked records is ++ r ∷ []
+picked_pushed records is i r at = picked-append records is (i ∷ []) ∙ ap (λ (rs : List RecordData). picked records is ++ rs) (picked_one records i ∙ ap (λ (o : Option RecordData). before o []) at)
+
+-- a test of each record in turn, as it is kept
+pub any_more : (p : RecordData → Bool) (records : List RecordData) (set : List ℕ) (i : ℕ) (r : RecordData) (before_is : Bool) → before_is ≡ list_any p (picked records (take i set)) → i < length set
+    → slice_get records (get_or set i 0) ≡ Some r → (before_is || p r) ≡ list_any p (picked records (take (i + 1) set))
+any_more p records set i r before_is was inside at =
+    let done = picked records (take i set) in
+    ap (λ (b : Bool). b || p r) was ∙ any_last p done r ∙ ap (list_any p) (copies_one records done (done ++ r ∷ []) set i r refl inside at refl)
+
+pub any_same : (p : RecordData → Bool) (records : List RecordData) (set : List ℕ) (i : ℕ) (before_is : Bool) → before_is ≡ list_any p (picked records (take i set)) → i < length set
+    → slice_get records (get_or set i 0) ≡ None → before_is ≡ list_any p (picked records (take (i + 1) set))
+any_same p records set i before_is was inside at = was ∙ ap (list_any p) (copies_none records (picked records (take i set)) set i refl inside at)
+
+pub any_first : (p : RecordData → Bool) (records : List RecordData) → false ≡ list_any p (picked records [])
+any_first p records = sym (ap (list_any p) (picked_none records))

@@ -1,10 +1,10 @@
 -- The records of one name, and what it gives.
-use Rattle.std.specs.Prelude.{ℕ, Bool, cond, not, ◌&&◌, ◌||◌, ◌==◌, Option, Some, None}
-use Rattle.std.specs.Prelude.{List, [], ◌∷◌, slice_get}
+use Rattle.std.specs.Prelude.{ℕ, Bool, true, false, cond, not, ◌&&◌, ◌||◌, ◌==◌}
+use Rattle.std.specs.Prelude.{◌≡◌, Option, Some, None, List, [], ◌∷◌, ◌++◌, slice_get}
 use Rattle.std.specs.List.{filter, list_any}
 use Rattle.dns_data.specs.Record.{RecordData, kind_of}
 use Rattle.dns_data.specs.declared.kind.TheConstants as kinds
-use Rattle.zone_lookup.specs.Zone.{by_type}
+use Rattle.zone_lookup.specs.Zone.{by_type, is_of}
 use Rattle.zone_lookup.specs.ZoneAnswer.{Found, alias_found, set_found}
 
 -- the record has the type
@@ -39,3 +39,15 @@ unfoldable pub found_in : List RecordData → ℕ → Found
 found_in node kind =
     cond (is_alias_in node kind) (alias_found (set_in node kinds.CNAME))
     (set_found (set_in node kind))
+
+-- whether one of the records has the name and the type of one of the others
+unfoldable pub meet : List RecordData → List RecordData → Bool
+meet others rs = list_any (λ r. list_any (is_of r.owner (kind_of r.rdata)) others) rs
+
+-- records were appended that meet none of the answer's and none that was there; or nothing was
+-- done
+abbrev pub CopiesApart : Bool → List RecordData → List RecordData → List RecordData
+    → List RecordData → Type 0
+CopiesApart true answer rs old new =
+    (meet answer rs ≡ false) × (meet old rs ≡ false) × (new ≡ old ++ rs)
+CopiesApart false answer rs old new = new ≡ old

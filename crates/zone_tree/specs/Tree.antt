@@ -7,7 +7,9 @@ use Rattle.dns_data.specs.Record.{RecordData}
 use Rattle.dns_names.specs.declared.limit.TheConstants as limits
 use Rattle.dns_data.specs.declared.zone.Zone.{Zone}
 use Rattle.name_table.specs.Table.{IsMissing, IsNamed, IsNumberOf}
-use Rattle.zone_lookup.specs.Zone.{cut_of, is_at, is_star, is_under}
+use Rattle.zone_lookup.specs.Zone.{cut_of, is_at, is_star, is_under, set_at}
+use Rattle.zone_lookup.specs.ZoneAnswer.{with_hosts}
+use Rattle.dns_data.specs.declared.kind.TheConstants as kinds
 use Rattle.zone_tree.specs.declared.node.Node.{Node}
 use Rattle.zone_tree.specs.declared.tree.Tree.{Tree}
 use Rattle.zone_tree.specs.Sets.{picked}
@@ -114,6 +116,19 @@ pub record AreCuts (names : List (List (List ℕ))) (zone : Zone) (cuts : List (
   pub each : (i : ℕ) (name : List (List ℕ)) (cut : Option ℕ) → slice_get names i ≡ Some name
       → slice_get cuts i ≡ Some cut → IsCutAt names (cut_of zone name) cut
 
+-- the numbers are those of the addresses of an NS set's hosts, where they are kept
+abbrev pub IsHostsOf : Zone → Option (List ℕ) → List (List ℕ) → Type 0
+IsHostsOf zone None name = Unit {0}
+IsHostsOf zone (Some set) name =
+    picked zone.records set ≡ with_hosts zone [] [] (set_at zone name kinds.NS)
+
+-- those of the first so many names
+pub record AreHosts (names : List (List (List ℕ))) (zone : Zone) (hosts : List (Option (List ℕ)))
+    (count : ℕ) : Type 0 where
+  pub as_many : length hosts ≡ count
+  pub each : (i : ℕ) (name : List (List ℕ)) (set : Option (List ℕ)) → slice_get names i ≡ Some name
+      → slice_get hosts i ≡ Some set → IsHostsOf zone set name
+
 -- the number is that of a name, where it is there
 abbrev pub IsNumbered : List (List (List ℕ)) → Option ℕ → List (List ℕ) → Type 0
 IsNumbered names None name = IsMissing names name
@@ -126,3 +141,4 @@ pub record IsTree (tree : Tree) : Type 0 where
   pub top : IsNumbered tree.table tree.top tree.zone.origin
   pub sets : AreSets tree.table tree.zone.records tree.sets.items (length tree.zone.records)
   pub cuts : AreCuts tree.table tree.zone tree.cuts.items (length tree.table)
+  pub hosts : AreHosts tree.table tree.zone tree.hosts.items (length tree.table)

@@ -1,11 +1,13 @@
-ghost use Rattle.std.specs.Prelude.{◌≡◌, ◌++◌, IfOk, OnOk, OnErr};
+ghost use Rattle.std.specs.Prelude.{◌≡◌, ◌≤◌, false, None, length, take, IfOk};
+ghost use Rattle.std.specs.List.{filter};
+ghost use Rattle.dns_data.specs.declared.kind.TheConstants as kinds;
 ghost use Rattle.name_table.specs.{IsLongest};
 ghost use Rattle.zone_lookup.specs.{Finds, found};
-ghost use Rattle.zone_lookup.specs.ZoneAnswer.{owned_by};
-ghost use Rattle.zone_tree.specs.Sets.{found_in, is_alias_in, picked};
+ghost use Rattle.zone_lookup.specs.ZoneAnswer.{alias_found, owned_by};
+ghost use Rattle.zone_tree.specs.Sets.{found_in, is_alias_in, is_kind, picked};
 ghost use Rattle.zone_tree.specs.Tree.{IsTree};
 
-use crate::sets::{copy_asked, copy_owned, has_asked};
+use crate::sets::{copy_and_tell, copy_asked, copy_kind, copy_owned, has_asked};
 use crate::tree::Tree;
 use dns_data::{Name, NoMemory, Record, RecordRoom, kind};
 use name_table::Longest;
@@ -15,6 +17,7 @@ use zone_lookup::{Find, is_aliased_kind, nothing, target_from};
 impl Tree {
     /// Appends what a name gives: what stands at it, or what the wildcard below its closest
     /// encloser gives for it. The table has the closest encloser as its longest suffix.
+    #[inline(always)]
     pub fn find(
         &self,
         alloc: Global,
@@ -41,6 +44,7 @@ impl Tree {
 }
 
 // Appends what stands at a name with these records.
+#[inline(always)]
 fn find_in(
     alloc: Global,
     records: &[Record],
@@ -51,23 +55,42 @@ fn find_in(
     ensures { IfOk result
         (λ find. Finds (found_in (picked records.now set.now) kind) find out.old out.new) }
 {
-    if is_alias_in(records, set, kind) {
-        let start = out.len();
-        copy_asked(alloc, records, set, kind::CNAME, out)?;
-        let target = target_from(alloc, out, start)?;
-        return Ok(Find {
-            absent: false,
-            target,
-        });
+    if !is_aliased_kind(kind) {
+        copy_asked(alloc, records, set, kind, out)?;
+        return Ok(no_target());
     }
-    copy_asked(alloc, records, set, kind, out)?;
+    let start = out.len();
+    if copy_and_tell(alloc, records, set, kind, out)? {
+        return find_alias(alloc, records, set, start, out);
+    }
+    Ok(no_target())
+}
+
+// Appends the CNAME records in place of what stands there from some place on.
+#[inline(never)]
+fn find_alias(
+    alloc: Global,
+    records: &[Record],
+    set: &[usize],
+    from: usize,
+    out: &mut RecordRoom,
+) -> Result<Find, NoMemory>
+    requires { from ≤ length out.old }
+    ensures { IfOk result (λ find. Finds
+        (alias_found (filter (is_kind kinds.CNAME) (picked records.now set.now)))
+        find (take from out.old) out.new) }
+{
+    out.truncate(from);
+    copy_kind(alloc, records, set, kind::CNAME, out)?;
+    let target = target_from(alloc, out, from)?;
     Ok(Find {
         absent: false,
-        target: None,
+        target,
     })
 }
 
 // Appends the same for a name at which a wildcard stands in.
+#[inline(never)]
 fn find_owned(
     alloc: Global,
     records: &[Record],
@@ -89,10 +112,19 @@ fn find_owned(
         });
     }
     copy_owned(alloc, records, set, kind, name, out)?;
-    Ok(Find {
+    Ok(no_target())
+}
+
+// The records of a name are its own.
+#[inline]
+fn no_target() -> Find
+    ensures absent { result.absent ≡ false }
+    ensures target { result.target ≡ None }
+{
+    Find {
         absent: false,
         target: None,
-    })
+    }
 }
 
 #[tactic(auto, unfolding(crate::specs::Sets::is_alias_in))]

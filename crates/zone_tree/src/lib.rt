@@ -4,6 +4,7 @@
 
 mod cuts;
 mod find;
+mod hosts;
 mod node;
 mod sets;
 mod shape;

@@ -1,4 +1,4 @@
-ghost use Rattle.std.specs.Prelude.{◌≡◌, ◌++◌, [], ◌∷◌, Some, None, length, slice_get};
+ghost use Rattle.std.specs.Prelude.{◌≡◌, ◌++◌, ◌||◌, [], ◌∷◌, cond, Some, None, length, slice_get};
 ghost use Rattle.std.specs.Prelude.{IfSome, IfNone, IfOk, OnOk, OnErr, map};
 ghost use Rattle.dns_data.specs.declared.kind.TheConstants as kinds;
 ghost use Rattle.std.specs.List.{filter, list_any};
@@ -57,9 +57,9 @@ pub fn has_asked(records: &[Record], set: &[usize], kind: u16) -> bool
     false
 }
 
-// The record of a number, where there is one.
+/// The record of a number, where there is one.
 #[inline]
-fn record_at(records: &[Record], number: usize) -> Option<&Record>
+pub fn record_at(records: &[Record], number: usize) -> Option<&Record>
     ensures some { IfSome result (λ r. slice_get records.now number ≡ Some r.now) }
     ensures none { IfNone result (slice_get records.now number ≡ None) }
 {
@@ -77,8 +77,9 @@ fn is_asked(entry: &Record, kind: u16) -> bool
     kind == kind::ANY || type_of(entry) == kind
 }
 
+/// Whether the record has the type.
 #[tactic(auto, unfolding(crate::specs::Sets::is_kind))]
-fn is_kind(entry: &Record, kind: u16) -> bool
+pub fn is_kind(entry: &Record, kind: u16) -> bool
     ensures { result ≡ is_kind kind entry.now }
 {
     type_of(entry) == kind
@@ -119,6 +120,49 @@ pub fn copy_kind(
                 out.push(alloc, record)?;
             }
         }
+    }
+    Ok(())
+}
+
+/// Appends the same. Says whether a CNAME is among all of them.
+pub fn copy_and_tell(
+    alloc: Global,
+    records: &[Record],
+    set: &[usize],
+    kind: u16,
+    out: &mut RecordRoom,
+) -> Result<bool, NoMemory>
+    ensures copied { OnOk result
+        (out.new ≡ out.old ++ filter (is_kind kind) (picked records.now set.now)) }
+    ensures alias { IfOk result
+        (λ has. has ≡ list_any (is_kind kinds.CNAME) (picked records.now set.now)) }
+{
+    let mut has_alias = false;
+    for number in set {
+        if let Some(record) = record_at(records, *number) {
+            has_alias = has_alias_by(has_alias, record);
+            copy_one(alloc, record, kind, out)?;
+        }
+    }
+    Ok(has_alias)
+}
+
+// Whether there was a CNAME, or this is one.
+#[inline]
+fn has_alias_by(before: bool, entry: &Record) -> bool
+    ensures { result ≡ (before || is_kind kinds.CNAME entry.now) }
+{
+    before || is_kind(entry, kind::CNAME)
+}
+
+// Appends a copy of a record of the type.
+#[inline]
+fn copy_one(alloc: Global, entry: &Record, kind: u16, out: &mut RecordRoom) -> Result<(), NoMemory>
+    ensures { OnOk result
+        (out.new ≡ cond (is_kind kind entry.now) (out.old ++ entry.now ∷ []) out.old) }
+{
+    if is_kind(entry, kind) {
+        return out.push(alloc, entry);
     }
     Ok(())
 }

@@ -1,6 +1,7 @@
+use crate::hosts::{copy_apart, copy_numbers};
 use crate::sets::{copy_asked, copy_denying, copy_kind, has_asked};
 use crate::tree::TreeZone;
-use dns_data::{Name, NoMemory, RecordRoom, kind};
+use dns_data::{Name, NoMemory, Record, RecordRoom, Slot, kind};
 use std::alloc::Global;
 use zone_lookup::{Find, Step, ZoneStore, nothing};
 
@@ -94,23 +95,64 @@ impl ZoneStore for TreeZone {
         copy_denying(alloc, records, tree.sets[number].as_slice(), out)
     }
 
-    fn step(
+    fn push_servers(
+        &self,
+        alloc: Global,
+        answer: &[Record],
+        authority: &mut RecordRoom,
+        additional: &mut RecordRoom,
+    ) -> Result<(), NoMemory> {
+        let tree = &self.tree;
+        let Some(number) = tree.top else {
+            return Ok(());
+        };
+        let records = tree.zone.records.as_slice();
+        let start = authority.len();
+        copy_kind(
+            alloc,
+            records,
+            tree.sets[number].as_slice(),
+            kind::NS,
+            authority,
+        )?;
+        let Some(hosts) = &tree.hosts[number] else {
+            return self.push_hosts(alloc, answer, &authority.as_slice()[start..], additional);
+        };
+        if copy_apart(alloc, records, hosts.as_slice(), answer, additional)? {
+            return Ok(());
+        }
+        self.push_hosts(alloc, answer, &authority.as_slice()[start..], additional)
+    }
+
+    fn refer_or_find(
         &self,
         alloc: Global,
         name: &Name,
         kind: u16,
-        out: &mut RecordRoom,
+        slot: &mut Slot,
     ) -> Result<Step, NoMemory> {
         let tree = &self.tree;
         let Some(encloser) = tree.table.find_longest(name) else {
             return Ok(Step::Found(nothing()));
         };
-        if let Some(cut) = tree.cuts[encloser.number] {
-            let records = tree.zone.records.as_slice();
-            copy_kind(alloc, records, tree.sets[cut].as_slice(), kind::NS, out)?;
+        let Some(cut) = tree.cuts[encloser.number] else {
+            let find = tree.find(alloc, name, encloser, kind, &mut slot.answer)?;
+            return Ok(Step::Found(find));
+        };
+        let records = tree.zone.records.as_slice();
+        copy_kind(
+            alloc,
+            records,
+            tree.sets[cut].as_slice(),
+            kind::NS,
+            &mut slot.authority,
+        )?;
+        let Some(hosts) = &tree.hosts[cut] else {
+            let servers = slot.authority.as_slice();
+            self.push_hosts(alloc, &[], servers, &mut slot.additional)?;
             return Ok(Step::Cut);
-        }
-        let find = tree.find(alloc, name, encloser, kind, out)?;
-        Ok(Step::Found(find))
+        };
+        copy_numbers(alloc, records, hosts.as_slice(), &mut slot.additional)?;
+        Ok(Step::Cut)
     }
 }

@@ -2,6 +2,7 @@ ghost use Rattle.std.specs.Prelude.{◌≡◌, IfOk};
 ghost use Rattle.zone_tree.specs.Tree.{IsNumbered, IsTree};
 
 use crate::cuts::cuts_of;
+use crate::hosts::hosts_of;
 use crate::node::{Node, Numbers};
 use crate::sets::sets_of;
 use crate::shape::add_owners;
@@ -11,7 +12,7 @@ use std::alloc::Global;
 use std::marker::Model;
 
 /// A zone, and what was found out of each of its names. Their numbers are their places in `nodes`,
-/// `sets` and `cuts`.
+/// `sets`, `cuts` and `hosts`.
 #[derive(Debug, Drop)]
 pub struct Tree {
     pub zone: Zone,
@@ -24,6 +25,8 @@ pub struct Tree {
     pub sets: Vec<Numbers>,
     /// The number of the cut at or above a name.
     pub cuts: Vec<Option<usize>>,
+    /// The numbers of the addresses of the hosts that a name's NS set names, where they are kept.
+    pub hosts: Vec<Option<Numbers>>,
 }
 
 /// A zone as a tree of its names. Contracts see the zone.
@@ -66,6 +69,7 @@ impl Tree {
         let top = number_of(&table, &zone.origin);
         let sets = sets_of(alloc, records, &table)?;
         let cuts = cuts_of(alloc, &zone, &table, &nodes, &sets)?;
+        let hosts = hosts_of(alloc, &zone, &table, &sets)?;
         Ok(Tree {
             zone,
             table,
@@ -73,6 +77,7 @@ impl Tree {
             top,
             sets,
             cuts,
+            hosts,
         })
     }
 }

@@ -6,7 +6,6 @@ use Rattle.zone_lookup.proofs.answering.positive.Goals as goal
 pub returns : goal.returns
 returns g c =
     let first = rw (c.as_slice.ensures, c.as_slice-2.ensures) at c.in_ok-push_hosts.ensures in
-    let second = rw (c.as_slice-3.ensures, c.as_slice-4.ensures) at c.push_hosts-2.ensures in
-    on_ok_weaker c.push_hosts-2.result
-    (λ e. answers (g.Z.ZoneStore.zone c.args.zone.now) c.args.name.now c.args.kind _ _ _ c.in_ok-end.end _ _ _ _ (c.slot.view_is ∙ c.requires.clear) c.rcode_of-slot-inside.ensures.value c.in_ok-end.ensures c.in_ok-push_authority.ensures first e)
-    second
+    on_ok_weaker c.push_authority.result
+    (λ e. e ∙ answers (g.Z.ZoneStore.zone c.args.zone.now) c.args.name.now c.args.kind _ _ _ c.in_ok-end.end _ _ (c.slot.view_is ∙ c.requires.clear) c.rcode_of-slot-inside.ensures.value c.in_ok-end.ensures first)
+    c.push_authority.ensures

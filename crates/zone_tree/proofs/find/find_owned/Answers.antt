@@ -10,4 +10,4 @@ returns-then-is_alias_in c =
     (c.in_ok-target.ensures ∙ ap (λ n. target_of (drop n c.copy_owned.new.out)) c.len-start.ensures)
 
 pub returns : goal.returns
-returns c = set_finds_as c.args.name.now (picked c.args.records.now c.args.set.now) c.args.kind _ _ _ (sym c.is_alias_in.ensures ∙ c.if-is_alias_in.false) refl refl c.in_ok-copy_owned-2.ensures
+returns c = set_finds_as c.args.name.now (picked c.args.records.now c.args.set.now) c.args.kind _ _ _ (sym c.is_alias_in.ensures ∙ c.if-is_alias_in.false) c.no_target.ensures.absent c.no_target.ensures.target c.in_ok-copy_owned-2.ensures

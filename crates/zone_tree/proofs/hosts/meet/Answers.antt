@@ -1,0 +1,6 @@
+use Rattle.zone_tree.specs.Sets.{picked}
+use Rattle.zone_tree.proofs.Glue.{meet_none}
+use Rattle.zone_tree.proofs.hosts.meet.Goals as goal
+
+pub returns-then-others-eq0 : goal.returns-then-others-eq0
+returns-then-others-eq0 c = meet_none c.args.others.now (picked c.args.records.now c.args.set.now) c.if-others-eq0.true

@@ -5,11 +5,11 @@ ghost use Rattle.slab.specs.Slab.{slab_len};
 use crate::peer::{Peer, Step};
 use crate::sender::Client;
 use dns_data::Buffer;
+use mio::event::Event;
 use mio::net::TcpStream;
 use mio::{Interest, Registry, Token};
 use slab::Slab;
 use std::alloc::Global;
-use std::collections::VecDeque;
 use stream_connection::Bounds;
 
 // Between two walks over all connections, in milliseconds.
@@ -18,20 +18,22 @@ const BETWEEN: u64 = 1_000;
 /// What a turn gave. Nothing: no message this time.
 #[derive(Clone, Copy, Debug, PartialEq, Eq)]
 pub(crate) enum Turn {
-    Got(Client),
+    Got,
     Nothing,
     NoMemory,
 }
 
-/// The connections of one side. Those that may have a message stand in a queue, each once; the
-/// first gives one message at most and goes to the end.
+/// The connections of one side. Those that may have a message stand in a ring, each once, and give
+/// one message at most in their turn.
 #[derive(Drop)]
 pub(crate) struct Crowd {
     alloc: Global,
     bounds: Bounds,
     peers: Slab<Peer>,
-    ready: VecDeque<usize>,
-    // Whose message was given last. It isn't in the queue.
+    ready: Vec<usize>,
+    // Where the one stands whose turn it is. Where that is behind the last, it is the first's.
+    at: usize,
+    // Whose message was given last. It is still its turn.
     last: Option<usize>,
     // When all were walked over last.
     walked: u64,
@@ -44,14 +46,11 @@ impl Crowd {
             alloc,
             bounds,
             peers: Slab::new(alloc),
-            ready: VecDeque::new(alloc),
+            ready: Vec::new(alloc),
+            at: 0,
             last: None,
             walked: 0,
         }
-    }
-
-    pub fn is_empty(&self) -> bool {
-        self.peers.is_empty()
     }
 
     pub fn has_room(&self) -> bool
@@ -76,7 +75,7 @@ impl Crowd {
         if registry.register(&mut stream, Token(key), both).is_err() {
             return;
         }
-        if self.ready.push_back(key).is_err() {
+        if self.ready.push(key).is_err() {
             return;
         }
         let _key = self
@@ -84,62 +83,62 @@ impl Crowd {
             .insert(Peer::new(self.alloc, stream, client, now));
     }
 
-    /// Is told that something came for a connection, or can go to it.
-    pub fn wake(&mut self, key: usize) {
+    /// Is told that something came for a connection, or can go to it. What waits for one that may
+    /// have a message goes out with the replies to its burst.
+    pub fn wake(&mut self, event: &Event) {
+        let key = event.token().0;
         let Some(peer) = self.peers.get_mut(key) else {
             return;
         };
-        peer.flush();
+        peer.ending |= event.is_read_closed();
+        peer.more |= peer.ending || event.is_readable() || event.is_error();
         if peer.queued {
             return;
         }
-        if self.ready.push_back(key).is_ok() {
-            peer.queued = true;
-        }
+        peer.flush();
+        peer.queued = self.ready.push(key).is_ok();
     }
 
-    /// Puts the connection whose message was given last at the end of the queue.
-    pub fn requeue(&mut self) {
-        let Some(key) = self.last.take() else {
-            return;
-        };
-        if self.peers.get(key).is_some() && self.ready.push_back(key).is_err() {
-            self.close(key);
+    /// The turn of the next connection that may have a message. `client` becomes who sent it.
+    pub fn turn(
+        &mut self,
+        piece: &mut [u8],
+        message: &mut Buffer,
+        client: &mut Client,
+        now: u64,
+    ) -> Turn {
+        if self.last.take().is_some() {
+            self.at = self.at.saturating_add(1);
         }
-    }
-
-    /// The turn of the connection at the front of the queue.
-    pub fn turn(&mut self, piece: &mut [u8], message: &mut Buffer, now: u64) -> Turn {
-        let Some(key) = self.ready.pop_front() else {
+        if self.at >= self.ready.len() {
+            self.at = 0;
+        }
+        let Some(place) = self.ready.get(self.at) else {
             return Turn::Nothing;
         };
+        let key = *place;
         let Some(peer) = self.peers.get_mut(key) else {
+            self.leave();
             return Turn::Nothing;
         };
-        let client = peer.client();
         match peer.step(piece, message, now) {
             Step::Message => {
+                *client = peer.client;
                 self.last = Some(key);
-                Turn::Got(client)
+                return Turn::Got;
             }
-            Step::More => {
-                self.last = Some(key);
-                self.requeue();
-                Turn::Nothing
-            }
+            Step::More => self.at = self.at.saturating_add(1),
             Step::Blocked => {
                 peer.queued = false;
-                Turn::Nothing
+                self.leave();
             }
-            Step::Closed => {
-                self.close(key);
-                Turn::Nothing
-            }
+            Step::Closed => self.drop_current(key),
             Step::NoMemory => {
-                self.close(key);
-                Turn::NoMemory
+                self.drop_current(key);
+                return Turn::NoMemory;
             }
         }
+        Turn::Nothing
     }
 
     /// Replies to the connection whose message was given last, and says whether it could. One to
@@ -158,11 +157,12 @@ impl Crowd {
             return true;
         }
         self.last = None;
-        self.close(key);
+        self.drop_current(key);
         false
     }
 
-    /// Closes the connections that were idle or slow for too long, once a second.
+    /// Once a second, closes the connections that were idle or slow for too long, and gives back
+    /// memory of those that rest.
     pub fn walk(&mut self, now: u64) {
         if now.saturating_sub(self.walked) < BETWEEN && self.walked <= now {
             return;
@@ -170,14 +170,27 @@ impl Crowd {
         self.walked = now;
         let open = self.peers.len();
         for key in 0..self.peers.capacity() {
-            let late = match self.peers.get(key) {
-                Some(peer) => peer.is_late(&self.bounds, open, now),
+            let late = match self.peers.get_mut(key) {
+                Some(peer) => peer.rests_late(&self.bounds, open, now),
                 None => false,
             };
             if late {
                 self.close(key);
             }
         }
+    }
+
+    // The connection whose turn it is leaves the ring. The last takes its place and its turn.
+    fn leave(&mut self) {
+        if self.at < self.ready.len() {
+            let _key = self.ready.swap_remove(self.at);
+        }
+    }
+
+    // Closes the connection whose turn it is.
+    fn drop_current(&mut self, key: usize) {
+        self.leave();
+        self.close(key);
     }
 
     fn close(&mut self, key: usize) {

@@ -40,10 +40,14 @@ enum Reading {
 #[derive(Drop)]
 pub(crate) struct Peer {
     stream: TcpStream,
-    client: Client,
+    pub client: Client,
     bytes: Connection,
-    // Whether its key stands in the queue of the crowd, or its message was the last one.
+    // Whether its key stands in the ring of the crowd.
     pub queued: bool,
+    // Whether the system may have bytes of it.
+    pub more: bool,
+    // The system told that it sends no more behind what the system has.
+    pub ending: bool,
     // It sends no more.
     ended: bool,
     // A write failed.
@@ -57,29 +61,34 @@ impl Peer {
             client,
             bytes: Connection::new(alloc, now),
             queued: true,
+            more: true,
+            ending: false,
             ended: false,
             broken: false,
         }
     }
 
-    pub fn client(&self) -> Client {
-        self.client
+    /// The next whole message.
+    #[inline(always)]
+    pub fn step(&mut self, piece: &mut [u8], message: &mut Buffer, now: u64) -> Step {
+        match self.bytes.next(message, now) {
+            Next::Message => Step::Message,
+            Next::NoMemory => Step::NoMemory,
+            Next::Part => self.read_on(piece, message, now),
+        }
     }
 
-    /// The next whole message. Before more is read, what waits goes out, so that the replies to a
-    /// burst leave together.
-    pub fn step(&mut self, piece: &mut [u8], message: &mut Buffer, now: u64) -> Step {
+    // The next whole message, where none is here, as behind each burst. Before more is read, what
+    // waits goes out, so that the replies to a burst leave together.
+    #[cold]
+    #[inline(never)]
+    fn read_on(&mut self, piece: &mut [u8], message: &mut Buffer, now: u64) -> Step {
         for _ in 0..READS {
-            match self.bytes.next(message, now) {
-                Next::Message => return Step::Message,
-                Next::NoMemory => return Step::NoMemory,
-                Next::Part => {}
-            }
             self.flush();
             if self.is_over() {
                 return Step::Closed;
             }
-            if self.ended {
+            if self.ended || !self.more {
                 return Step::Blocked;
             }
             match self.read(piece, now) {
@@ -88,20 +97,32 @@ impl Peer {
                 Reading::End => self.ended = true,
                 Reading::Failed => return Step::Closed,
             }
+            match self.bytes.next(message, now) {
+                Next::Message => return Step::Message,
+                Next::NoMemory => return Step::NoMemory,
+                Next::Part => {}
+            }
         }
         Step::More
     }
 
-    // One read of what came.
+    // One read of what came. One that isn't full took all that the system had; what comes behind it
+    // is told, but for the end, which may have been told with it.
     fn read(&mut self, piece: &mut [u8], now: u64) -> Reading {
         match self.stream.read(piece) {
             Ok(0) => Reading::End,
-            Ok(count) => match self.bytes.come(&piece[..count], now) {
-                Ok(()) => Reading::Some,
-                Err(_) => Reading::Failed,
-            },
+            Ok(count) => {
+                self.more = self.ending || count == piece.len();
+                match self.bytes.come(&piece[..count], now) {
+                    Ok(()) => Reading::Some,
+                    Err(_) => Reading::Failed,
+                }
+            }
             Err(fault) => match fault.kind() {
-                ErrorKind::WouldBlock => Reading::Blocked,
+                ErrorKind::WouldBlock => {
+                    self.more = false;
+                    Reading::Blocked
+                }
                 ErrorKind::Interrupted => Reading::Some,
                 _ => Reading::Failed,
             },
@@ -147,7 +168,12 @@ impl Peer {
     }
 
     /// Whether it is to be closed, where so many are open, since it was idle or slow for too long.
-    pub fn is_late(&self, bounds: &Bounds, count: usize, now: u64) -> bool {
-        !self.queued && self.bytes.is_late(bounds, count, now)
+    /// One that rests gives memory back.
+    pub fn rests_late(&mut self, bounds: &Bounds, count: usize, now: u64) -> bool {
+        if self.queued {
+            return false;
+        }
+        self.bytes.rest();
+        self.bytes.is_late(bounds, count, now)
     }
 }

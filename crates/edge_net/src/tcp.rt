@@ -44,6 +44,8 @@ pub struct TcpEnd {
     failed: bool,
     // How many turns there may still be before the system is asked again.
     turns: usize,
+    // When the system was asked last, in milliseconds.
+    now: u64,
 }
 
 impl TcpEnd {
@@ -70,6 +72,7 @@ impl TcpEnd {
             more: true,
             failed: false,
             turns: 0,
+            now: 0,
         })
     }
 
@@ -82,7 +85,6 @@ impl TcpEnd {
         message: &mut Buffer,
         client: &mut Client,
     ) -> Arrival {
-        self.crowd.requeue();
         for _ in 0..u64::MAX {
             if self.turns == 0 || self.crowd.ready() == 0 {
                 match self.wait(clock) {
@@ -92,12 +94,9 @@ impl TcpEnd {
                 }
             }
             self.turns = self.turns.saturating_sub(1);
-            let now = moment(clock).unwrap_or(0);
-            match self.crowd.turn(self.piece.as_mut_slice(), message, now) {
-                Turn::Got(sender) => {
-                    *client = sender;
-                    return Arrival::Got;
-                }
+            let piece = self.piece.as_mut_slice();
+            match self.crowd.turn(piece, message, client, self.now) {
+                Turn::Got => return Arrival::Got,
                 Turn::NoMemory => return Arrival::NoMemory,
                 Turn::Nothing => {}
             }
@@ -113,7 +112,10 @@ impl TcpEnd {
     }
 
     // Asks the system what came, and waits for it where no connection may have a message. False
-    // where it waited as long as it may and nothing came.
+    // where it waited as long as it may and nothing came. Mostly a message is here, and this is a
+    // call of its own.
+    #[cold]
+    #[inline(never)]
     fn wait(&mut self, clock: &impl Clock) -> io::Result<bool> {
         let time = self.patience();
         self.poll.poll(&mut self.events, Some(time))?;
@@ -123,13 +125,13 @@ impl TcpEnd {
             if event.token() == LISTENER {
                 self.more = true;
             } else {
-                self.crowd.wake(event.token().0);
+                self.crowd.wake(event);
             }
         }
-        let now = moment(clock).unwrap_or(0);
-        self.crowd.walk(now);
+        self.now = moment(clock).unwrap_or(0);
+        self.crowd.walk(self.now);
         if self.more || self.failed {
-            self.accept(now);
+            self.accept(self.now);
         }
         self.turns = self.crowd.ready().max(TURNS);
         Ok(came)

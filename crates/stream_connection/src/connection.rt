@@ -134,6 +134,14 @@ impl Connection {
         self.replies.skip(count);
     }
 
+    /// Gives back memory that was for more bytes than there are.
+    pub fn rest(&mut self)
+        ensures { self.new ≡ self.old }
+    {
+        self.came.rest();
+        self.replies.rest();
+    }
+
     /// Whether the connection is to be closed, where so many are open: it was without a whole
     /// message, or a message was here in part, for longer than may be.
     pub fn is_late(&self, bounds: &Bounds, count: usize, now: u64) -> bool

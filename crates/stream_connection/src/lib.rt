@@ -5,8 +5,6 @@
 mod backlog;
 mod bounds;
 mod connection;
-#[cfg(test)]
-mod tests;
 
 pub use backlog::Backlog;
 pub use bounds::Bounds;

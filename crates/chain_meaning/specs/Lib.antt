@@ -2,6 +2,7 @@ pub mod RefusalTexts
 pub mod Steps
 pub mod Mean
 pub mod MeanLaws
+pub mod CauseLaws
 pub mod Accepting
 pub mod AcceptingLaws
 pub mod Serving

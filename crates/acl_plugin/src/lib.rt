@@ -7,8 +7,6 @@ mod part;
 mod plan;
 mod policy;
 mod reading;
-#[cfg(test)]
-mod tests;
 
 pub use plan::{AclPlan, AclSay, decide};
 pub use policy::{Action, Policy};

@@ -4,7 +4,5 @@
 mod choice;
 mod command;
 mod given;
-#[cfg(test)]
-mod tests;
 
 pub use command::{Command, DEFAULT_PORT, DEFAULT_WORKERS, LOAD, Serve, WORKERS, read_command};

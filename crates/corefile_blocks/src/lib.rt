@@ -14,8 +14,6 @@ mod reader;
 mod reading;
 mod shared;
 mod stack;
-#[cfg(test)]
-mod tests;
 mod wanted;
 
 pub use bundle::Bundle;

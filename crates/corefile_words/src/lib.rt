@@ -6,8 +6,6 @@ mod line;
 mod lines;
 mod quoted;
 mod reading;
-#[cfg(test)]
-mod tests;
 mod variable;
 mod word;
 

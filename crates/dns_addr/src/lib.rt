@@ -9,8 +9,6 @@ mod cut;
 mod groups;
 mod net;
 mod runs;
-#[cfg(test)]
-mod tests;
 mod v4;
 mod v6;
 

@@ -17,8 +17,6 @@ mod record;
 mod record_set;
 mod room;
 mod slot;
-#[cfg(test)]
-mod tests;
 mod zone;
 
 pub use answer::Answer;

@@ -7,8 +7,6 @@ mod bytes;
 mod memory;
 mod seq;
 mod short;
-#[cfg(test)]
-mod tests;
 mod text;
 mod wire;
 

@@ -12,8 +12,6 @@ mod running;
 mod sides;
 mod status;
 mod telling;
-#[cfg(test)]
-mod tests;
 
 pub use chain_meaning::Refusal;
 pub use query_worker::WorkEnd;

@@ -5,8 +5,6 @@ mod choice;
 mod fault;
 mod plan;
 mod reading;
-#[cfg(test)]
-mod tests;
 
 pub use choice::{FileSay, decide, zone_for};
 pub use fault::FileFault;

@@ -9,8 +9,6 @@ mod options;
 mod plan;
 mod reading;
 mod say;
-#[cfg(test)]
-mod tests;
 mod words;
 
 pub use plan::HostsPlan;

@@ -6,7 +6,5 @@ mod bucket;
 mod hash;
 mod letters;
 mod table;
-#[cfg(test)]
-mod tests;
 
 pub use table::{Longest, NameTable};

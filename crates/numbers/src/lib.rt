@@ -3,8 +3,6 @@
 
 mod duration;
 mod reading;
-#[cfg(test)]
-mod tests;
 
 pub use duration::read_duration;
 pub use reading::read_number;

@@ -4,8 +4,6 @@
 mod fallthrough;
 mod finding;
 mod reading;
-#[cfg(test)]
-mod tests;
 
 pub use fallthrough::{fallthrough_of, fallthrough_why};
 pub use finding::{option_in, words_behind};

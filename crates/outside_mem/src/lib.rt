@@ -10,8 +10,6 @@ mod marks;
 mod readings;
 mod side;
 mod telling;
-#[cfg(test)]
-mod tests;
 mod told;
 mod watch;
 mod watch_feed;

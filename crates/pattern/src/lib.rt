@@ -5,8 +5,6 @@
 mod automaton;
 mod compiled;
 mod scratch;
-#[cfg(test)]
-mod tests;
 
 pub use compiled::Pattern;
 pub use scratch::Scratch;

@@ -11,8 +11,6 @@ mod reading;
 mod restoring;
 mod saying;
 mod serving;
-#[cfg(test)]
-mod tests;
 
 pub use fault::PlainFault;
 pub use serving::{Plain, plain_serve};

@@ -6,8 +6,6 @@ mod any;
 mod lines;
 mod plan;
 mod reload;
-#[cfg(test)]
-mod tests;
 mod whoami;
 
 pub use any::any_answer;

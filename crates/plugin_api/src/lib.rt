@@ -8,8 +8,6 @@ mod names;
 mod picking;
 mod ranks;
 mod services;
-#[cfg(test)]
-mod tests;
 mod verdict;
 
 pub use fault::{DirectiveFault, DirectiveWhy};

@@ -11,8 +11,6 @@ mod hex;
 mod read;
 mod rows;
 mod string;
-#[cfg(test)]
-mod tests;
 mod ttl;
 mod word;
 

@@ -7,8 +7,6 @@ mod front;
 mod reading;
 mod sink;
 mod source;
-#[cfg(test)]
-mod tests;
 mod writing;
 
 pub use front::{Front, first_message};

@@ -14,8 +14,6 @@ mod reading;
 mod record_parts;
 mod say;
 mod searching;
-#[cfg(test)]
-mod tests;
 mod words;
 
 pub use options::{Earlier, Opens, Seen};

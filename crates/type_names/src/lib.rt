@@ -5,8 +5,6 @@
 mod kinds;
 mod numbers;
 mod rcodes;
-#[cfg(test)]
-mod tests;
 
 pub use kinds::{kind_text, read_kind};
 pub use numbers::read_number;

@@ -8,8 +8,6 @@ mod key;
 mod read;
 mod scan;
 mod state;
-#[cfg(test)]
-mod tests;
 
 pub use fault::{ZoneFault, ZoneWhy};
 pub use read::read_zone;

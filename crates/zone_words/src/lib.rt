@@ -3,8 +3,6 @@
 
 mod covering;
 mod reading;
-#[cfg(test)]
-mod tests;
 
 pub use covering::{covers, is_in};
 pub use reading::{is_net_word, name_zone, net_zone, read_zone, read_zones};

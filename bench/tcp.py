@@ -18,9 +18,9 @@ sys.path.insert(0, os.path.join(TOP, "tests", "lib"))
 from load import built, resident, spent  # noqa: E402
 from program import PROGRAM, Served, free_port  # noqa: E402
 
-ASKED = 400_000
 CONNECTIONS = 32
-WINDOWS = [1, 50]
+# How many are under way on a connection, and how many are asked: CPU time is told in hundredths of a second.
+WINDOWS = {1: 400_000, 50: 4_000_000}
 IDLE = 1_000
 ROUNDS = 3
 QUERY = bytes.fromhex("123400000001000000000000076578616d706c65036f72670000010001")
@@ -147,10 +147,10 @@ class Echo:
 
 def measured(asks, server, window):
     """CPU time a query in microseconds."""
-    before = sum(spent(server.process.pid))
-    said = subprocess.run([asks, str(server.port), str(CONNECTIONS), str(window), str(ASKED)], capture_output=True, check=True, timeout=120)
+    before, asked = sum(spent(server.process.pid)), WINDOWS[window]
+    said = subprocess.run([asks, str(server.port), str(CONNECTIONS), str(window), str(asked)], capture_output=True, check=True, timeout=120)
     sent, got = map(int, said.stdout.split())
-    if got < sent or sent < ASKED:
+    if got < sent or sent < asked:
         sys.exit(f"of {sent} queries {got} got replies")
     return (sum(spent(server.process.pid)) - before) / got * 1e6
 

@@ -1,6 +1,7 @@
 """The program's edge: odd starts, files that are no files, ports that can't be opened, streams that take nothing, failing receives."""
 import fcntl
 import os
+import re
 import shutil
 import socket
 import subprocess
@@ -216,6 +217,40 @@ def failing_receives(rows):
     rows.row("over some seconds", 5 < took < 55, took)
 
 
+def woken(room):
+    """How many threads of a run of four workers got an empty datagram behind its one query; None where strace can't trace."""
+    path, calls = corefile(room, WHOAMI.replace("{port}", str(port := free_port()))), os.path.join(room, "calls")
+    asked = ["strace", "-f", "-o", calls, "-e", "trace=recvfrom", PROGRAM, "serve", "--conf", path, "--workers", "4", "--queries", "1"]
+    with subprocess.Popen(asked, stdout=subprocess.DEVNULL, stderr=subprocess.DEVNULL) as ran:
+        try:
+            with Client(port) as client:
+                end = time.monotonic() + SECONDS
+                while ran.poll() is None and time.monotonic() < end:
+                    client.ask(QUERY)
+            ran.wait(SECONDS)
+        finally:
+            if ran.poll() is None:
+                ran.kill()
+    with open(calls) as file:
+        lines = [line for line in file if "recvfrom" in line]
+    return len({line.split()[0] for line in lines if re.search(r'"", .*= 0$', line)}) if lines else None
+
+
+def ending_workers(rows):
+    if shutil.which("strace") is None:
+        print("skipped: there is no strace")
+        return
+    # A worker whose wait of a second ends by itself just then needs no datagram: another round shows all three.
+    counts = []
+    while 3 not in counts and len(counts) < 5:
+        with tempfile.TemporaryDirectory() as room:
+            counts.append(woken(room))
+        if counts[-1] is None:
+            print("skipped: strace can't trace here")
+            return
+    rows.row("where one of four workers ends the run, the other three are woken", 3 in counts, counts)
+
+
 def asked_at(family, client, server, port):
     """Whether a query from one address to another gets a reply that comes from the one that was asked."""
     with socket.socket(family, socket.SOCK_DGRAM) as asker:
@@ -282,6 +317,7 @@ def main():
     full_pipe(rows)
     nobody_reads(rows)
     failing_receives(rows)
+    ending_workers(rows)
     in_own_network(rows)
     rows.end()
 

@@ -1,5 +1,5 @@
 -- What a walk took: one lemma for each way on.
-use Rattle.std.proofs.Common.{◌≡◌, ◌<◌, List, [], ◌∷◌, map, length, Option, Some, None, Result, Ok, Err, refl, ap, subst, ◌∙◌, arith}
+use Rattle.std.proofs.Common.{◌≡◌, ◌<◌, List, [], ◌∷◌, ◌++◌, map, length, Option, Some, None, Result, Ok, Err, refl, ap, subst, ◌∙◌, arith}
 use Rattle.std.specs.Prelude.{IsErr}
 use Rattle.dns_lists.specs.declared.memory.NoMemory.{NoMemory}
 use Rattle.dns_data.specs.Message.{AnswerData}
@@ -8,8 +8,8 @@ use Rattle.dns_data.specs.declared.query.Query.{Query}
 use Rattle.outside.specs.Journals.{adds-nothing}
 use Rattle.outside.specs.Meanings.{Meaning, Done, Starved, onward}
 use Rattle.outside.specs.States.{SideState}
-use Rattle.outside.specs.Taking.{Asks}
-use Rattle.outside.specs.TakingLaws.{asks-nothing, starved_onward, stays-nothing}
+use Rattle.outside.specs.Taking.{Asks, Takes}
+use Rattle.outside.specs.TakingLaws.{asks-nothing, starved_onward, stays-nothing, takes-as, takes-nothing, takes-starved}
 use Rattle.outside.specs.declared.kept.Kept.{Kept}
 use Rattle.outside.specs.declared.mark.Mark.{Mark}
 use Rattle.plugin_api.specs.{PlanData}
@@ -20,9 +20,9 @@ use Rattle.rewrite_plugin.specs.declared.plan_data.Changed.{Changed}
 use Rattle.chain_meaning.specs.declared.decision.Decision.{Decision}
 use Rattle.chain_meaning.specs.declared.decision.Decision.TheVariants as decision
 use Rattle.chain_meaning.specs.Mean.{answer_of, error_noted, mean, or_rest, query_noted, reply_restored, rewritten, rule}
-use Rattle.chain_meaning.specs.MeanLaws.{mean-end, mean-step, mean_nothing, rule-answers, rule-errors, rule-log, rule-rewrite}
-use Rattle.chain_meaning.specs.Steps.{Answerer, Rewrite}
-use Rattle.chain_build.specs.Compiled.{back_answerer, back_of, back_steps, front_answerer, front_of, whole}
+use Rattle.chain_meaning.specs.MeanLaws.{mean-end, mean-step, mean_nothing, rule-answers, rule-errors, rule-log, rule-others, rule-rewrite}
+use Rattle.chain_meaning.specs.Steps.{Answerer, Step, Rewrite, Others}
+use Rattle.chain_build.specs.Compiled.{back_answerer, back_of, back_steps, front_answerer, front_of}
 use Rattle.chain_build.specs.Walking.{Answered, Restored, decided, decision_of}
 use Rattle.chain_build.specs.declared.back.BackAnswerer.{BackAnswerer}
 use Rattle.chain_build.specs.declared.ended.Ended.{Ended}
@@ -84,20 +84,38 @@ pub restored-asks : (ds : List Directive) (changed : Changed) (v : Decision) (sl
 restored-asks ds changed v slot (Ok e) h = asks-nothing (reply_restored ds changed v) (λ left. ap (λ w. Done w left) h)
 restored-asks ds changed v slot (Err e) h = asks-starved (reply_restored ds changed v) refl refl
 
--- in front of it
-first : {steps : List FrontStep} (step : FrontStep) (rest : List FrontStep) (is : FrontStep) (rewrites : List Directive) (back : List BackAnswerer) (q : Query) → steps ≡ step ∷ rest → step ≡ is
-    → (marks : List Mark) → mean (whole steps rewrites back) q marks ≡ rule (front_of is) (mean (whole rest rewrites back)) q marks
-first step rest is rewrites back q e f marks =
-    ap (λ s. mean (whole s rewrites back) q marks) e ∙ mean-step (front_of step) (whole rest rewrites back) q marks ∙ ap (λ s. rule (front_of s) (mean (whole rest rewrites back)) q marks) f
+-- plugins of others: memory ran out, they said something, or they go on
+pub others_starved : (says : Query → Option Decision) (steps : List Step) (q : Query) (result : Result Ended NoMemory) (answer : AnswerData) (side : SideState)
+    → IsErr result → Takes (mean (Others says ∷ steps) q) (decided result answer) side side
+others_starved says steps q result answer side fails = takes-starved (mean (Others says ∷ steps) q) (decided-err result answer fails) (mean_nothing (Others says ∷ steps) q)
 
-pub front-errors : {steps : List FrontStep} (step : FrontStep) (rest : List FrontStep) (rewrites : List Directive) (back : List BackAnswerer) (q : Query) → steps ≡ step ∷ rest → step ≡ front.Errors
-    → (marks : List Mark) → mean (whole steps rewrites back) q marks ≡ onward (mean (whole rest rewrites back) q marks) (error_noted q)
-front-errors step rest rewrites back q e f marks = first step rest front.Errors rewrites back q e f marks ∙ rule-errors (mean (whole rest rewrites back)) q marks
+others : (says : Query → Option Decision) (steps : List Step) (q : Query) {o : Option Decision} → says q ≡ o → (marks : List Mark)
+    → mean (Others says ∷ steps) q marks ≡ or_rest (mean steps) q o marks
+others says steps q said marks = mean-step (Others says) steps q marks ∙ rule-others says (mean steps) q marks ∙ ap (λ o. or_rest (mean steps) q o marks) said
 
-pub front-log : {steps : List FrontStep} (step : FrontStep) (rest : List FrontStep) (plan : PlanData) (rewrites : List Directive) (back : List BackAnswerer) (q : Query) → steps ≡ step ∷ rest → step ≡ front.Log plan
-    → (marks : List Mark) → mean (whole steps rewrites back) q marks ≡ onward (mean (whole rest rewrites back) q marks) (query_noted plan q)
-front-log step rest plan rewrites back q e f marks = first step rest (front.Log plan) rewrites back q e f marks ∙ rule-log plan (mean (whole rest rewrites back)) q marks
+pub others_say : (says : Query → Option Decision) (steps : List Step) (q : Query) (v : Decision) (side : SideState)
+    → says q ≡ Some v → Takes (mean (Others says ∷ steps) q) (Ok v) side side
+others_say says steps q v side said = takes-nothing (mean (Others says ∷ steps) q) (others says steps q said)
 
-pub front-answers : {steps : List FrontStep} (step : FrontStep) (rest : List FrontStep) (plugin : FrontAnswerer) (rewrites : List Directive) (back : List BackAnswerer) (q : Query) → steps ≡ step ∷ rest → step ≡ front.Answers plugin
-    → (marks : List Mark) → mean (whole steps rewrites back) q marks ≡ onward (answer_of (front_answerer plugin) q marks) (or_rest (mean (whole rest rewrites back)) q)
-front-answers step rest plugin rewrites back q e f marks = first step rest (front.Answers plugin) rewrites back q e f marks ∙ rule-answers (front_answerer plugin) (mean (whole rest rewrites back)) q marks
+pub others_go : (says : Query → Option Decision) (steps : List Step) (q : Query) (result : Result Decision NoMemory) (old new : SideState)
+    → says q ≡ None → Takes (mean steps q) result old new → Takes (mean (Others says ∷ steps) q) result old new
+others_go says steps q result old new said takes = takes-as (mean steps q) (mean (Others says ∷ steps) q) (others says steps q said) takes
+
+-- in front of it, whatever stands behind
+pub front-end : (steps : List FrontStep) (behind : List Step) (q : Query) → length steps ≡ 0 → (marks : List Mark) → mean (map front_of steps ++ behind) q marks ≡ mean behind q marks
+front-end steps behind q e marks = ap (λ s. mean (map front_of s ++ behind) q marks) (empty steps e)
+
+module _ {steps : List FrontStep} (step : FrontStep) (rest : List FrontStep) (behind : List Step) (q : Query) (first : steps ≡ step ∷ rest) where
+  step_is : (is : FrontStep) → step ≡ is → (marks : List Mark) → mean (map front_of steps ++ behind) q marks ≡ rule (front_of is) (mean (map front_of rest ++ behind)) q marks
+  step_is is f marks =
+      ap (λ s. mean (map front_of s ++ behind) q marks) first ∙ mean-step (front_of step) (map front_of rest ++ behind) q marks ∙ ap (λ s. rule (front_of s) (mean (map front_of rest ++ behind)) q marks) f
+
+  pub front-errors : step ≡ front.Errors → (marks : List Mark) → mean (map front_of steps ++ behind) q marks ≡ onward (mean (map front_of rest ++ behind) q marks) (error_noted q)
+  front-errors f marks = step_is front.Errors f marks ∙ rule-errors (mean (map front_of rest ++ behind)) q marks
+
+  pub front-log : (plan : PlanData) → step ≡ front.Log plan → (marks : List Mark) → mean (map front_of steps ++ behind) q marks ≡ onward (mean (map front_of rest ++ behind) q marks) (query_noted plan q)
+  front-log plan f marks = step_is (front.Log plan) f marks ∙ rule-log plan (mean (map front_of rest ++ behind)) q marks
+
+  pub front-answers : (plugin : FrontAnswerer) → step ≡ front.Answers plugin → (marks : List Mark)
+      → mean (map front_of steps ++ behind) q marks ≡ onward (answer_of (front_answerer plugin) q marks) (or_rest (mean (map front_of rest ++ behind)) q)
+  front-answers plugin f marks = step_is (front.Answers plugin) f marks ∙ rule-answers (front_answerer plugin) (mean (map front_of rest ++ behind)) q marks

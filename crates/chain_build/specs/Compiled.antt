@@ -1,8 +1,10 @@
 -- The steps that stand for compiled ones.
-use Rattle.std.specs.Prelude.{List, ◌++◌, map}
+use Rattle.std.specs.Prelude.{List, ◌∷◌, ◌++◌, map, Option}
 use Rattle.dns_data.specs.declared.directive.Directive.{Directive}
+use Rattle.dns_data.specs.declared.query.Query.{Query}
+use Rattle.chain_meaning.specs.declared.decision.Decision.{Decision}
 use Rattle.chain_meaning.specs.Steps.{Answerer, Acl, Any, Template, Hosts, File, Whoami}
-use Rattle.chain_meaning.specs.Steps.{Step, Errors, Log, Answers, rewrite_steps}
+use Rattle.chain_meaning.specs.Steps.{Step, Errors, Log, Answers, Others, rewrite_steps}
 use Rattle.chain_build.specs.declared.back.BackAnswerer.{BackAnswerer}
 use Rattle.chain_build.specs.declared.back.BackAnswerer.TheVariants as behind
 use Rattle.chain_build.specs.declared.front.FrontAnswerer.{FrontAnswerer}
@@ -35,3 +37,13 @@ back_steps rewrites back = rewrite_steps rewrites ++ map back_of back
 -- the whole chain
 abbrev pub whole : List FrontStep → List Directive → List BackAnswerer → List Step
 whole front rewrites back = map front_of front ++ back_steps rewrites back
+
+-- what stands behind its front, with plugins of others before a cache
+abbrev pub others_steps : (Query → Option Decision) → List Directive → List BackAnswerer
+    → List Step
+others_steps says rewrites back = Others says ∷ back_steps rewrites back
+
+-- the whole chain with plugins of others
+abbrev pub whole_with : (Query → Option Decision) → List FrontStep → List Directive
+    → List BackAnswerer → List Step
+whole_with says front rewrites back = map front_of front ++ others_steps says rewrites back

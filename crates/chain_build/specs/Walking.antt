@@ -33,6 +33,13 @@ Answered plugin q old new (Ok (Some e)) =
     (left : List Mark) → answer_of plugin q left ≡ Done (Some (decision_of e new)) left
 Answered plugin q old new (Err e) = Unit {0}
 
+-- plugins of others that say this of a query said it, and left the slot as it was where they go on
+abbrev pub Said : (Query → Option Decision) → Query → AnswerData → AnswerData
+    → Result (Option Ended) NoMemory → Type 0
+Said says q old new (Ok None) = (new ≡ old) × (says q ≡ None)
+Said says q old new (Ok (Some e)) = says q ≡ Some (decision_of e new)
+Said says q old new (Err e) = Unit {0}
+
 -- the reply of the rest was restored by the rules that were applied
 abbrev pub Restored : List Directive → Changed → Decision → AnswerData → Result Ended NoMemory
     → Type 0

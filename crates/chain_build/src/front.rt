@@ -4,12 +4,14 @@ ghost use Rattle.dns_data.specs.Message.{no_answer};
 ghost use Rattle.outside.specs.Taking.{Takes};
 ghost use Rattle.acl_plugin.specs.{acl_say};
 ghost use Rattle.chain_meaning.specs.Mean.{mean, nothing};
-ghost use Rattle.chain_build.specs.Compiled.{back_steps, front_answerer, whole};
+ghost use Rattle.chain_build.specs.Compiled.{back_steps, front_answerer, others_steps};
+ghost use Rattle.chain_build.specs.Compiled.{whole_with};
 ghost use Rattle.chain_build.specs.Walking.{Answered, decided};
 
 use crate::back::run_behind;
 use crate::compiling::BlockChain;
 use crate::ended::Ended;
+use crate::extras::Extras;
 use crate::noting::{note_error, note_query};
 use crate::room::PluginRoom;
 use acl_plugin::{AclPlan, AclSay, decide};
@@ -33,36 +35,64 @@ pub enum FrontStep {
     Answers(FrontAnswerer),
 }
 
-/// Runs these first steps of a chain, and then what stands behind a cache in it. The slot is clear.
-pub fn run_front<S: Side>(
+/// Runs these first steps of a chain, asks plugins of others where they end, and then runs what
+/// stands behind a cache in it. The slot is clear.
+pub fn run_front<S: Side, X: Extras>(
     alloc: Global,
     front: &[FrontStep],
     behind: &BlockChain,
     query: &Query,
     side: &mut S,
+    extras: &mut X,
     room: &mut PluginRoom,
     slot: &mut Slot,
 ) -> Result<Ended, NoMemory>
     requires clear { slot.old ≡ no_answer }
-    ensures { Takes (mean (whole front.now behind.now.rewrites behind.now.back) query.now)
-        (decided result slot.new) (S.state side.old) (S.state side.new) }
+    ensures takes { Takes
+        (mean (whole_with (X.says extras.old) front.now behind.now.rewrites behind.now.back)
+        query.now) (decided result slot.new) (S.state side.old) (S.state side.new) }
+    ensures stays { X.says extras.new ≡ X.says extras.old }
 {
     let Some((step, rest)) = front.split_first() else {
-        return run_uncached(alloc, behind, query, side, room, slot);
+        return run_others(alloc, behind, query, side, extras, room, slot);
     };
     match step {
         FrontStep::Errors => {
-            let ended = run_front(alloc, rest, behind, query, side, room, slot)?;
+            let ended = run_front(alloc, rest, behind, query, side, extras, room, slot)?;
             note_error(alloc, query, ended, side)
         }
         FrontStep::Log(plan) => {
-            let ended = run_front(alloc, rest, behind, query, side, room, slot)?;
+            let ended = run_front(alloc, rest, behind, query, side, extras, room, slot)?;
             note_query(alloc, plan, query, ended, slot, side)
         }
         FrontStep::Answers(plugin) => match answer(alloc, plugin, query, slot)? {
             Some(ended) => Ok(ended),
-            None => run_front(alloc, rest, behind, query, side, room, slot),
+            None => run_front(alloc, rest, behind, query, side, extras, room, slot),
         },
+    }
+}
+
+// Asks plugins of others, and where they go on runs what stands behind a cache.
+#[inline(always)]
+#[tactic(auto, using(crate::proofs::Walks::others_starved, crate::proofs::Walks::others_say, crate::proofs::Walks::others_go))]
+fn run_others<S: Side, X: Extras>(
+    alloc: Global,
+    chain: &BlockChain,
+    query: &Query,
+    side: &mut S,
+    extras: &mut X,
+    room: &mut PluginRoom,
+    slot: &mut Slot,
+) -> Result<Ended, NoMemory>
+    requires clear { slot.old ≡ no_answer }
+    ensures takes { Takes
+        (mean (others_steps (X.says extras.old) chain.now.rewrites chain.now.back) query.now)
+        (decided result slot.new) (S.state side.old) (S.state side.new) }
+    ensures stays { X.says extras.new ≡ X.says extras.old }
+{
+    match extras.answer(alloc, query, slot)? {
+        Some(ended) => Ok(ended),
+        None => run_uncached(alloc, chain, query, side, room, slot),
     }
 }
 

@@ -19,6 +19,7 @@ use crate::asking::{
 use crate::chain::Chain;
 use crate::compiling::BlockChain;
 use crate::ended::Ended;
+use crate::extras::NoExtras;
 use crate::front::{run_front, run_uncached};
 use crate::plans::Plans;
 use crate::room::{PluginRoom, Room};
@@ -218,7 +219,7 @@ fn run_chain<S: Side>(
 {
     let front = chain.front.as_slice();
     if 0 < front.len() {
-        return run_front(alloc, front, chain, query, side, room, slot);
+        return run_front(alloc, front, chain, query, side, &mut NoExtras, room, slot);
     }
     if 0 < chain.rewrites.len() || 0 < chain.back.len() {
         return run_uncached(alloc, chain, query, side, room, slot);

@@ -1,12 +1,14 @@
--- Why an answer is SERVFAIL. A decision whose RCODE is SERVFAIL is a code with its cause, or the reply of a template that has `rcode SERVFAIL`: no other step answers so.
-use Rattle.std.proofs.Common.{◌≡◌, ◌⊎◌, inl, inr, ℕ, Bool, true, false, List, [], ◌∷◌, Option, Some, None, refl, sym, ap, subst, ◌∙◌, arith, if◌then◌else◌}
+-- Why an answer is SERVFAIL. A decision whose RCODE is SERVFAIL is a code with its cause, or the reply of a template that has `rcode SERVFAIL`: no other step of this server answers so, and the chain of a block has no others.
+use Rattle.std.proofs.Common.{◌≡◌, ◌⊎◌, inl, inr, ℕ, Bool, true, false, List, [], ◌∷◌, Option, Some, None, refl, sym, ap, subst, ◌∙◌, ◌++◌, map, arith, if◌then◌else◌}
 use Rattle.std.specs.Cmp.Lexicographic.{pointwise}
 use Rattle.std.specs.Prelude.{◌==◌, cond, nat_eq, option_map}
 use Rattle.acl_plugin.specs.{acl_say}
 use Rattle.acl_plugin.specs.declared.plan.AclSay.{AclSay}
 use Rattle.acl_plugin.specs.declared.plan.AclSay.TheVariants as acl
 use Rattle.dns_data.specs.Message.{AnswerData}
+use Rattle.dns_data.specs.declared.block.Block.{Block}
 use Rattle.dns_data.specs.declared.directive.Directive.{Directive}
+use Rattle.dns_data.specs.declared.file.FileText.{FileText}
 use Rattle.dns_data.specs.declared.query.Query.{Query}
 use Rattle.dns_data.specs.declared.kind.TheConstants as kinds
 use Rattle.dns_data.specs.declared.rcode.TheConstants as rcodes
@@ -29,6 +31,7 @@ use Rattle.plain_plugins.specs.{error_line, is_any, log_line, plain_zones}
 use Rattle.plain_plugins.specs.Any.{any_of}
 use Rattle.plain_plugins.specs.Whoami.{whoami_of}
 use Rattle.plugin_api.specs.{PlanData}
+use Rattle.plugin_api.specs.declared.ranks.Rank.TheVariants as rank
 use Rattle.rewrite_plugin.specs.{changed_by, restored}
 use Rattle.rewrite_plugin.specs.Answers.{all_restored, rule_restored, sections_restored}
 use Rattle.rewrite_plugin.specs.Rewrite.{restored_by, written_at}
@@ -46,12 +49,25 @@ use Rattle.template_plugin.specs.Template as template
 use Rattle.chain_meaning.specs.declared.decision.Decision.{Decision}
 use Rattle.chain_meaning.specs.declared.decision.Decision.TheVariants as decision
 use Rattle.chain_meaning.specs.Mean.{acl_answer, answer_of, any_answer, error_noted, hosts_answer, mean, number, or_rest, outcome_of, query_noted, reply_restored, restored_in, rule, take_note, template_answer}
-use Rattle.chain_meaning.specs.Steps.{Answerer, Acl, Any, Template, Hosts, File, Whoami, Step, Errors, Log, Rewrite, Answers}
+use Rattle.chain_meaning.specs.Steps.{Answerer, Acl, Any, Template, Hosts, File, Whoami, Step, Errors, Log, Rewrite, Answers, Others}
+use Rattle.chain_meaning.specs.Steps.{acl_steps, any_steps, back_steps, context_of, error_steps, file_plans, file_steps, front_steps, hosts_plans, hosts_step, hosts_steps, key_zones, log_steps, plans_of, rewrite_steps, some_has, steps_of, template_steps, whoami_steps}
 
 -- the step is one of these
 abbrev pub IsAmong : Step → List Step → Type 0
 IsAmong step [] = ⊥
 IsAmong step (other ∷ steps) = (other ≡ step) ⊎ IsAmong step steps
+
+-- no step is one of plugins of others
+abbrev pub IsOwn : Step → Type 0
+IsOwn (Others says) = ⊥
+IsOwn Errors = Unit {0}
+IsOwn (Log plan) = Unit {0}
+IsOwn (Rewrite ds) = Unit {0}
+IsOwn (Answers plugin) = Unit {0}
+
+abbrev pub AreOwn : List Step → Type 0
+AreOwn [] = Unit {0}
+AreOwn (step ∷ steps) = IsOwn step × AreOwn steps
 
 -- the RCODE of a decision is SERVFAIL
 abbrev pub IsServFail : Decision → Type 0
@@ -241,26 +257,82 @@ rest_gives : (plugin : Answerer) (steps : List Step) (rest : Query → List Mark
 rest_gives plugin steps rest q gives (Some v) is left = is
 rest_gives plugin steps rest q gives None is left = gives_more (Answers plugin) steps (rest q left) (gives left)
 
-rule_gives : (step : Step) (steps : List Step) (rest : Query → List Mark → Meaning Decision) → ((q : Query) (marks : List Mark) → Gives (IsCaused steps) (rest q marks))
+rule_gives : (step : Step) (steps : List Step) (rest : Query → List Mark → Meaning Decision) → IsOwn step → ((q : Query) (marks : List Mark) → Gives (IsCaused steps) (rest q marks))
     → (q : Query) (marks : List Mark) → Gives (IsCaused (step ∷ steps)) (rule step rest q marks)
 unfolding rule
-rule_gives Errors steps rest gives q marks =
+rule_gives Errors steps rest own gives q marks =
     gives_onward (IsCaused (Errors ∷ steps)) (IsCaused (Errors ∷ steps)) (rest q marks) (error_noted q) (gives_more Errors steps (rest q marks) (gives q marks)) (errors_give (IsCaused (Errors ∷ steps)) q)
-rule_gives (Log plan) steps rest gives q marks =
+rule_gives (Log plan) steps rest own gives q marks =
     gives_onward (IsCaused (Log plan ∷ steps)) (IsCaused (Log plan ∷ steps)) (rest q marks) (query_noted plan q) (gives_more (Log plan) steps (rest q marks) (gives q marks))
     (λ v is left. if_noted (IsCaused (Log plan ∷ steps)) (is_in q.name (plain_zones plan)) (log_line q (outcome_of v)) v is left)
-rule_gives (Rewrite ds) steps rest gives q marks =
+rule_gives (Rewrite ds) steps rest own gives q marks =
     let changed = changed_by ds q in
     gives_onward (IsCaused (Rewrite ds ∷ steps)) (IsCaused (Rewrite ds ∷ steps)) (rest changed.query marks) (reply_restored ds changed)
     (gives_more (Rewrite ds) steps (rest changed.query marks) (gives changed.query marks)) (λ v is left. rewrites_give ds changed (Rewrite ds ∷ steps) v is)
-rule_gives (Answers plugin) steps rest gives q marks =
+rule_gives (Answers plugin) steps rest own gives q marks =
     gives_onward (Answered (Answers plugin ∷ steps)) (IsCaused (Answers plugin ∷ steps)) (answer_of plugin q marks) (or_rest rest q) (answers_give plugin steps q marks) (rest_gives plugin steps rest q (gives q))
+rule_gives (Others says) steps rest own gives q marks = absurd own
 
-mean_gives : (steps : List Step) (q : Query) (marks : List Mark) → Gives (IsCaused steps) (mean steps q marks)
+mean_gives : (steps : List Step) → AreOwn steps → (q : Query) (marks : List Mark) → Gives (IsCaused steps) (mean steps q marks)
 unfolding mean
-mean_gives [] q marks = λ fails. refl
-mean_gives (step ∷ steps) q marks = rule_gives step steps (mean steps) (mean_gives steps) q marks
+mean_gives [] own q marks = λ fails. refl
+mean_gives (step ∷ steps) own q marks = rule_gives step steps (mean steps) own.0 (mean_gives steps own.1) q marks
 
--- each SERVFAIL of a chain has a cause
-pub servfail_has_cause : (steps : List Step) (q : Query) (marks left : List Mark) (v : Decision) → mean steps q marks ≡ Done v left → IsServFail v → HasCause steps v
-servfail_has_cause steps q marks left v is = subst (Gives (IsCaused steps)) is (mean_gives steps q marks)
+-- each SERVFAIL of a chain of this server's own steps has a cause
+pub own_servfail_has_cause : (steps : List Step) → AreOwn steps → (q : Query) (marks left : List Mark) (v : Decision) → mean steps q marks ≡ Done v left → IsServFail v → HasCause steps v
+own_servfail_has_cause steps own q marks left v is = subst (Gives (IsCaused steps)) is (mean_gives steps own q marks)
+
+own_append : (front back : List Step) → AreOwn front → AreOwn back → AreOwn (front ++ back)
+own_append [] back p q = q
+own_append (step ∷ front) back p q = (p.0, own_append front back p.1 q)
+
+own_if : (t : Bool) (steps : List Step) → AreOwn steps → AreOwn (if t then steps else [])
+own_if true steps p = p
+own_if false steps p = tt
+
+own_logs : (plans : List PlanData) → AreOwn (log_steps plans)
+own_logs [] = tt
+own_logs (plan ∷ plans) = (tt, own_logs plans)
+
+own_acls : (plans : List PlanData) → AreOwn (acl_steps plans)
+own_acls [] = tt
+own_acls (plan ∷ plans) = (tt, tt)
+
+own_rewrites : (ds : List Directive) → AreOwn (rewrite_steps ds)
+own_rewrites [] = tt
+own_rewrites (d ∷ ds) = (tt, tt)
+
+own_templates : (plans : List PlanData) → AreOwn (template_steps plans)
+own_templates [] = tt
+own_templates (plan ∷ plans) = (tt, tt)
+
+own_hosts : (plans : List HostsData) → AreOwn (hosts_steps plans)
+own_hosts [] = tt
+own_hosts (plan ∷ plans) = (tt, own_hosts plans)
+
+own_files : (plans : List FileData) → AreOwn (file_steps plans)
+own_files [] = tt
+own_files (plan ∷ plans) = (tt, tt)
+
+-- the steps of a block's chain are this server's own
+pub own_steps : (files : List FileText) (block : Block) → AreOwn (steps_of files block)
+unfolding steps_of
+own_steps files block =
+    let ds = block.directives in
+    let zones = key_zones block in
+    let context = context_of files block in
+    own_append (front_steps zones ds) (back_steps context ds)
+    (own_append _ _ (own_if (some_has rank.Errors ds) (Errors ∷ []) (tt, tt))
+    (own_append _ _ (own_logs (plans_of rank.Log zones ds))
+    (own_append _ _ (own_acls (plans_of rank.Acl zones ds))
+    (own_if (some_has rank.Any ds) (Answers Any ∷ []) (tt, tt)))))
+    (own_append _ _ (own_rewrites _)
+    (own_append _ _ (own_templates (plans_of rank.Template zones ds))
+    (own_append _ _ (own_hosts (hosts_plans context ds))
+    (own_append _ _ (own_files (file_plans context ds))
+    (own_if (some_has rank.Whoami ds) (Answers Whoami ∷ []) (tt, tt))))))
+
+-- each SERVFAIL of a block's chain has a cause
+pub servfail_has_cause : (files : List FileText) (block : Block) (q : Query) (marks left : List Mark) (v : Decision) → mean (steps_of files block) q marks ≡ Done v left → IsServFail v
+    → HasCause (steps_of files block) v
+servfail_has_cause files block q marks left v is = own_servfail_has_cause (steps_of files block) (own_steps files block) q marks left v is

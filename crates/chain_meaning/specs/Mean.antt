@@ -33,7 +33,7 @@ use Rattle.zone_words.specs.{is_in}
 use Rattle.chain_meaning.specs.declared.decision.Decision.{Decision}
 use Rattle.chain_meaning.specs.declared.decision.Decision.TheVariants as decision
 use Rattle.chain_meaning.specs.Steps.{Answerer, Acl, Any, Template, Hosts, File, Whoami}
-use Rattle.chain_meaning.specs.Steps.{Step, Errors, Log, Rewrite, Answers}
+use Rattle.chain_meaning.specs.Steps.{Step, Errors, Log, Rewrite, Answers, Others}
 
 -- an RCODE without records
 abbrev pub nothing : ℕ → AnswerData
@@ -139,6 +139,7 @@ rule Errors rest q marks = onward (rest q marks) (error_noted q)
 rule (Log plan) rest q marks = onward (rest q marks) (query_noted plan q)
 rule (Rewrite ds) rest q marks = rewritten rest ds (changed_by ds q) marks
 rule (Answers plugin) rest q marks = onward (answer_of plugin q marks) (or_rest rest q)
+rule (Others says) rest q marks = or_rest rest q (says q) marks
 
 -- the end of the chain is SERVFAIL
 unfoldable pub mean : List Step → Query → List Mark → Meaning Decision

@@ -1,6 +1,7 @@
--- Laws of the meaning, for those who run a chain: an equation for each step, and that without a mark no
--- meaning is off and a decision leaves nothing.
-use Rattle.std.proofs.Common.{◌≡◌, ℕ, Bool, true, false, List, [], ◌∷◌, Option, Some, None, refl, if◌then◌else◌}
+-- Laws of the meaning, for those who run a chain: an equation for each step, that without a mark no
+-- meaning is off and a decision leaves nothing, and that plugins of others which always go on change
+-- nothing.
+use Rattle.std.proofs.Common.{◌≡◌, ℕ, Bool, true, false, List, [], ◌∷◌, ◌++◌, Option, Some, None, refl, if◌then◌else◌}
 use Rattle.dns_data.specs.declared.directive.Directive.{Directive}
 use Rattle.dns_data.specs.declared.query.Query.{Query}
 use Rattle.outside.specs.Meanings.{Meaning, Done, Starved, onward}
@@ -15,7 +16,7 @@ use Rattle.zone_words.specs.{is_in}
 use Rattle.chain_meaning.specs.declared.decision.Decision.{Decision}
 use Rattle.chain_meaning.specs.declared.decision.Decision.TheVariants as decision
 use Rattle.chain_meaning.specs.Mean.{answer_of, error_noted, mean, or_rest, outcome_of, query_noted, reply_restored, rewritten, rule, take_note}
-use Rattle.chain_meaning.specs.Steps.{Answerer, Acl, Any, Template, Hosts, File, Whoami, Step, Errors, Log, Rewrite, Answers}
+use Rattle.chain_meaning.specs.Steps.{Answerer, Acl, Any, Template, Hosts, File, Whoami, Step, Errors, Log, Rewrite, Answers, Others}
 
 pub mean-end : (q : Query) (marks : List Mark) → mean [] q marks ≡ Done (decision.Code code.ServFail cause.EndOfChain) marks
 unfolding mean
@@ -43,6 +44,11 @@ pub rule-answers : (plugin : Answerer) (rest : Query → List Mark → Meaning D
     → rule (Answers plugin) rest q marks ≡ onward (answer_of plugin q marks) (or_rest rest q)
 unfolding rule
 rule-answers plugin rest q marks = refl
+
+pub rule-others : (says : Query → Option Decision) (rest : Query → List Mark → Meaning Decision) (q : Query) (marks : List Mark)
+    → rule (Others says) rest q marks ≡ or_rest rest q (says q) marks
+unfolding rule
+rule-others says rest q marks = refl
 
 pub error_nothing : (q : Query) (v : Decision) → Starved (error_noted q v [])
 error_nothing q (decision.Reply a) = refl
@@ -75,8 +81,19 @@ rule_nothing Errors rest q none = starved_onward (rest q []) (error_noted q) (no
 rule_nothing (Log plan) rest q none = starved_onward (rest q []) (query_noted plan q) (none q) (query_nothing plan q)
 rule_nothing (Rewrite ds) rest q none = starved_onward (rest (changed_by ds q).query []) (reply_restored ds (changed_by ds q)) (none (changed_by ds q).query) (λ v. refl)
 rule_nothing (Answers plugin) rest q none = starved_onward (answer_of plugin q []) (or_rest rest q) (answer_nothing plugin q) (or_rest_nothing rest q (none q))
+rule_nothing (Others says) rest q none = or_rest_nothing rest q (none q) (says q)
 
 pub mean_nothing : (steps : List Step) (q : Query) → Starved (mean steps q [])
 unfolding mean
 mean_nothing [] q = refl
 mean_nothing (step ∷ steps) q = rule_nothing step (mean steps) q (mean_nothing steps)
+
+-- where plugins of others always go on, a chain means what it means without them
+others_change_nothing : (says : Query → Option Decision) → ((q : Query) → says q ≡ None) → (front back : List Step) → mean (front ++ (Others says ∷ back)) ≡ mean (front ++ back)
+unfolding mean rule
+others_change_nothing says none [] back = λ i q marks. or_rest (mean back) q (none q i) marks
+others_change_nothing says none (step ∷ front) back = λ i q marks. rule step (others_change_nothing says none front back i) q marks
+
+pub mean-others : (says : Query → Option Decision) → ((q : Query) → says q ≡ None) → (front back : List Step) (q : Query) (marks : List Mark)
+    → mean (front ++ (Others says ∷ back)) q marks ≡ mean (front ++ back) q marks
+mean-others says none front back q marks = λ i. others_change_nothing says none front back i q marks

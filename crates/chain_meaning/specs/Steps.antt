@@ -7,6 +7,7 @@ use Rattle.std.specs.List.{filter, list_any}
 use Rattle.dns_data.specs.declared.block.Block.{Block}
 use Rattle.dns_data.specs.declared.directive.Directive.{Directive}
 use Rattle.dns_data.specs.declared.file.FileText.{FileText}
+use Rattle.dns_data.specs.declared.query.Query.{Query}
 use Rattle.corefile_blocks.specs.Blocks.{file_of}
 use Rattle.corefile_blocks.specs.WantedFiles.{hosts_default}
 use Rattle.file_plugin.specs.{FileData}
@@ -16,6 +17,7 @@ use Rattle.hosts_plugin.specs.Reading.{data_of as hosts_data}
 use Rattle.plugin_api.specs.{PlanData, order_of, rank_of}
 use Rattle.plugin_api.specs.declared.ranks.Rank.{Rank}
 use Rattle.plugin_api.specs.declared.ranks.Rank.TheVariants as rank
+use Rattle.chain_meaning.specs.declared.decision.Decision.{Decision}
 
 -- a plugin that answers or goes on
 pub data Answerer : Type 0 where
@@ -26,11 +28,18 @@ pub data Answerer : Type 0 where
   File : List FileData → Answerer
   Whoami : Answerer
 
+-- a step of a chain. `Others` are plugins that a program brings besides those of this server, with
+-- what they say of a query; where they say nothing, they go on. No directive has such a step.
 pub data Step : Type 0 where
   Errors : Step
   Log : PlanData → Step
   Rewrite : List Directive → Step
   Answers : Answerer → Step
+  Others : (Query → Option Decision) → Step
+
+-- what plugins say that always go on
+abbrev pub none_said : Query → Option Decision
+none_said q = None
 
 -- the zones for which a directive stands that names none: those of its block's keys
 abbrev pub key_zones : Block → List (List (List ℕ))

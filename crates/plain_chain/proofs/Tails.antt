@@ -17,7 +17,7 @@ use Rattle.chain_meaning.specs.declared.decision.Decision.{Decision}
 use Rattle.chain_meaning.specs.declared.decision.Decision.TheVariants as decision
 use Rattle.chain_meaning.specs.Mean.{answer_of, error_noted, mean, or_rest, outcome_of, query_noted, reply_restored, rule, take_note}
 use Rattle.chain_meaning.specs.Serving.{block_decides, block_of, chain_decides, class_decides, is_known_version, query_decides}
-use Rattle.chain_meaning.specs.Steps.{Answerer, Acl, Any, Template, Hosts, File, Whoami, Step, Errors, Log, Rewrite, Answers, steps_of}
+use Rattle.chain_meaning.specs.Steps.{Answerer, Acl, Any, Template, Hosts, File, Whoami, Step, Errors, Log, Rewrite, Answers, Others, steps_of}
 use Rattle.plain_chain.specs.Meant.{IsTail}
 
 -- what is left are the last of these marks
@@ -91,6 +91,7 @@ rule-tails (Log plan) rest q tails marks = behind marks (rest q marks) (query_no
 rule-tails (Rewrite ds) rest q tails marks =
     behind marks (rest (changed_by ds q).query marks) (reply_restored ds (changed_by ds q)) (tails (changed_by ds q).query marks) (λ v left. tail-whole left)
 rule-tails (Answers plugin) rest q tails marks = behind marks (answer_of plugin q marks) (or_rest rest q) (answer-tails plugin q marks) (rest-tails rest q (tails q))
+rule-tails (Others says) rest q tails marks = rest-tails rest q (tails q) (says q) marks
 
 mean-tails : (steps : List Step) (q : Query) (marks : List Mark) → Tails marks (mean steps q marks)
 unfolding mean

@@ -24,7 +24,7 @@ pub use block::{Block, BlockKey};
 pub use directive::{Directive, Line};
 pub use dns_addr::{Addr, Net};
 pub use dns_lists::{Buffer, Bytes, Copies, NoMemory, Seq, Text};
-pub use dns_names::{Labels, Name, NameFault};
+pub use dns_names::{Labels, Name, NameFault, same_letters};
 pub use file::FileText;
 pub use limit::Limit;
 pub use message::{Message, Opt, Question, Transport};

@@ -10,6 +10,7 @@ mod name_read;
 mod name_text;
 mod reverse;
 
+pub use ascii::same_letters;
 pub use labels::Labels;
 pub use name::Name;
 pub use name_read::NameFault;

@@ -4,7 +4,6 @@
 
 mod bucket;
 mod hash;
-mod letters;
 mod table;
 
 pub use table::{Longest, NameTable};

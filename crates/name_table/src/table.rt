@@ -7,8 +7,7 @@ ghost use Rattle.name_table.specs.Table.{IsLongest, entry_of};
 
 use crate::bucket::{Bucket, Entry};
 use crate::hash::{hash_of, place_of};
-use crate::letters::same_letters;
-use dns_data::{Labels, Name, NoMemory};
+use dns_data::{Labels, Name, NoMemory, same_letters};
 use std::alloc::Global;
 use std::marker::Model;
 

@@ -3,7 +3,7 @@ use Rattle.std.proofs.Math.Bool.{◌&&◌}
 use Rattle.std.proofs.lemmas.Bool.{and_parts, and_from, eqb-true, eq-eqb}
 use Rattle.std.proofs.lemmas.List.{map_more, same_from_push}
 use Rattle.std.specs.Char.{to_ascii_lowercase}
-use Rattle.name_table.proofs.letters.are_same_letters.Goals as goal
+use Rattle.dns_names.proofs.ascii.are_same_letters.Goals as goal
 
 more : (f : ℕ → ℕ) (a b : List ℕ) (i x y : ℕ) (same : Bool) → i < length a → i < length b → x ≡ f (get_or a i 0) → y ≡ f (get_or b i 0)
     → (IsTrue same ↔ (map f (take i a) ≡ map f (take i b))) → (IsTrue (same && nat_eq x y) ↔ (map f (take (i + 1) a) ≡ map f (take (i + 1) b)))

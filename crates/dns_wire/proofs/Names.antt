@@ -1,5 +1,5 @@
 -- Reading a name sequence by sequence, through pointers.
-use Rattle.std.proofs.Common.{◌≡◌, ◌≤◌, ◌<◌, ℕ, ◌+◌, ◌-◌, List, [], ◌∷◌, ◌++◌, length, min, Bool, false, IsTrue, take, drop, get_or, slice_index, slice_range, Option, Some, None, unwrap_or, refl, sym, ap, subst, ◌∙◌, append_assoc, arith, inl, inr, ◌⊎◌}
+use Rattle.std.proofs.Common.{◌≡◌, ◌≤◌, ◌<◌, ℕ, ◌+◌, ◌-◌, List, [], ◌∷◌, ◌++◌, length, min, take, drop, get_or, slice_index, slice_range, Option, Some, None, unwrap_or, refl, sym, ap, subst, ◌∙◌, append_assoc, arith, inl, inr, ◌⊎◌}
 use Rattle.std.proofs.lemmas.List.{append-nil, drop-drop}
 use Rattle.std.proofs.lemmas.List.Edits.{between_more, between_none, length-between}
 use Rattle.std.proofs.Math.Nat.{min-eq_left, min-eq_right}
@@ -267,10 +267,6 @@ walks_on bytes start limit at n w less is more few =
       past = λ far name behind proper h. walk_ends bytes start limit at n w.limited r is more few far name behind proper h;
     } in
     subst (Walked bytes start limit) (omega arith) next
-
--- a byte that is no length is too great, where it isn't zero
-pub no_size : {n : ℕ} {is : Bool} → ((1 ≤ n) × (n ≤ 63) → IsTrue is) → is ≡ false → 0 < n → 63 < n
-no_size {n} any none more = elim (cases_lt 63 n) [ inl big ↦ big | inr few ↦ absurd (let e = sym none ∙ any (more, few) in cc) ]
 
 -- how long a sequence is
 pub sequence_size : (bytes : List ℕ) (start end : ℕ) → SequenceAt bytes start end → (front : List (List ℕ)) → wire_length (front ++ labels_of (slice_range bytes start end)) ≡ wire_length front + (end - start)

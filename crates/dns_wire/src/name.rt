@@ -1,5 +1,5 @@
 ghost use Rattle.std.specs.Prelude.{◌≡◌, ◌≤◌, ◌<◌, ◌+◌, ◌++◌, ℕ, List, length, IfSome, IfNone};
-ghost use Rattle.std.specs.Prelude.{IfOk, IsTrue, ◌↔◌};
+ghost use Rattle.std.specs.Prelude.{IfOk};
 ghost use Rattle.dns_names.specs.Name.{IsName};
 ghost use Rattle.dns_wire.specs.Wire.{NameAt, PointerAt, WholeNameAt};
 ghost use Rattle.dns_wire.specs.Sequences.{SequenceAt};
@@ -140,23 +140,15 @@ pub fn end_of_labels(bytes: &[u8], start: usize) -> Option<usize>
     let mut at = start;
     while at < limit {
         let size = bytes[at];
-        if !is_size(size) {
-            if 0 < size && size < POINTER {
-                return None;
-            }
+        if size == 0 || POINTER <= size {
             return Some(at);
+        }
+        if LABEL_BYTES < size as usize {
+            return None;
         }
         at += 1 + size as usize;
     }
     None
-}
-
-// Whether a byte is the length of a label.
-#[inline]
-fn is_size(byte: u8) -> bool
-    ensures { IsTrue result ↔ (1 ≤ byte) × (byte ≤ 63) }
-{
-    0 < byte && byte as usize <= LABEL_BYTES
 }
 
 /// The target of the pointer that stands at an offset and ends the sequence from `start` on, where

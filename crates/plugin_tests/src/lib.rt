@@ -1,25 +1,15 @@
-//! Tests of the outside in memory, of the plugins, and of frames and connections over TCP. They stand
-//! here, since a crate with tests is proved once more for them.
+//! Tests of the plugins and of what they share. They stand here, since a crate with tests is proved
+//! once more for them.
 #![tactic(auto)]
 
 #[cfg(test)]
 mod acl;
 #[cfg(test)]
-mod connections;
-#[cfg(test)]
-mod frames;
-#[cfg(test)]
 mod given;
 #[cfg(test)]
 mod hosts;
 #[cfg(test)]
-mod memory_hosts;
-#[cfg(test)]
 mod options;
-#[cfg(test)]
-mod outside_values;
-#[cfg(test)]
-mod patterns;
 #[cfg(test)]
 mod plain;
 #[cfg(test)]

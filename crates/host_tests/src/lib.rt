@@ -1,0 +1,14 @@
+//! Tests of the outside and its hosts in memory, of patterns, and of frames and connections over
+//! TCP. They stand here, since a crate with tests is proved once more for them.
+#![tactic(auto)]
+
+#[cfg(test)]
+mod connections;
+#[cfg(test)]
+mod frames;
+#[cfg(test)]
+mod memory_hosts;
+#[cfg(test)]
+mod outside_values;
+#[cfg(test)]
+mod patterns;

@@ -1,5 +1,7 @@
 use dns_data::Transport;
-use edge_net::{End, TcpEnd, UdpEnd, Why, open_tcp, open_udp, open_udp_beside};
+use edge_lines::Why;
+use edge_net::{End, TcpEnd, UdpEnd};
+use edge_sockets::{open_tcp, open_udp, open_udp_beside};
 use std::alloc::Global;
 use std::io;
 use std::io::ErrorKind;

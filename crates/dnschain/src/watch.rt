@@ -2,7 +2,8 @@ ghost use Rattle.std.specs.Prelude.{◌≡◌, None};
 
 use crate::reading::{Unread, read_regular};
 use dns_data::{Bytes, Copies, Text};
-use edge_net::{Crew, EdgeLine, Why, count, line_text, note_line};
+use edge_lines::{EdgeLine, Why, line_text, note_line};
+use edge_net::{Crew, count};
 use outside::{Look, Made, PatternMaker, ReadOut, RegexMaker, Watch, Wrote};
 use std::alloc::Global;
 use std::random::RandomSource;

@@ -1,4 +1,5 @@
 pub mod Pauses
-pub mod Sender
 pub mod Sides
-pub mod Whys
+-- what public clauses cite
+pub use Rattle.edge_net.specs.Pauses.{longer}
+pub use Rattle.edge_net.specs.Sides.{no_tally, side_state}

@@ -2,8 +2,8 @@ use std::sync::atomic::{AtomicU64, Ordering};
 use std::sync::{Condvar, Mutex, Wait};
 use std::time::{Clock, Duration};
 
-/// What the sides of a run and its watch share: how many sides still work, and whether one has left.
-/// Once one has, the others' receives end, and once all have, the watch does.
+/// What the sides of a run and its watch share: how many sides still work, and whether one has
+/// left. Once one has, the others' receives end, and once all have, the watch does.
 #[derive(Drop)]
 pub struct Crew {
     working: AtomicU64,

@@ -3,8 +3,8 @@ ghost use Rattle.dns_data.specs.declared.limit.TheConstants as limits;
 ghost use Rattle.slab.specs.Slab.{slab_len};
 
 use crate::peer::{Peer, Step};
-use crate::sender::Client;
 use dns_data::Buffer;
+use edge_sockets::Client;
 use mio::event::Event;
 use mio::net::TcpStream;
 use mio::{Interest, Registry, Token};

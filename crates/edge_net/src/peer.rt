@@ -1,8 +1,8 @@
 ghost use Rattle.std.specs.Prelude.{◌≤◌, length};
 ghost use Rattle.dns_data.specs.declared.limit.TheConstants as limits;
 
-use crate::sender::Client;
 use dns_data::Buffer;
+use edge_sockets::Client;
 use mio::net::TcpStream;
 use std::alloc::Global;
 use std::io::{ErrorKind, Read, Write};

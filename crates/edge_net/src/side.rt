@@ -4,16 +4,17 @@ ghost use Rattle.edge_net.specs.Sides.{no_tally, side_state};
 use crate::arrival::Arrival;
 use crate::clock::moment;
 use crate::crew::Crew;
-use crate::lines::{count, note_line};
 use crate::pause::longer;
-use crate::sender::Client;
-use crate::tally::Tally;
+use crate::tally::{Tally, count};
 use crate::tcp::TcpEnd;
 use crate::udp::UdpEnd;
 use dns_data::limit::MESSAGE_BYTES;
 use dns_data::{Buffer, Transport};
+use edge_lines::note_line;
+use edge_sockets::Client;
 use outside::{Datagram, Outcome, Received, Seen, Side, Upstream, Wrote};
 use std::alloc::Global;
+use std::net::Net;
 use std::random::RandomSource;
 use std::rt::Files;
 use std::sync::{Arc, Wait};
@@ -39,7 +40,7 @@ impl End {
     #[inline(always)]
     fn recv(
         &mut self,
-        rt: &(impl Clock + Files),
+        rt: &(impl Net + Clock + Files),
         bytes: &mut Buffer,
         client: &mut Client,
     ) -> Arrival {
@@ -52,7 +53,7 @@ impl End {
 
 /// A worker's side over sockets. It tells no journal and no script, and counts its failing calls.
 #[derive(Drop)]
-pub struct NetSide<R: Wait + Clock + RandomSource + Eprint + Files + Drop> {
+pub struct NetSide<R: Wait + Net + Clock + RandomSource + Eprint + Files + Drop> {
     rt: R,
     alloc: Global,
     end: End,
@@ -69,7 +70,7 @@ pub struct NetSide<R: Wait + Clock + RandomSource + Eprint + Files + Drop> {
     tally: Tally,
 }
 
-impl<R: Wait + Clock + RandomSource + Eprint + Files + Drop> NetSide<R> {
+impl<R: Wait + Net + Clock + RandomSource + Eprint + Files + Drop> NetSide<R> {
     /// A side at a port, one of a crew.
     pub fn new(rt: R, alloc: Global, end: End, local: u16, crew: Arc<Crew, Global>) -> NetSide<R>
         ensures { result.tally ≡ no_tally }
@@ -89,7 +90,7 @@ impl<R: Wait + Clock + RandomSource + Eprint + Files + Drop> NetSide<R> {
     }
 }
 
-impl<R: Wait + Clock + RandomSource + Eprint + Files + Drop> Side for NetSide<R> {
+impl<R: Wait + Net + Clock + RandomSource + Eprint + Files + Drop> Side for NetSide<R> {
     ghost state = { λ s. side_state s.tally };
 
     ghost quiet = { λ _. tt };
@@ -182,7 +183,7 @@ impl<R: Wait + Clock + RandomSource + Eprint + Files + Drop> Side for NetSide<R>
         count(&mut self.tally.left);
         let working = self.crew.leave(&self.rt);
         if let End::Udp(end) = &self.end {
-            end.poke(working);
+            end.poke(&self.rt, working);
         }
     }
 }
@@ -190,7 +191,7 @@ impl<R: Wait + Clock + RandomSource + Eprint + Files + Drop> Side for NetSide<R>
 // Waits for the next message. Nothing: another side has left. Mostly a message comes within a
 // second, and the loop is a call of its own.
 #[inline(always)]
-fn await_message<R: Clock + Files>(
+fn await_message<R: Net + Clock + Files>(
     rt: &R,
     end: &mut End,
     crew: &Crew,
@@ -206,7 +207,7 @@ fn await_message<R: Clock + Files>(
 // Waits for the next message where none has come within a second.
 #[cold]
 #[inline(never)]
-fn await_longer<R: Clock + Files>(
+fn await_longer<R: Net + Clock + Files>(
     rt: &R,
     end: &mut End,
     crew: &Crew,

@@ -1,4 +1,5 @@
 ghost use Rattle.std.specs.Prelude.{◌≡◌};
+ghost use Rattle.outside.specs.{raised};
 ghost use Rattle.edge_net.specs.Sides.{no_tally};
 
 /// How often each kind of call of a side failed, and how often it was told that its worker ended.
@@ -23,4 +24,11 @@ impl Tally {
             left: 0,
         }
     }
+}
+
+/// Counts one more failing call. The count stays at the last value of 64 bits.
+pub fn count(faults: &mut u64)
+    ensures { faults.new ≡ raised faults.old }
+{
+    *faults = faults.saturating_add(1);
 }

@@ -2,11 +2,10 @@ ghost use Rattle.std.specs.Prelude.{◌≤◌, length};
 ghost use Rattle.dns_data.specs.declared.limit.TheConstants as limits;
 
 use crate::arrival::Arrival;
-use crate::calls::peer_of;
 use crate::clock::moment;
 use crate::crowd::{Crowd, Turn};
-use crate::sender::{Client, Sender};
 use dns_data::Buffer;
+use edge_sockets::{Client, Sender, peer_of};
 use mio::net::TcpListener;
 use mio::{Events, Interest, Poll, Token};
 use std::alloc::Global;

@@ -1,5 +1,3 @@
-mod addresses;
 mod datagrams;
 mod pauses;
-mod senders;
 mod streams;

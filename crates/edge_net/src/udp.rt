@@ -1,18 +1,17 @@
 ghost use Rattle.std.specs.Prelude.{◌≡◌, ◌≤◌, vec_len, Some, IfOk};
-ghost use Rattle.edge_net.specs.Sender.{client_of};
+ghost use Rattle.edge_sockets.specs.{client_of};
 
-use crate::addresses::host_addresses;
 use crate::arrival::Arrival;
-use crate::calls::{Unreceived, receive, reply_to};
 use crate::clock::moment;
-use crate::sender::{Client, Sender};
-use crate::socket::{open_udp_at, poke, share_port};
 use dns_data::{Addr, Buffer, NoMemory};
+use edge_sockets::{
+    Client, Sender, Unreceived, host_addresses, open_udp_at, poke, receive, reply_to, share_port,
+};
 use libc::net as c;
 use libc::types::pollfd;
 use std::alloc::Global;
 use std::mem;
-use std::net::UdpSocket;
+use std::net::{Net, UdpSocket};
 use std::os::fd::AsRawFd;
 use std::rt::Files;
 use std::time::Clock;
@@ -73,7 +72,7 @@ impl UdpEnd {
     #[inline(always)]
     pub fn recv(
         &mut self,
-        rt: &(impl Clock + Files),
+        rt: &(impl Net + Clock + Files),
         message: &mut Buffer,
         client: &mut Client,
     ) -> Arrival
@@ -109,9 +108,9 @@ impl UdpEnd {
     /// Sends empty datagrams to the port from within, so that the blocked receives of so many
     /// workers go on. The system picks a socket by the sender's port, so each comes from another.
     /// A worker that gets none goes on within a second.
-    pub fn poke(&self, count: u64) {
+    pub fn poke(&self, net: &impl Net, count: u64) {
         for _ in 0..count.min(15) * 16 {
-            poke(self.port);
+            poke(net, self.port);
         }
     }
 
@@ -168,7 +167,7 @@ impl UdpEnd {
     // them are opened anew.
     #[cold]
     #[inline(never)]
-    fn look(&mut self, rt: &(impl Clock + Files)) {
+    fn look(&mut self, rt: &(impl Net + Clock + Files)) {
         let now = moment(rt).unwrap_or(0);
         if let Some(looked) = self.looked {
             if now.saturating_sub(looked) < BETWEEN {
@@ -184,7 +183,7 @@ impl UdpEnd {
         }
         self.others.clear();
         self.at = 0;
-        if self.open_others(&found).is_err() {
+        if self.open_others(rt, &found).is_err() {
             self.others.clear();
             self.addresses.clear();
             return;
@@ -193,14 +192,14 @@ impl UdpEnd {
     }
 
     // A socket at each of the addresses that can be bound.
-    fn open_others(&mut self, found: &[Addr]) -> Result<(), NoMemory> {
+    fn open_others(&mut self, net: &impl Net, found: &[Addr]) -> Result<(), NoMemory> {
         self.asked.clear();
         self.asked.push(readable(&self.socket))?;
         if !found.is_empty() {
             share_port(&self.socket);
         }
         for addr in found {
-            if let Ok(socket) = open_udp_at(*addr, self.port) {
+            if let Ok(socket) = open_udp_at(net, *addr, self.port) {
                 self.asked.push(readable(&socket))?;
                 self.others.push(socket)?;
             }

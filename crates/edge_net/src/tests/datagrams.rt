@@ -1,5 +1,7 @@
-use crate::{Arrival, Client, UdpEnd, open_udp};
+use crate::{Arrival, UdpEnd};
 use dns_data::{Addr, Buffer};
+use edge_lines::Why;
+use edge_sockets::{Client, open_udp};
 use std::net::{Ipv4Addr, SocketAddr, UdpSocket};
 use std::test::Fail;
 
@@ -31,6 +33,6 @@ fn a_datagram_comes_with_its_client_and_the_reply_goes_back(rt: HostRuntime) -> 
 fn a_port_that_is_taken_says_so(rt: HostRuntime) -> Result<(), Fail> {
     let socket = open_udp(&rt, 0)?;
     let port = socket.local_addr()?.port();
-    assert!(rt; matches!(open_udp(&rt, port), Err(crate::Why::InUse)));
+    assert!(rt; matches!(open_udp(&rt, port), Err(Why::InUse)));
     Ok(())
 }

@@ -1,5 +1,6 @@
-use crate::{Arrival, Client, TcpEnd, open_tcp};
+use crate::{Arrival, TcpEnd};
 use dns_data::Buffer;
+use edge_sockets::{Client, open_tcp};
 use std::io::{Read, Write};
 use std::net::{Ipv4Addr, SocketAddr, TcpStream};
 use std::test::Fail;

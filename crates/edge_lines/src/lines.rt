@@ -1,6 +1,5 @@
-//! What every line for the operator goes through, and the count of what failed.
-ghost use Rattle.std.specs.Prelude.{◌≡◌, ◌≤◌, length};
-ghost use Rattle.outside.specs.{raised};
+//! What every line for the operator goes through.
+ghost use Rattle.std.specs.Prelude.{◌≤◌, length};
 
 use libc::types::pollfd;
 use libc::{STDERR_FILENO, net as c};
@@ -51,11 +50,4 @@ pub fn tell_line(rt: &impl Print, line: &[u8]) -> bool {
         Ok(text) => rt.println(text).is_ok(),
         Err(_) => false,
     }
-}
-
-/// Counts one more failing call. The count stays at the last value of 64 bits.
-pub fn count(faults: &mut u64)
-    ensures { faults.new ≡ raised faults.old }
-{
-    *faults = faults.saturating_add(1);
 }

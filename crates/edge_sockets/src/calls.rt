@@ -1,7 +1,7 @@
 //! The calls of the system by which bytes come with their sender. An address stays in the bytes in
 //! which the system gave it, and goes back in them.
 ghost use Rattle.std.specs.Prelude.{◌≡◌, ◌≤◌, length, Some, IfOk, IfSome};
-ghost use Rattle.edge_net.specs.Sender.{client_of};
+ghost use Rattle.edge_sockets.specs.Sender.{client_of};
 
 use crate::sender::{Client, Sender, client_of};
 use libc::net as c;
@@ -12,7 +12,7 @@ const SPACE: u32 = 128;
 
 /// Why no datagram was received. Nothing: none came, as far as the call waited.
 #[derive(Clone, Copy, Debug, PartialEq, Eq)]
-pub(crate) enum Unreceived {
+pub enum Unreceived {
     Nothing,
     Failed,
 }
@@ -21,7 +21,7 @@ pub(crate) enum Unreceived {
 /// it. It waits as long as the socket does, or not at all. It has failed where the call has, a
 /// signal among the reasons, and where the sender has no address of either family.
 #[inline(always)]
-pub(crate) fn receive(
+pub fn receive(
     socket: &UdpSocket,
     packet: &mut [u8],
     from: &mut Sender,
@@ -58,7 +58,7 @@ pub(crate) fn receive(
 
 /// Sends a reply to the sender, and says whether the system took it.
 #[inline]
-pub(crate) fn reply_to(socket: &UdpSocket, reply: &[u8], to: &Sender) -> bool {
+pub fn reply_to(socket: &UdpSocket, reply: &[u8], to: &Sender) -> bool {
     let len = to.len.min(SPACE);
     // SAFETY: the descriptor is that of a socket which is open for the whole call.
     let put = unsafe { c::sendto(socket.as_raw_fd(), reply, c::MSG_NOSIGNAL, &to.bytes, len) };
@@ -67,7 +67,7 @@ pub(crate) fn reply_to(socket: &UdpSocket, reply: &[u8], to: &Sender) -> bool {
 
 /// Who is at the other end of a connection, into `from` as well. `None` where the call fails, as
 /// behind a reset, and where that is no address of either family.
-pub(crate) fn peer_of(stream: &impl AsRawFd, from: &mut Sender) -> Option<Client>
+pub fn peer_of(stream: &impl AsRawFd, from: &mut Sender) -> Option<Client>
     ensures { IfSome result (λ client. client_of from.new.bytes from.new.len ≡ Some client) }
 {
     from.len = SPACE;

@@ -1,5 +1,6 @@
-ghost use Rattle.std.specs.Prelude.{◌≡◌, pos, IfOk};
-ghost use Rattle.edge_net.specs.Whys.{edge_text};
+ghost use Rattle.std.specs.IoError.{raw_os_error};
+ghost use Rattle.std.specs.Prelude.{◌≡◌, pos, unwrap_or, IfOk};
+ghost use Rattle.edge_lines.specs.Whys.{Means, edge_text};
 
 use dns_data::{NoMemory, Text, Transport};
 use std::alloc::Global;
@@ -20,10 +21,7 @@ pub enum Why {
 impl Why {
     /// What an error's number means, by Linux's errno(3).
     pub fn of(number: i32) -> Why
-        ensures denied { number ≡ pos 13 → result ≡ Why.Denied }
-        ensures in_use { number ≡ pos 98 → result ≡ Why.InUse }
-        ensures descriptors { number ≡ pos 24 → result ≡ Why.Descriptors }
-        ensures folder { number ≡ pos 21 → result ≡ Why.NotRegular }
+        ensures { Means number result }
     {
         match number {
             libc::EPERM | libc::EACCES => Why::Denied,
@@ -35,8 +33,10 @@ impl Why {
         }
     }
 
-    /// Why a call of the kit failed.
-    pub fn of_error(error: &io::Error) -> Why {
+    /// Why a call of the kit failed. Where it has no number of the system, that is 0.
+    pub fn of_error(error: &io::Error) -> Why
+        ensures { Means (unwrap_or (raw_os_error error.now) (pos 0)) result }
+    {
         Why::of(error.raw_os_error().unwrap_or(0))
     }
 }
@@ -48,7 +48,7 @@ const ENOBUFS: i32 = 105;
 
 impl Display for Why {
     ghost use Rattle.std.specs.Prelude.{Some};
-    ghost use Rattle.edge_net.specs.Whys.{why_text};
+    ghost use Rattle.edge_lines.specs.Whys.{why_text};
 
     ghost output = { λ why. Some (why_text why) };
 
@@ -73,7 +73,7 @@ pub enum EdgeLine {
 
 impl Display for EdgeLine {
     ghost use Rattle.std.specs.Prelude.{Some};
-    ghost use Rattle.edge_net.specs.Whys.{edge_text};
+    ghost use Rattle.edge_lines.specs.Whys.{edge_text};
 
     ghost output = { λ line. Some (edge_text line) };
 

@@ -1,6 +1,6 @@
 //! The address of a datagram's sender, as the system spells it and as a client is told.
-ghost use Rattle.std.specs.Prelude.{◌≡◌, ◌≤◌, ◌+◌};
-ghost use Rattle.edge_net.specs.Sender.{u16_at, u32_at, family_of, v6_of, client_of};
+ghost use Rattle.std.specs.Prelude.{◌≡◌, ◌≤◌, ◌+◌, replicate};
+ghost use Rattle.edge_sockets.specs.Sender.{u16_at, u32_at, family_of, v6_of, client_of, nobody};
 
 use dns_data::Addr;
 use libc::net as c;
@@ -14,7 +14,9 @@ pub struct Client {
 
 impl Client {
     /// Nobody, before the first message.
-    pub fn nobody() -> Client {
+    pub fn nobody() -> Client
+        ensures { result ≡ nobody }
+    {
         Client {
             address: Addr::V4(0),
             port: 0,
@@ -74,7 +76,10 @@ pub struct Sender {
 
 impl Sender {
     /// Nobody, before the first datagram. The system refuses a reply to it.
-    pub fn nobody() -> Sender {
+    pub fn nobody() -> Sender
+        ensures bytes { result.bytes ≡ replicate 128 0 }
+        ensures len { result.len ≡ 0 }
+    {
         Sender {
             bytes: [0; 128],
             len: 0,

@@ -1,7 +1,7 @@
 //! The sockets of a port: at every address of both families, or of IPv4 alone where the system has
 //! no IPv6.
-use crate::why::Why;
 use dns_data::{Addr, Transport};
+use edge_lines::Why;
 use libc::net as c;
 use os::FromRawFd;
 use std::net::{Ipv4Addr, Ipv6Addr, Net, SocketAddr, TcpListener, UdpSocket};
@@ -47,8 +47,8 @@ pub fn open_udp_beside(_net: &impl Net, first: &UdpSocket, port: u16) -> Result<
     waiting(UdpSocket::from(socket))
 }
 
-/// Sends an empty datagram to a port from within, by a socket of its own.
-pub(crate) fn poke(port: u16) {
+/// Sends an empty datagram to a port from within, by a socket of its own. It tells no failure.
+pub fn poke(_net: &impl Net, port: u16) {
     if !poke_at(Family::Both, SocketAddr::from((Ipv6Addr::LOCALHOST, port))) {
         poke_at(Family::V4, SocketAddr::from((Ipv4Addr::LOCALHOST, port)));
     }
@@ -71,8 +71,8 @@ fn waiting(socket: UdpSocket) -> Result<UdpSocket, Why> {
     }
 }
 
-/// Lets further sockets of this user have the port.
-pub(crate) fn share_port(socket: &impl AsRawFd) {
+/// Lets further sockets of this user have the port. Where the system refuses, they can't be bound.
+pub fn share_port(socket: &impl AsRawFd) {
     let value = value_of(1);
     // SAFETY: the descriptor is that of a socket which is open for the whole call.
     let _ = unsafe {
@@ -87,7 +87,7 @@ pub(crate) fn share_port(socket: &impl AsRawFd) {
 }
 
 /// A socket for datagrams at a port of one address, beside one at every address.
-pub(crate) fn open_udp_at(addr: Addr, port: u16) -> Result<UdpSocket, Why> {
+pub fn open_udp_at(_net: &impl Net, addr: Addr, port: u16) -> Result<UdpSocket, Why> {
     let (family, len) = match addr {
         Addr::V4(_) => (Family::V4, V4_LEN),
         Addr::V6(_) => (Family::Both, V6_LEN),

@@ -1,5 +1,7 @@
 //! The addresses of this host, as Linux tells them in proc(5). Where there are several of a family,
 //! a reply must come from the one that was asked.
+ghost use Rattle.std.specs.Prelude.{◌≤◌, max, vec_len, IfSome};
+
 use dns_data::{Addr, NoMemory};
 use std::alloc::Global;
 use std::fs::File;
@@ -18,7 +20,9 @@ const TENTATIVE: u64 = 0x40;
 
 /// The addresses of both families for which a host has several, in the system's order, without
 /// those of the loopback and the links. None where the system doesn't tell them.
-pub(crate) fn host_addresses(files: &impl Files, alloc: Global) -> Option<Vec<Addr>> {
+pub fn host_addresses(files: &impl Files, alloc: Global) -> Option<Vec<Addr>>
+    ensures { IfSome result (λ found. vec_len found ≤ 64) }
+{
     let Ok(trie) = read_table(files, alloc, "/proc/net/fib_trie") else {
         return None;
     };
@@ -51,7 +55,9 @@ fn read_table(files: &impl Files, alloc: Global, name: &str) -> io::Result<Vec<u
 
 /// Adds the host's IPv4 addresses of the tree of routes: behind a line `|-- ADDRESS` one that
 /// begins with `/32 host LOCAL`. The tree may have them twice.
-pub(crate) fn add_v4(found: &mut Vec<Addr>, trie: &str) -> Result<(), NoMemory> {
+pub(crate) fn add_v4(found: &mut Vec<Addr>, trie: &str) -> Result<(), NoMemory>
+    ensures { vec_len found.new ≤ max MOST (vec_len found.old) }
+{
     let mut last = None;
     for line in trie.lines() {
         let line = line.trim_start();
@@ -70,7 +76,9 @@ pub(crate) fn add_v4(found: &mut Vec<Addr>, trie: &str) -> Result<(), NoMemory> 
 
 /// Adds the host's IPv6 addresses of the table of its interfaces: 32 digits, and behind the
 /// interface and the prefix the scope, which is 00, and the flags.
-pub(crate) fn add_v6(found: &mut Vec<Addr>, table: &str) -> Result<(), NoMemory> {
+pub(crate) fn add_v6(found: &mut Vec<Addr>, table: &str) -> Result<(), NoMemory>
+    ensures { vec_len found.new ≤ max MOST (vec_len found.old) }
+{
     for line in table.lines() {
         let mut words = line.split_whitespace();
         let (Some(digits), _, _) = (words.next(), words.next(), words.next()) else {
@@ -92,7 +100,9 @@ pub(crate) fn add_v6(found: &mut Vec<Addr>, table: &str) -> Result<(), NoMemory>
     Ok(())
 }
 
-fn add(found: &mut Vec<Addr>, addr: Addr) -> Result<(), NoMemory> {
+fn add(found: &mut Vec<Addr>, addr: Addr) -> Result<(), NoMemory>
+    ensures { vec_len found.new ≤ max MOST (vec_len found.old) }
+{
     if found.len() < MOST && !found.contains(&addr) {
         found.push(addr)?;
     }

@@ -3,7 +3,7 @@
 use Rattle.std.specs.Prelude.{ℕ, ◌+◌, ◌*◌, ◌==◌, nat_lt, Bool, not, ◌&&◌, List, slice_index, Option, Some, None, if◌then◌else◌}
 use Rattle.dns_data.specs.Addresses.{Addr}
 use Rattle.dns_data.specs.Addresses.{V4, V6}
-use Rattle.edge_net.specs.declared.sender.Client.{Client}
+use Rattle.edge_sockets.specs.declared.sender.Client.{Client}
 
 -- the number of 16 bits at a place, its first byte highest
 abbrev pub u16_at : List ℕ → ℕ → ℕ
@@ -43,3 +43,7 @@ client_of bytes len =
       address = V4 (u32_at bytes 4);
       port = u16_at bytes 2;
     }) else None)
+
+-- the client before the first message
+abbrev pub nobody : Client
+nobody = record { address = V4 0; port = 0 }

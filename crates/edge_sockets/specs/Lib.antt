@@ -1,0 +1,3 @@
+pub mod Sender
+-- what public clauses cite
+pub use Rattle.edge_sockets.specs.Sender.{client_of, nobody}

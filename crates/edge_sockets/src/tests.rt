@@ -1,0 +1,2 @@
+mod addresses;
+mod senders;

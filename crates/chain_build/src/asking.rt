@@ -4,12 +4,13 @@ ghost use Rattle.chain_meaning.specs.Serving.{header_reply, is_known_version, li
 ghost use Rattle.chain_meaning.specs.Serving.{query_of, reply_message, upper_code};
 ghost use Rattle.dns_data.specs.Message.{AreCodes};
 ghost use Rattle.dns_wire.specs.{asked_by};
-ghost use Rattle.dns_wire.specs.Assembled.{message_of};
+ghost use Rattle.dns_write.specs.Assembled.{message_of};
 
 use dns_data::{
     Buffer, NoMemory, Opt, Query, Question, Slot, Transport, class, limit, opcode, rcode,
 };
-use dns_wire::{Asked, AskedBeside, Flags, Head, MessageParts};
+use dns_wire::{Asked, AskedBeside, Flags, Head};
+use dns_write::MessageParts;
 use outside::Datagram;
 use std::alloc::Global;
 

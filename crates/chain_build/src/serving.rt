@@ -25,7 +25,8 @@ use crate::plans::Plans;
 use crate::room::{PluginRoom, Room};
 use chain_meaning::{Served, Silence, number};
 use dns_data::{NoMemory, Opt, Query, Slot, class, rcode};
-use dns_wire::{AskedBeside, QueryFault, read_asked_into, write_parts};
+use dns_wire::{AskedBeside, QueryFault, read_asked_into};
+use dns_write::write_parts;
 use outside::{Datagram, Side};
 use std::alloc::Global;
 

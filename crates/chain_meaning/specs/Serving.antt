@@ -20,7 +20,7 @@ use Rattle.dns_wire.specs.Wire.{flag_at}
 use Rattle.dns_wire.specs.Spells.{HasOtherOpcode, IsMalformed}
 use Rattle.dns_wire.specs.Asked.{QueriesThis}
 use Rattle.dns_wire.specs.declared.asked.Asked.{Asked}
-use Rattle.dns_wire.specs.Written.{bit, written}
+use Rattle.dns_write.specs.Written.{bit, written}
 use Rattle.outside.specs.Meanings.{Meaning, Done, Starved}
 use Rattle.outside.specs.declared.datagram.Datagram.{Datagram}
 use Rattle.outside.specs.declared.mark.Mark.{Mark}

@@ -5,7 +5,8 @@ use crate::fault::CaseFault;
 use crate::fields::{bytes_field, read_bytes};
 use dns_data::Message;
 use dns_data::limit::{MESSAGE_BYTES, UDP_BYTES};
-use dns_wire::{QueryFault, WireFault, read_asked, read_query, read_reply, write_message};
+use dns_wire::{QueryFault, WireFault, read_asked, read_query, read_reply};
+use dns_write::write_message;
 use std::alloc::Global;
 
 /// What a query is refused for, or `ok` and its message, spelt anew.

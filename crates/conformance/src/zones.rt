@@ -6,7 +6,7 @@ use crate::fields::{bytes_field, read_bytes, read_name};
 use crate::records::record_field;
 use dns_data::limit::MESSAGE_BYTES;
 use dns_data::{Message, Name, Question, Slot, class, opcode};
-use dns_wire::write_message;
+use dns_write::write_message;
 use std::alloc::Global;
 use zone_file::{ZoneFault, ZoneWhy, read_zone};
 use zone_lookup::lookup;

@@ -1,5 +1,4 @@
-//! Messages of the DNS as bytes (RFC 1035, section 4): queries and replies are read, and messages
-//! are written.
+//! Messages of the DNS as bytes (RFC 1035, section 4): queries and replies are read.
 #![tactic(auto)]
 
 mod asked;
@@ -12,19 +11,14 @@ mod learning;
 mod message;
 mod name;
 mod number;
-mod offsets;
 mod query;
 mod rdata;
 mod record;
 mod reply;
 mod section;
-mod write;
-mod write_record;
-mod writer;
 
 pub use asked::{Asked, AskedBeside, read_asked, read_asked_into};
 pub use fault::{Head, QueryFault, WireFault};
 pub use header::Flags;
 pub use query::read_query;
 pub use reply::read_reply;
-pub use write::{MessageParts, write_message, write_parts};

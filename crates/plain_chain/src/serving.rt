@@ -16,7 +16,8 @@ use chain_build::{Places, header_reply, limit_of, opt_reply, query_of, reply_mes
 use chain_meaning::{Decision, Refusal, number};
 use corefile_blocks::{Bundle, CorefileFault, read_blocks};
 use dns_data::{Blocks, Buffer, FileText, NoMemory, Slot, rcode};
-use dns_wire::{Asked, QueryFault, read_asked, write_parts};
+use dns_wire::{Asked, QueryFault, read_asked};
+use dns_write::write_parts;
 use outside::{Datagram, Mark, PatternMaker};
 use std::alloc::Global;
 

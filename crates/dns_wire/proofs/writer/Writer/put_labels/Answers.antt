@@ -1,5 +1,0 @@
-use Rattle.dns_wire.proofs.Drafts.{put_none}
-use Rattle.dns_wire.proofs.writer.Writer.put_labels.Goals as goal
-
-pub returns-then-wire-eq0 : goal.returns-then-wire-eq0
-returns-then-wire-eq0 c = put_none c.args.self.now c.args.wire.now c.if-wire-eq0.true

@@ -1,0 +1,12 @@
+pub mod Truncating
+pub mod Drafts
+pub mod Ending
+pub mod Searching
+pub mod Standing
+pub mod FirstName
+pub mod Respelt
+pub mod RespeltData
+pub mod RespeltMessage
+pub mod Swaps
+pub mod Writing
+pub mod Compressing

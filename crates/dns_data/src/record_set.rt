@@ -95,8 +95,17 @@ impl Rdata {
                 *place = port;
                 target.clear();
             }
-            other => other.replace_by(Rdata::Srv(0, 0, port, Name::root(alloc))),
+            other => other.replace_by_service(alloc, port),
         }
+    }
+
+    // The same, where its own data are others, which go.
+    #[cold]
+    #[inline(never)]
+    fn replace_by_service(&mut self, alloc: Global, port: u16)
+        ensures { self.new ≡ rdata.Srv 0 0 port [] }
+    {
+        *self = Rdata::Srv(0, 0, port, Name::root(alloc));
     }
 
     // Becomes a copy of other data, and its own goes.

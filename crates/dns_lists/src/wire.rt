@@ -226,8 +226,8 @@ impl Wire {
                     short.push(rest);
                     return Ok(());
                 }
-                self.form = Form::Many(labelled(short.allocator(), label, rest)?);
-                Ok(())
+                let alloc = short.allocator();
+                self.set_label_far(alloc, label, rest)
             }
             Form::Many(long) => {
                 long.reserve(label.len() + 1 + rest.len())?;
@@ -238,6 +238,18 @@ impl Wire {
                 Ok(())
             }
         }
+    }
+
+    // The same, in memory of its own.
+    #[cold]
+    #[inline(never)]
+    fn set_label_far(&mut self, alloc: Global, label: &[u8], rest: &[u8]) -> Result<(), NoMemory>
+        requires { length label.now ≤ 63 }
+        ensures ok { OnOk result (self.new ≡ (length label.now ∷ label.now) ++ rest.now) }
+        ensures err { OnErr result (self.new ≡ self.old) }
+    {
+        self.form = Form::Many(labelled(alloc, label, rest)?);
+        Ok(())
     }
 
     /// Becomes a copy of another, where both stand in their values. Else nothing is done.

@@ -10,3 +10,8 @@ pub mod RespeltMessage
 pub mod Swaps
 pub mod Writing
 pub mod Compressing
+pub mod Tails
+pub mod Layouts
+pub mod Listings
+pub mod Patching
+pub mod Lending

@@ -60,7 +60,7 @@ unfolding earliest
 none_left suffix = refl
 
 -- the earliest of two lists
-earliest-append : (ps qs : List OffsetData) (suffix : List (List ℕ)) → earliest (ps ++ qs) suffix ≡ option_or (earliest ps suffix) (earliest qs suffix)
+pub earliest-append : (ps qs : List OffsetData) (suffix : List (List ℕ)) → earliest (ps ++ qs) suffix ≡ option_or (earliest ps suffix) (earliest qs suffix)
 unfolding earliest
 earliest-append [] qs suffix = refl
 earliest-append (p ∷ ps) qs suffix =

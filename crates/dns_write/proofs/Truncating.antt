@@ -1,5 +1,5 @@
 -- The longest prefix of the records that fits is where putting them one after another stops.
-use Rattle.std.proofs.Common.{◌≡◌, ◌≤◌, ◌<◌, ℕ, zero, suc, ◌+◌, ◌-◌, ◌*◌, Bool, true, false, List, [], ◌∷◌, ◌++◌, length, take, drop, get_or, refl, sym, ap, subst, ◌∙◌, add-one, arith, inl, inr, ◌⊎◌, length-append}
+use Rattle.std.proofs.Common.{◌≡◌, ◌≤◌, ◌<◌, ℕ, zero, suc, ◌+◌, ◌-◌, ◌*◌, Bool, true, false, List, [], ◌∷◌, ◌++◌, length, take, drop, get_or, refl, sym, ap, subst, ◌∙◌, add-one, append_assoc, arith, inl, inr, ◌⊎◌, length-append}
 use Rattle.std.proofs.lemmas.List.{take_all, take-append-le, take-append-drop, length-take, length-take-le, take-take}
 use Rattle.std.proofs.lemmas.Bool.{le-leb, lt-leb, le-ltb}
 use Rattle.std.proofs.Math.Seq.{take-append-add}
@@ -10,8 +10,10 @@ use Rattle.dns_data.specs.Record.{RecordData, IsProper}
 use Rattle.dns_data.specs.Message.{MessageData}
 use Rattle.dns_data.specs.declared.message.Question.{Question}
 use Rattle.dns_write.specs.declared.write.Counts.{Counts}
-use Rattle.dns_write.specs.Written.{Draft, empty, size, put_question, put_record, put_records, header, records_of, untruncated, truncated, opt_bytes, greatest, kept, written, IsLongest}
-use Rattle.dns_write.specs.Putting.{total, PutLongest, AreKept}
+use Rattle.dns_write.specs.Written.{Draft, OffsetData, empty, size, put_question, put_record, put_records, header, records_of, untruncated, truncated, opt_bytes, greatest, kept, written, IsLongest}
+use Rattle.dns_write.specs.Offsets.{suffixes_at}
+use Rattle.dns_write.specs.Putting.{total, PutLongest, AreKept, Sectioned}
+use Rattle.dns_write.specs.Tails.{Knows, PutsAll}
 use Rattle.dns_write.proofs.Drafts.{grown-question, grown-record}
 
 -- a draft's length after what was put behind it
@@ -60,7 +62,7 @@ next_proper (x ∷ rs) (suc i) r inside is all here = (all.0, next_proper rs i r
 pub proper-next : (rs : List RecordData) (i : ℕ) (r : RecordData) → i < length rs → r ≡ get_or rs i r → AllByRecursion IsProper (take i rs) → IsProper r → AllByRecursion IsProper (take (i + 1) rs)
 proper-next rs i r inside is all here = rw add-one (next_proper rs i r inside is all here)
 
-all_append : (a b : List RecordData) → AllByRecursion IsProper a → AllByRecursion IsProper b → AllByRecursion IsProper (a ++ b)
+pub all_append : (a b : List RecordData) → AllByRecursion IsProper a → AllByRecursion IsProper b → AllByRecursion IsProper (a ++ b)
 all_append [] b p q = q
 all_append (r ∷ a) b p q = (p.0, all_append a b p.1 q)
 
@@ -260,3 +262,50 @@ truncated_all {m} {limit} {bytes} w fits = elim (split w.count (length (records_
   | inl all ↦ whole_truncated m w.count (omega arith)
   | inr less ↦ absurd (omega (arith, w.longest (length (records_of m)) less (omega arith), ap (λ (n : MessageData). length (untruncated n)) (whole_truncated m (length (records_of m)) (omega arith))))
 ]
+
+-- behind an answer that is whole all records of a tail were put
+pub tail_put : {old mid new : Draft} {room a : ℕ} (m : MessageData) → PutLongest old mid m.answer room a → length m.answer ≤ a → PutsAll mid new (m.authority ++ m.additional) room
+    → Sectioned old new m room (record { answer = a; authority = length m.authority; additional = length m.additional })
+tail_put {old} {mid} {new} {room} {a} m p whole t =
+    let rest = m.authority ++ m.additional in
+    let n = length rest in
+    let end = put_records mid rest in
+    let every : take n rest ≡ rest = take_all n rest (omega arith) in
+    let q : PutLongest mid end rest room n = record {
+      inside = omega arith;
+      text = ap (put_records mid) (sym every);
+      fits = omega (arith, t.fits, ap length t.bytes);
+      proper = subst (AllByRecursion IsProper) (sym every) t.proper;
+      longest = λ more. absurd (omega (arith, more));
+    } in
+    let e : a ≡ length m.answer = omega (arith, p.inside) in
+    let k = length m.authority in
+    let l = length m.additional in
+    let sum : n ≡ k + l = length-append m.authority m.additional in
+    record {
+      end = end;
+      bytes = t.bytes;
+      kept = record {
+        all = subst (λ (x : ℕ). PutLongest old end (records_of m) room x) (omega (arith, sum)) (join p whole q);
+        answer = all m.answer (a + k + l) a (omega arith) e;
+        authority = all m.authority (a + k + l - length m.answer) k (omega arith) refl;
+        additional = all m.additional (a + k + l - length m.answer - length m.authority) l (omega arith) refl;
+      };
+    }
+
+pub as_kept : {old new : Draft} {m : MessageData} {room : ℕ} {k : Counts} → AreKept old new m room k → Sectioned old new m room k
+as_kept {old} {new} kept = record { end = new; bytes = refl; kept = kept }
+
+-- the same, of a draft that is the same
+pub same_end : {old mid new : Draft} {rs : List RecordData} {room a : ℕ} → PutLongest old mid rs room a → new ≡ mid → PutLongest old new rs room a
+same_end {old} {mid} {new} {rs} {room} {a} p same = subst (λ (d : Draft). PutLongest old d rs room a) (sym same) p
+
+-- behind records the offsets of the question's name still come first
+pub still_knows : (name : List (List ℕ)) (d : Draft) (rs : List RecordData) → Knows name d → Knows name (put_records d rs)
+still_knows name d [] known = known
+still_knows name d (r ∷ rs) known =
+    let g = grown-record d r in
+    still_knows name (put_record d r) rs (record {
+      others = known.others ++ g.others;
+      offsets = g.offsets ∙ ap (λ (os : List OffsetData). os ++ g.others) known.offsets ∙ append_assoc (suffixes_at 12 name) known.others g.others;
+    })

@@ -44,3 +44,9 @@ pub record AreKept (old new : Draft) (m : MessageData) (room : ℕ) (k : Counts)
   pub authority : k.authority ≡ length (take (total k - length m.answer) m.authority)
   pub additional : k.additional
       ≡ length (take (total k - length m.answer - length m.authority) m.additional)
+
+-- a draft has the bytes of one behind which so many of a message's records were put
+pub record Sectioned (old new : Draft) (m : MessageData) (room : ℕ) (k : Counts) : Type 0 where
+  pub end : Draft
+  pub bytes : new.bytes ≡ end.bytes
+  pub kept : AreKept old end m room k

@@ -1,9 +1,14 @@
 //! Messages of the DNS as bytes (RFC 1035, section 4): messages are written.
 #![tactic(auto)]
 
+mod layout;
+mod listing;
 mod offsets;
+mod plan;
+mod tail;
 mod write;
 mod write_record;
 mod writer;
 
-pub use write::{MessageParts, write_message, write_parts};
+pub use tail::Tail;
+pub use write::{MessageParts, write_lent, write_message, write_parts};

@@ -1,5 +1,5 @@
 ghost use Rattle.std.specs.Prelude.{◌≡◌, ◌≤◌, ◌<◌, ◌+◌, ◌-◌, ◌^◌, [], ◌∷◌, length, take, vec_len};
-ghost use Rattle.std.specs.Prelude.{OnOk, IfOk, IfSome};
+ghost use Rattle.std.specs.Prelude.{◌++◌, OnOk, IfOk, IfNone, IfSome, IsFalse, IsTrue};
 ghost use Rattle.dns_data.specs.Record.{IsProper};
 ghost use Rattle.dns_write.specs.Writes.{Writes};
 ghost use Rattle.dns_write.specs.Written.{empty, size, put, put_question, opt_bytes, header};
@@ -7,8 +7,10 @@ ghost use Rattle.dns_write.specs.Written.{truncated, kept};
 ghost use Rattle.dns_data.specs.Message.{AreCodes};
 ghost use Rattle.dns_write.specs.Assembled.{message_of, high_byte, low_byte};
 ghost use Rattle.dns_write.specs.Putting.{total, QuestionFits, OptFits, PutWithin, PutLongest};
-ghost use Rattle.dns_write.specs.Putting.{AreKept};
+ghost use Rattle.dns_write.specs.Putting.{Sectioned};
+ghost use Rattle.dns_write.specs.Tails.{Knows, Lends, PutsAll, lent_to};
 
+use crate::tail::Tail;
 use crate::write_record::put_record;
 use crate::writer::Writer;
 use dns_data::limit::{MESSAGE_BYTES, UDP_BYTES};
@@ -88,11 +90,55 @@ pub fn write_parts(
     requires codes { AreCodes parts.now.flags.opcode parts.now.flags.rcode }
     ensures { IfOk result (Writes (message_of parts.now) limit) }
 {
+    write_lent(alloc, room, parts, None, limit)
+}
+
+/// Writes a message by its parts as `write_parts` does. Where a tail is given, its records stand in
+/// place of the parts' own in authority and additional.
+#[inline]
+pub fn write_lent<'a>(
+    alloc: Global,
+    room: Buffer,
+    parts: &MessageParts<'a>,
+    tail: Option<&'a Tail>,
+    limit: u32,
+) -> Result<Buffer, NoMemory>
+    requires limit { (UDP_BYTES ≤ limit) × (limit ≤ MESSAGE_BYTES) }
+    requires codes { AreCodes parts.now.flags.opcode parts.now.flags.rcode }
+    ensures lent { IfSome tail.entry
+        (λ t. IfOk result (Writes (lent_to (message_of parts.now) t.now) limit)) }
+    ensures own { IfNone tail.entry (IfOk result (Writes (message_of parts.now) limit)) }
+{
     let mut out = room.into_room();
     if out.len() < ROOM {
         out.resize(ROOM, 0)?;
     }
-    write_behind(alloc, out, parts, limit)
+    write_behind(alloc, out, &whole_parts(parts, tail), tail, limit)
+}
+
+// The parts of a message with the records of a tail, where there is one.
+#[inline(always)]
+fn whole_parts<'a>(parts: &MessageParts<'a>, tail: Option<&'a Tail>) -> MessageParts<'a>
+    ensures lends { IfSome tail.entry (λ t. Lends t.now (message_of result)) }
+    ensures lent { IfSome tail.entry
+        (λ t. message_of result ≡ lent_to (message_of parts.now) t.now) }
+    ensures own { IfNone tail.entry (message_of result ≡ message_of parts.now) }
+    ensures flags { result.flags ≡ parts.now.flags }
+{
+    let (authority, additional) = match tail {
+        Some(tail) => (tail.authority(), tail.additional()),
+        None => (parts.authority, parts.additional),
+    };
+    MessageParts {
+        flags: parts.flags,
+        name: parts.name,
+        kind: parts.kind,
+        class: parts.class,
+        answer: parts.answer,
+        authority,
+        additional,
+        opt: parts.opt,
+    }
 }
 
 // Writes a message in place of whatever bytes there are. It is a function of its own so that the
@@ -102,8 +148,10 @@ fn write_behind(
     alloc: Global,
     out: Vec<u8>,
     parts: &MessageParts<'_>,
+    tail: Option<&Tail>,
     limit: u32,
 ) -> Result<Buffer, NoMemory>
+    requires tail { IfSome tail (λ t. Lends t.now (message_of parts.now)) }
     requires room { 12 ≤ vec_len out }
     requires limit { (UDP_BYTES ≤ limit) × (limit ≤ MESSAGE_BYTES) }
     requires codes { AreCodes parts.now.flags.opcode parts.now.flags.rcode }
@@ -112,7 +160,7 @@ fn write_behind(
     let mut writer = Writer::over(alloc, out);
     let room_for_records = room_for_records(limit as usize, &parts.opt);
     put_question(&mut writer, parts)?;
-    let kept = put_sections(&mut writer, parts, room_for_records)?;
+    let kept = put_sections(&mut writer, parts, tail, room_for_records)?;
     put_opt(&mut writer, &parts.opt)?;
     Ok(writer.into_message(&header_bytes(parts, kept)))
 }
@@ -139,20 +187,25 @@ fn put_question<'a>(writer: &mut Writer<'a>, parts: &MessageParts<'a>) -> Result
 {
     let kind = parts.kind.to_be_bytes();
     let class = parts.class.to_be_bytes();
-    writer.put_first_name(parts.name)?;
-    writer.put_few([kind[0], kind[1], class[0], class[1]])
+    writer.put_first_labels(parts.name)?;
+    writer.put_few([0, kind[0], kind[1], class[0], class[1]])
 }
 
-// Puts records of one section after another, until one doesn't fit.
+// Puts records of one section after another, until one doesn't fit. Those behind the answer are put
+// as a tail knows how, where there is one.
 #[inline]
 fn put_sections<'a>(
     writer: &mut Writer<'a>,
     parts: &MessageParts<'a>,
+    tail: Option<&Tail>,
     room: usize,
 ) -> Result<Counts, NoMemory>
     requires room { room ≤ 65535 }
     requires fits { size writer.old ≤ room }
-    ensures { IfOk result (λ kept. AreKept writer.old writer.new (message_of parts.now) room kept) }
+    requires known { Knows parts.now.name.now writer.old }
+    requires tail { IfSome tail (λ t. Lends t.now (message_of parts.now)) }
+    ensures { IfOk result
+        (λ kept. Sectioned writer.old writer.new (message_of parts.now) room kept) }
 {
     let answer = put_records(writer, parts.answer, room)?;
     if answer < parts.answer.len() {
@@ -160,6 +213,13 @@ fn put_sections<'a>(
             answer,
             authority: 0,
             additional: 0,
+        });
+    }
+    if put_tail(writer, parts, tail, room) {
+        return Ok(Counts {
+            answer,
+            authority: parts.authority.len(),
+            additional: parts.additional.len(),
         });
     }
     let authority = put_records(writer, parts.authority, room)?;
@@ -176,6 +236,28 @@ fn put_sections<'a>(
         authority,
         additional,
     })
+}
+
+// Puts the records behind the answer at once, where a tail knows how, and says whether it did.
+#[inline(always)]
+fn put_tail(
+    writer: &mut Writer<'_>,
+    parts: &MessageParts<'_>,
+    tail: Option<&Tail>,
+    room: usize,
+) -> bool
+    requires room { room ≤ 65535 }
+    requires fits { size writer.old ≤ room }
+    requires known { Knows parts.now.name.now writer.old }
+    requires tail { IfSome tail (λ t. Lends t.now (message_of parts.now)) }
+    ensures put { IsTrue result → PutsAll writer.old writer.new
+        ((message_of parts.now).authority ++ (message_of parts.now).additional) room }
+    ensures none { IsFalse result → writer.new ≡ writer.old }
+{
+    match tail {
+        Some(tail) => tail.put(writer, parts.name, room),
+        None => false,
+    }
 }
 
 // Puts records until one doesn't fit, and gives how many were put. Mostly there are none, which

@@ -1,9 +1,13 @@
 ghost use Rattle.std.specs.Prelude.{◌≡◌, ◌<◌, ◌≤◌, ◌+◌, ◌-◌, ◌^◌, ◌++◌, [], length, take, drop};
-ghost use Rattle.std.specs.Prelude.{vec_len, OnOk};
+ghost use Rattle.std.specs.Prelude.{◌∷◌, vec_len, OnOk};
 ghost use Rattle.std.specs.Int.{w16, to_be_bytes};
 ghost use Rattle.dns_names.specs.Name.{IsName};
 ghost use Rattle.dns_write.specs.Written.{empty, size, put, put_name, put_pointer};
+ghost use Rattle.dns_write.specs.Tails.{Fills, IsInside, leads_to, patched};
+ghost use Rattle.std.specs.List.{AllByRecursion};
+ghost use Rattle.std.specs.Prelude.{IsTrue, IsFalse};
 
+use crate::layout::Spot;
 use crate::offsets::Offsets;
 use dns_data::limit::{HEADER_BYTES, POINTER_END};
 use dns_data::{Buffer, Name, NoMemory};
@@ -74,6 +78,14 @@ impl<'a> Writer<'a> {
         self.end
     }
 
+    /// How many offsets of suffixes are kept.
+    #[inline]
+    pub fn offset_count(&self) -> usize
+        ensures { result ≡ length self.now.offsets }
+    {
+        self.offsets.len()
+    }
+
     pub fn mark(&self) -> Mark
         ensures bytes { result.bytes ≡ size self.now }
         ensures offsets { result.offsets ≡ length self.now.offsets }
@@ -138,6 +150,26 @@ impl<'a> Writer<'a> {
         Ok(())
     }
 
+    /// Puts the text of a tail, with its pointers filled in, where there is room for it, and says
+    /// whether it did. The anchor begins at this offset. No offset of the text is kept.
+    #[inline]
+    pub fn put_filled(&mut self, text: &[u8], spots: &[Spot], anchor: usize) -> bool
+        requires spots { AllByRecursion (IsInside (length text.now)) spots.now }
+        requires anchor { anchor ≤ size self.old }
+        requires near { size self.old + length text.now + 256 ≤ POINTER_END }
+        ensures filled { IsTrue result → Fills text.now spots.now anchor self.old self.new }
+        ensures none { IsFalse result → self.new ≡ self.old }
+    {
+        let tail = self.end;
+        if self.out.len() - tail < text.len() {
+            return false;
+        }
+        overwrite(&mut self.out, tail, text);
+        fill_spots(&mut self.out, spots, tail, anchor, text.len());
+        self.end = tail + text.len();
+        true
+    }
+
     /// Puts the length of what stands from an offset on into the two bytes before that offset.
     pub fn fill_length(&mut self, at: usize)
         requires behind { 14 ≤ at }
@@ -184,15 +216,15 @@ impl<'a> Writer<'a> {
         self.put_suffixes(name)
     }
 
-    /// Writes the first name behind the header as `put_name` does: no suffix of it can stand there.
-    pub fn put_first_name(&mut self, name: &'a Name) -> Result<(), NoMemory>
+    /// Puts the labels of the first name behind the header. With a zero byte behind them they are
+    /// what `put_name` puts there, where no suffix of the name can stand before.
+    pub fn put_first_labels(&mut self, name: &'a Name) -> Result<(), NoMemory>
         requires { self.old ≡ empty }
-        ensures text { OnOk result (self.new ≡ put_name self.old name.now) }
+        ensures text { OnOk result (put self.new (0 ∷ []) ≡ put_name self.old name.now) }
         ensures proper { IsName name.now }
     {
         self.offsets.set_first(name);
-        self.put_labels(name.as_wire())?;
-        self.put_few([0])
+        self.put_labels(name.as_wire())
     }
 
     // Writes a name label by label, up to a pointer or the zero byte. Stays a call, so that a name
@@ -219,12 +251,45 @@ impl<'a> Writer<'a> {
     }
 }
 
-// Puts bytes in place of those that stand from an offset on.
+/// Puts bytes in place of those that stand from an offset on.
 #[inline(always)]
-fn overwrite(out: &mut Vec<u8>, at: usize, bytes: &[u8])
+pub fn overwrite(out: &mut Vec<u8>, at: usize, bytes: &[u8])
     requires { at + length bytes.now ≤ vec_len out.old }
     ensures { out.new.items ≡ take at out.old.items
         ++ (bytes.now ++ drop (at + length bytes.now) out.old.items) }
 {
     out[at..at + bytes.len()].copy_from_slice(bytes);
+}
+
+// Fills in the pointers of a tail that begins here, of so many bytes.
+#[inline]
+fn fill_spots(out: &mut Vec<u8>, spots: &[Spot], tail: usize, anchor: usize, size: usize)
+    requires spots { AllByRecursion (IsInside size) spots.now }
+    requires anchor { anchor ≤ tail }
+    requires near { tail + size + 256 ≤ POINTER_END }
+    requires inside { tail + size ≤ vec_len out.old }
+    ensures { out.new.items ≡ patched anchor tail spots.now out.old.items }
+{
+    for spot in spots {
+        let at = target_of(spot, tail, anchor);
+        overwrite(
+            out,
+            tail + spot.at,
+            &[192 + (at / 256) as u8, (at % 256) as u8],
+        );
+    }
+}
+
+// Where a spot leads.
+#[inline]
+fn target_of(spot: &Spot, tail: usize, anchor: usize) -> usize
+    requires anchor { anchor ≤ tail }
+    requires near { tail + spot.now.behind < POINTER_END }
+    ensures value { result ≡ leads_to anchor tail spot.now }
+    ensures small { result < POINTER_END }
+{
+    if spot.in_anchor {
+        return anchor + spot.behind;
+    }
+    tail + spot.behind
 }

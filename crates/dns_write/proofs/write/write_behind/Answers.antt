@@ -1,7 +1,9 @@
-use Rattle.std.proofs.Common.{◌≡◌, ◌≤◌, ◌++◌, ap, ◌∙◌, arith}
+use Rattle.std.proofs.Common.{◌≡◌, ◌≤◌, ◌++◌, List, ℕ, ap, subst, sym, ◌∙◌, arith}
 use Rattle.dns_write.specs.Written.{Draft, empty, size, put_question, header, truncated, opt_bytes, IsLongest}
 use Rattle.dns_write.specs.Assembled.{message_of}
 use Rattle.dns_write.specs.Putting.{total}
+use Rattle.dns_write.specs.Tails.{Knows}
+use Rattle.dns_write.proofs.Lending.{question_known}
 use Rattle.dns_write.proofs.RespeltMessage.{Fits, fits_truncated, longest_spelt, whole_spelt}
 use Rattle.dns_write.proofs.Compressing.{all_compressed}
 use Rattle.dns_write.proofs.Truncating.{is_longest, is_written, few, question_most}
@@ -13,23 +15,31 @@ put_sections-requires-clause-fits c =
     let text : c.put_question.new.writer ≡ put_question empty q = c.in_ok-put_question.ensures.text ∙ ap (λ (d : Draft). put_question d q) c.over-writer.ensures in
     omega (arith, ap (λ (d : Draft). size d) text, question_most empty q c.in_ok-put_question.ensures.fits.name, c.requires.limit.0, c.room_for_records-room_for_records.ensures.most)
 
+pub put_sections-requires-clause-known : goal.put_sections-requires-clause-known
+put_sections-requires-clause-known c =
+    let q = (message_of c.args.parts.now).question in
+    let text : c.put_question.new.writer ≡ put_question empty q = c.in_ok-put_question.ensures.text ∙ ap (λ (d : Draft). put_question d q) c.over-writer.ensures in
+    subst (Knows q.name) (sym text) (question_known q c.in_ok-put_question.ensures.fits.name)
+
 pub header_bytes-requires-clause-few : goal.header_bytes-requires-clause-few
 header_bytes-requires-clause-few c =
     let small : c.room_for_records-room_for_records.result ≤ 65535 = omega (arith, c.requires.limit.1, c.room_for_records-room_for_records.ensures.sum) in
-    omega (arith, few c.in_ok-kept.ensures small)
+    omega (arith, few c.in_ok-kept.ensures.kept small)
 
 unfoldable longest : (c : goal.After-into_message) → IsLongest (message_of c.args.parts.now) c.args.limit c.into_message.result
 longest c =
     let m = message_of c.args.parts.now in
     let text : c.put_question.new.writer ≡ put_question empty m.question = c.in_ok-put_question.ensures.text ∙ ap (λ (d : Draft). put_question d m.question) c.over-writer.ensures in
-    let whole : c.into_message.result ≡ header (truncated m (total c.in_ok-kept.kept)) ++ (c.put_sections.new.writer.bytes ++ opt_bytes m.opt) =
-    c.into_message.ensures ∙ (λ i. c.header_bytes.ensures.text i ++ (c.in_ok-put_opt.ensures.text i).bytes) in
-    is_longest {k = c.in_ok-kept.kept} c.into_message.result c.in_ok-kept.ensures text c.room_for_records-room_for_records.ensures.sum whole
+    let kept = c.in_ok-kept.ensures in
+    let whole : c.into_message.result ≡ header (truncated m (total c.in_ok-kept.kept)) ++ (kept.end.bytes ++ opt_bytes m.opt) =
+    c.into_message.ensures ∙ (λ i. c.header_bytes.ensures.text i ++ (c.in_ok-put_opt.ensures.text i).bytes)
+    ∙ ap (λ (t : List ℕ). header (truncated m (total c.in_ok-kept.kept)) ++ (t ++ opt_bytes m.opt)) kept.bytes in
+    is_longest {k = c.in_ok-kept.kept} c.into_message.result kept.kept text c.room_for_records-room_for_records.ensures.sum whole
 
 fits : (c : goal.After-into_message) → Fits (truncated (message_of c.args.parts.now) (total c.in_ok-kept.kept))
 fits c =
     let small : c.room_for_records-room_for_records.result ≤ 65535 = omega (arith, c.requires.limit.1, c.room_for_records-room_for_records.ensures.sum) in
-    fits_truncated (message_of c.args.parts.now) (total c.in_ok-kept.kept) c.header_bytes.ensures.fits c.requires.codes c.in_ok-put_question.ensures.fits c.in_ok-put_opt.ensures.fits c.in_ok-kept.ensures.all.proper (omega (arith, few c.in_ok-kept.ensures small))
+    fits_truncated (message_of c.args.parts.now) (total c.in_ok-kept.kept) c.header_bytes.ensures.fits c.requires.codes c.in_ok-put_question.ensures.fits c.in_ok-put_opt.ensures.fits c.in_ok-kept.ensures.kept.all.proper (omega (arith, few c.in_ok-kept.ensures.kept small))
 
 pub returns : goal.returns
 unfolding longest is_longest

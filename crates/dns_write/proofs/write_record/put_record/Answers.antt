@@ -4,7 +4,6 @@ use Rattle.std.proofs.lemmas.Result.{on_ok_weaker}
 use Rattle.dns_data.specs.declared.record.Rdata.TheVariants as rdata
 use Rattle.dns_data.specs.declared.kind.TheConstants as kinds
 use Rattle.dns_names.specs.Name.{spelled}
-use Rattle.dns_names.specs.NameLaws.{length-spelled}
 use Rattle.dns_write.proofs.Swaps.{head_by, a_record, aaaa_record, srv_record}
 use Rattle.dns_write.specs.Written.{Draft, put, put_u16, put_u32, put_name, put_data, put_record, with_length}
 use Rattle.dns_write.proofs.Drafts.{Grown, grown-data, filled, data_size, record_by_parts}

@@ -3,7 +3,6 @@ use Rattle.std.proofs.lemmas.Result.{on_ok_weaker}
 use Rattle.std.specs.Prelude.{slice_index}
 use Rattle.std.specs.Int.{w16, to_be_bytes}
 use Rattle.dns_data.specs.declared.kind.TheConstants as kinds
-use Rattle.dns_data.specs.declared.record.Rdata.TheVariants as rdata
 use Rattle.dns_names.specs.Name.{spelled}
 use Rattle.dns_names.specs.NameLaws.{length-spelled}
 use Rattle.dns_write.specs.Written.{Draft, put, put_u16, put_u32, put_data}

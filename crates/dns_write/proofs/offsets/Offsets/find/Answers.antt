@@ -1,4 +1,4 @@
-use Rattle.std.proofs.Common.{◌≡◌, ◌++◌, List, Some, None, take, map, refl, sym, ap, ◌∙◌}
+use Rattle.std.proofs.Common.{◌≡◌, ◌++◌, List, None, take, map, refl, sym, ap, ◌∙◌}
 use Rattle.dns_names.specs.Name.{labels_of}
 use Rattle.dns_write.specs.Written.{OffsetData, earliest}
 use Rattle.dns_write.specs.Offsets.{offset_of, suffixes_at}

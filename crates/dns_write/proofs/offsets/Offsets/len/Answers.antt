@@ -1,4 +1,4 @@
-use Rattle.std.proofs.Common.{◌≡◌, ◌+◌, ◌++◌, length, take, map, ap, arith, length-append}
+use Rattle.std.proofs.Common.{◌≡◌, ◌++◌, length, take, map, ap, arith, length-append}
 use Rattle.std.proofs.lemmas.List.{length-take-le, length-map}
 use Rattle.dns_names.specs.Name.{labels_of}
 use Rattle.dns_write.specs.Offsets.{offset_of, suffixes_at}

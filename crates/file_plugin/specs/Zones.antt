@@ -7,6 +7,7 @@ use Rattle.dns_data.specs.Message.{AnswerData, no_answer}
 use Rattle.dns_data.specs.declared.directive.Directive.{Directive}
 use Rattle.dns_data.specs.declared.query.Query.{Query}
 use Rattle.dns_data.specs.declared.zone.Zone.{Zone}
+use Rattle.dns_write.specs.{with_tail}
 use Rattle.zone_file.specs.declared.fault.ZoneFault.{ZoneFault}
 use Rattle.zone_file.specs.Zones.{and_then, as_zone, zone_of}
 use Rattle.zone_lookup.specs.{zone_answer}
@@ -81,7 +82,8 @@ answer_from q (Some zone) = Some (zone_answer zone q.name q.kind)
 unfoldable pub file_say : List FileData → Query → Option AnswerData
 file_say plans q = answer_from q (longest_of q.name None plans)
 
--- what was said, with the answer in a slot
+-- what was said, with the answer in a slot, or the answer but for the records that are lent to it
 abbrev pub Says : FileSay → Option AnswerData → AnswerData → Type 0
 Says say.Reply said slot = said ≡ Some slot
+Says (say.Lent tail) said slot = said ≡ Some (with_tail slot tail.now)
 Says say.Next said slot = (said ≡ None) × (slot ≡ no_answer)

@@ -7,39 +7,44 @@ ghost use Rattle.file_plugin.specs.Zones.{file_zones, longest_of};
 
 use crate::plan::FilePlan;
 use dns_data::{Name, NoMemory, Query, Slot};
+use dns_write::Tail;
 use std::alloc::Global;
-use zone_lookup::{ZoneStore, lookup};
+use zone_lookup::{ZoneStore, answer};
 use zone_tree::TreeZone;
 use zone_words::covers;
 
-/// What `file` says of a query: it is answered, or it goes on.
-#[derive(Clone, Copy, Debug, PartialEq, Eq)]
-pub enum FileSay {
+/// What `file` says of a query: it is answered by what stands in the slot, or by that with the
+/// records of a tail in place of its authority and additional; or it goes on.
+#[derive(Clone, Copy, Debug)]
+pub enum FileSay<'a> {
     Reply,
+    Lent(&'a Tail),
     Next,
 }
 
-/// What the plans of a block say of a query: the zone with the longest origin that has the name fills
-/// the slot with its answer. Where none has, the query goes on.
+/// What the plans of a block say of a query: the zone with the longest origin that has the name
+/// fills the slot with its answer, and may lend the two sections behind it instead. Where none has,
+/// the query goes on.
 #[tactic(auto, unfolding(crate::specs::Zones::file_say))]
-pub fn decide(
+pub fn decide<'a>(
     alloc: Global,
-    plans: &[FilePlan],
+    plans: &'a [FilePlan],
     query: &Query,
     slot: &mut Slot,
-) -> Result<FileSay, NoMemory>
+) -> Result<FileSay<'a>, NoMemory>
     requires clear { slot.old ≡ no_answer }
     ensures { IfOk result (λ say. Says say (file_say plans.now query.now) slot.new) }
 {
     let Some(zone) = zone_for(plans, &query.name) else {
         return Ok(FileSay::Next);
     };
-    lookup(alloc, zone, &query.name, query.kind, slot)?;
-    Ok(FileSay::Reply)
+    match answer(alloc, zone, &query.name, query.kind, slot)? {
+        Some(tail) => Ok(FileSay::Lent(tail)),
+        None => Ok(FileSay::Reply),
+    }
 }
 
 /// The zone with the longest origin that has the name, over all zones of these plans.
-
 pub fn zone_for<'a>(plans: &'a [FilePlan], name: &Name) -> Option<&'a TreeZone>
     ensures value { option_map (λ zone. zone.now) result ≡ longest_of name.now None plans.now }
     ensures picks { Picks name.now (flat_map file_zones plans.now)

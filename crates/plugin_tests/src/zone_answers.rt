@@ -8,7 +8,7 @@ use std::alloc::Global;
 use std::test::Fail;
 use zone_file::ZoneWhy;
 
-const PARENT: &[u8] = b"@ SOA ns admin 1 2 3 4 5\n@ NS ns\nwww A 192.0.2.1\n";
+const PARENT: &[u8] = b"@ SOA ns admin 1 2 3 4 5\n@ NS ns\nns A 192.0.2.2\nwww A 192.0.2.1\n";
 
 const CHILD: &[u8] = b"@ SOA ns admin 1 2 3 4 5\n@ NS ns\n";
 
@@ -21,12 +21,14 @@ fn the_longest_origin_answers(rt: HostRuntime) -> Result<(), Fail> {
         .ok()
         .ok_or("b.org")?;
     let plans = [parent, child];
-    for (name, code, count) in [
-        ("www.org", Some(rcode::NOERROR), 1),
-        ("WWW.b.org", Some(rcode::NXDOMAIN), 0),
-        ("www.net", None, 0),
+    for (name, code, answer, authority, additional) in [
+        ("www.org", Some(rcode::NOERROR), 1, 1, 1),
+        ("ns.org", Some(rcode::NOERROR), 1, 1, 0),
+        ("WWW.b.org", Some(rcode::NXDOMAIN), 0, 1, 0),
+        ("www.net", None, 0, 0, 0),
     ] {
-        assert_eq!(rt; said(rt.alloc(), &plans, name)?, (code, count), "{name}");
+        let sections = (code, answer, authority, additional);
+        assert_eq!(rt; said(rt.alloc(), &plans, name)?, sections, "{name}");
     }
     Ok(())
 }
@@ -84,12 +86,18 @@ fn read(
     Ok(FilePlan::read(alloc, &directive, &root_zone(alloc)?, before, file))
 }
 
-// The RCODE of what plans say of a query for type A, and how many records answer it.
-fn said(alloc: Global, plans: &[FilePlan], name: &str) -> Result<(Option<u8>, usize), NameFault> {
+// The RCODE of what plans say of a query for type A, and how many records each section has.
+fn said(
+    alloc: Global,
+    plans: &[FilePlan],
+    name: &str,
+) -> Result<(Option<u8>, usize, usize, usize), NameFault> {
     let mut slot = Slot::new(alloc);
     let query = asked(alloc, name, kind::A)?;
-    match decide(alloc, plans, &query, &mut slot)? {
-        FileSay::Reply => Ok((Some(slot.rcode), slot.answer.len())),
-        FileSay::Next => Ok((None, 0)),
-    }
+    let (authority, additional) = match decide(alloc, plans, &query, &mut slot)? {
+        FileSay::Reply => (slot.authority.len(), slot.additional.len()),
+        FileSay::Lent(tail) => (tail.authority().len(), tail.additional().len()),
+        FileSay::Next => return Ok((None, 0, 0, 0)),
+    };
+    Ok((Some(slot.rcode), slot.answer.len(), authority, additional))
 }

@@ -2,3 +2,4 @@ pub mod Suffixes
 pub mod Finding
 pub mod Chaining
 pub mod PlainList
+pub mod Lending

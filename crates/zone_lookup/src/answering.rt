@@ -1,7 +1,9 @@
 ghost use Rattle.std.specs.Prelude.{◌≡◌, ◌<◌, ◌++◌, ◌&&◌, ◌==◌, [], false, OnOk, IfOk};
+ghost use Rattle.std.specs.Prelude.{IfSome, option_map};
 ghost use Rattle.dns_data.specs.Message.{no_answer};
 ghost use Rattle.dns_data.specs.declared.kind.TheConstants as kinds;
 ghost use Rattle.dns_data.specs.declared.rcode.TheConstants as rcodes;
+ghost use Rattle.zone_lookup.specs.Ready.{ended_by, StandsBehind};
 ghost use Rattle.zone_lookup.specs.Zone.{is_same};
 ghost use Rattle.zone_lookup.specs.ZoneAnswer.{chain, is_followed, authority, rcode_of};
 ghost use Rattle.zone_lookup.specs.ZoneAnswer.{own_answer, zone_answer, whole_chain, found};
@@ -10,7 +12,8 @@ ghost use Rattle.zone_lookup.specs.ZoneAnswer.{Ends, Finds, with_answer, with_au
 use crate::ZoneStore;
 use crate::find::{Find, Step};
 use crate::names::{is_under, same};
-use dns_data::{Name, NoMemory, RecordRoom, Slot, kind, rcode};
+use dns_data::{Name, NoMemory, Record, RecordRoom, Slot, kind, rcode};
+use dns_write::Tail;
 use std::alloc::Global;
 
 /// CNAME records that are followed at most, the first one among them.
@@ -35,24 +38,44 @@ pub fn lookup<Z: ZoneStore>(
     requires clear { slot.old ≡ no_answer }
     ensures { OnOk result (slot.new ≡ zone_answer (Z.zone zone.now) name.now kind) }
 {
+    match answer(alloc, zone, name, kind, slot)? {
+        Some(tail) => tail.copy_into(alloc, slot),
+        None => Ok(()),
+    }
+}
+
+/// The same, but sections behind the answer that stand ready in the zone may be given instead: then
+/// the slot with these in place of its own is the answer.
+pub fn answer<'a, Z: ZoneStore>(
+    alloc: Global,
+    zone: &'a Z,
+    name: &Name,
+    kind: u16,
+    slot: &mut Slot,
+) -> Result<Option<&'a Tail>, NoMemory>
+    requires clear { slot.old ≡ no_answer }
+    ensures { IfOk result (λ tail. ended_by slot.new (option_map (λ t. t.now) tail)
+        ≡ zone_answer (Z.zone zone.now) name.now kind) }
+{
     match zone.refer_or_find(alloc, name, kind, slot)? {
-        Step::Cut => Ok(()),
+        Step::Cut => Ok(None),
         Step::Found(find) => positive(alloc, zone, name, kind, find, slot),
     }
 }
 
 // The answer from what the name itself gave, which stands in the slot.
-fn positive<Z: ZoneStore>(
+fn positive<'a, Z: ZoneStore>(
     alloc: Global,
-    zone: &Z,
+    zone: &'a Z,
     name: &Name,
     kind: u16,
     find: Find,
     slot: &mut Slot,
-) -> Result<(), NoMemory>
+) -> Result<Option<&'a Tail>, NoMemory>
     requires clear { slot.old ≡ with_answer slot.old.answer }
     requires finds { Finds (found (Z.zone zone.now) name.now kind) find [] slot.old.answer }
-    ensures { OnOk result (slot.new ≡ own_answer (Z.zone zone.now) name.now kind) }
+    ensures { IfOk result (λ tail. ended_by slot.new (option_map (λ t. t.now) tail)
+        ≡ own_answer (Z.zone zone.now) name.now kind) }
 {
     let end = follow(alloc, zone, kind, name, find, &mut slot.answer)?;
     slot.aa = true;
@@ -63,7 +86,52 @@ fn positive<Z: ZoneStore>(
         slot.answer.as_slice(),
         &mut slot.additional,
     )?;
-    push_authority(alloc, zone, name, kind, end.denied, slot)
+    end_with(alloc, zone, name, kind, end.denied, slot)
+}
+
+// The authority section and the addresses of the hosts that it names: lent, where they stand ready
+// and no addresses are there, and else added.
+fn end_with<'a, Z: ZoneStore>(
+    alloc: Global,
+    zone: &'a Z,
+    name: &Name,
+    kind: u16,
+    denied: bool,
+    slot: &mut Slot,
+) -> Result<Option<&'a Tail>, NoMemory>
+    requires { slot.old.authority ≡ [] }
+    ensures { IfOk result (λ tail. ended_by slot.new (option_map (λ t. t.now) tail)
+        ≡ with_authority (Z.zone zone.now) slot.old
+        (authority (Z.zone zone.now) name.now kind denied)) }
+{
+    if slot.additional.len() == 0 {
+        let answer = slot.answer.as_slice();
+        if let Some(tail) = ready(zone, name, kind, denied, answer) {
+            return Ok(Some(tail));
+        }
+    }
+    push_authority(alloc, zone, name, kind, denied, slot)?;
+    Ok(None)
+}
+
+// What stands ready for the sections behind an answer.
+fn ready<'a, Z: ZoneStore>(
+    zone: &'a Z,
+    name: &Name,
+    kind: u16,
+    denied: bool,
+    answer: &[Record],
+) -> Option<&'a Tail>
+    ensures { IfSome result (λ tail. StandsBehind (Z.zone zone.now) answer.now
+        (authority (Z.zone zone.now) name.now kind denied) tail.now) }
+{
+    if denied {
+        return zone.ready_denial();
+    }
+    if is_question(zone.origin(), name, kind) {
+        return None;
+    }
+    zone.ready_servers(answer)
 }
 
 fn rcode_of(absent: bool) -> u8

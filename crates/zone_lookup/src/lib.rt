@@ -8,7 +8,7 @@ mod names;
 mod plain;
 mod store;
 
-pub use answering::lookup;
+pub use answering::{answer, lookup};
 pub use find::{Find, Step, is_aliased_kind, nothing, push_one_denying, push_owned, target_from};
 pub use hosts::host_of;
 pub use names::{is_of, is_star, same, type_of};

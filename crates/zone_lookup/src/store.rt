@@ -1,8 +1,9 @@
-ghost use Rattle.std.specs.Prelude.{◌≡◌, ◌++◌, map, OnOk, OnErr, IfOk};
+ghost use Rattle.std.specs.Prelude.{◌≡◌, ◌++◌, map, OnOk, OnErr, IfOk, IfSome};
 ghost use Rattle.std.specs.Option.{option_map};
 ghost use Rattle.dns_data.specs.Message.{no_answer};
 ghost use Rattle.dns_data.specs.declared.kind.TheConstants as kinds;
 ghost use Rattle.dns_data.specs.declared.zone.Zone.{Zone};
+ghost use Rattle.zone_lookup.specs.Ready.{IsDenial, IsReady};
 ghost use Rattle.zone_lookup.specs.Zone.{exists_in, has_at, set_at, cut_of, encloser, Begins};
 ghost use Rattle.zone_lookup.specs.ZoneAnswer.{found, found_at, is_alias, denying, sought};
 ghost use Rattle.zone_lookup.specs.ZoneAnswer.{with_addresses, with_hosts, with_set};
@@ -14,6 +15,7 @@ use crate::find::{
 use crate::hosts::{either, host_of, stands_in};
 use crate::names::is_star;
 use dns_data::{Copies, Name, NoMemory, Record, RecordRoom, Slot, kind};
+use dns_write::Tail;
 use std::alloc::Global;
 use std::mem;
 
@@ -254,6 +256,22 @@ pub trait ZoneStore {
         let start = authority.len();
         self.copy_top(alloc, kind::NS, authority)?;
         self.push_hosts(alloc, answer, &authority.as_slice()[start..], additional)
+    }
+
+    /// The origin's NS and the addresses of its hosts, where these stand ready and none of them is
+    /// in the answer section.
+    fn ready_servers(&self, answer: &[Record]) -> Option<&Tail>
+        ensures { IfSome result (λ tail. IsReady (zone self.now) answer.now tail.now) }
+    {
+        let _ = answer;
+        None
+    }
+
+    /// The SOA of a denial, where it stands ready.
+    fn ready_denial(&self) -> Option<&Tail>
+        ensures { IfSome result (λ tail. IsDenial (zone self.now) tail.now) }
+    {
+        None
     }
 
     /// Fills a slot with the referral of the cut at or above a name, or else its answer section

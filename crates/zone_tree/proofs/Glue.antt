@@ -1,5 +1,5 @@
 -- The addresses of hosts behind an answer and others, from those behind nothing.
-use Rattle.std.proofs.Common.{◌≡◌, ℕ, ◌+◌, ◌-◌, ◌<◌, Bool, true, false, cond, List, [], ◌∷◌, ◌++◌, length, take, drop, get_or, Option, Some, None, refl, sym, ap, subst, ◌∙◌, arith, inl, inr, append_assoc, length-append, eqb-true}
+use Rattle.std.proofs.Common.{◌≡◌, ℕ, ◌+◌, ◌-◌, ◌<◌, Bool, true, false, cond, List, [], ◌∷◌, ◌++◌, length, take, drop, get_or, Option, Some, None, refl, sym, ap, subst, ◌∙◌, arith, inl, inr, map, append_assoc, length-append, eqb-true}
 use Rattle.std.specs.Prelude.{◌⊎◌, ◌&&◌, ◌||◌, ◌==◌, IfSome, slice_get}
 use Rattle.std.specs.List.{filter, list_any}
 use Rattle.std.proofs.lemmas.Bool.{cond-true, cond-false}
@@ -12,7 +12,9 @@ use Rattle.dns_data.specs.declared.zone.Zone.{Zone}
 use Rattle.std.proofs.lemmas.Option.{slice_get-get_or}
 use Rattle.name_table.specs.Table.{IsMissing, IsNamed}
 use Rattle.zone_lookup.specs.Zone.{is_of, is_same, set_at, Begins}
-use Rattle.zone_lookup.specs.ZoneAnswer.{host_of, referral, sought, Refers, with_addresses, with_hosts, with_set}
+use Rattle.dns_write.specs.Tails.{TailData}
+use Rattle.zone_lookup.specs.Ready.{IsDenial, IsReady}
+use Rattle.zone_lookup.specs.ZoneAnswer.{denying, host_of, referral, sought, Refers, with_addresses, with_hosts, with_set}
 use Rattle.zone_lookup.proofs.PlainList.{set_of}
 use Rattle.zone_lookup.proofs.Chaining.{referral_is, with_sections}
 use Rattle.zone_lookup.specs.declared.find.Step.{Step}
@@ -284,3 +286,27 @@ pub rest_is : (old set all : List RecordData) (start : ℕ) → start ≡ length
 rest_is old set all start e f =
     (λ j. take (length (f j) - e j) (drop (e j) (f j))) ∙ ap (take (length (old ++ set) - length old)) (drop_at old set (length old) refl)
     ∙ take_all (length (old ++ set) - length old) set (omega (arith, length-append old set))
+
+-- servers and the addresses of their hosts that stand ready
+pub ready_from : (zone : Zone) (servers hosts : List RecordData) (tail : TailData) → servers ≡ set_at zone zone.origin 2 → hosts ≡ with_hosts zone [] [] (set_at zone zone.origin 2)
+    → tail ≡ record { authority = servers; additional = hosts } → IsReady zone [] tail
+ready_from zone servers hosts tail s h e = record {
+  authority = ap (λ (t : TailData). t.authority) e ∙ s;
+  additional = ap (λ (t : TailData). t.additional) e ∙ h;
+}
+
+-- the same behind an answer that has none of the addresses
+pub ready_apart : (zone : Zone) (answer : List RecordData) (tail : TailData) → IsReady zone [] tail → meet answer tail.additional ≡ false → IsReady zone answer tail
+ready_apart zone answer tail r m =
+    let rs : List RecordData = set_at zone zone.origin 2 in
+    record {
+      authority = r.authority;
+      additional = r.additional ∙ sym (glue_apart zone answer [] rs (sym (ap (meet answer) r.additional) ∙ m) (sym (meet_none [] (with_hosts zone [] [] rs) refl)));
+    }
+
+-- the SOA of a denial that stands ready
+pub denial_from : (zone : Zone) (soa rest : List RecordData) (tail : TailData) → soa ≡ map denying (set_at zone zone.origin 6) → rest ≡ [] → tail ≡ record { authority = soa; additional = rest } → IsDenial zone tail
+denial_from zone soa rest tail s r e = record {
+  authority = ap (λ (t : TailData). t.authority) e ∙ s;
+  additional = ap (λ (t : TailData). t.additional) e ∙ r;
+}

@@ -238,9 +238,9 @@ fn meet_some(records: &[Record], set: &[usize], others: &[Record]) -> bool
     false
 }
 
-// Whether one has the name and the type of a record.
+/// Whether one has the name and the type of a record.
 #[inline]
-fn has_like(others: &[Record], entry: &Record) -> bool
+pub fn has_like(others: &[Record], entry: &Record) -> bool
     ensures { result ≡ list_any (is_of entry.now.owner (kind_of entry.now.rdata)) others.now }
 {
     for other in others {

@@ -6,6 +6,7 @@ mod cuts;
 mod find;
 mod hosts;
 mod node;
+mod ready;
 mod sets;
 mod shape;
 mod store;

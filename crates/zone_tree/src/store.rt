@@ -1,7 +1,9 @@
 use crate::hosts::{copy_apart, copy_numbers};
+use crate::ready::meets;
 use crate::sets::{copy_asked, copy_denying, copy_kind, has_asked};
 use crate::tree::TreeZone;
 use dns_data::{Name, NoMemory, Record, RecordRoom, Slot, kind};
+use dns_write::Tail;
 use std::alloc::Global;
 use zone_lookup::{Find, Step, ZoneStore, nothing};
 
@@ -122,6 +124,23 @@ impl ZoneStore for TreeZone {
             return Ok(());
         }
         self.push_hosts(alloc, answer, &authority.as_slice()[start..], additional)
+    }
+
+    fn ready_servers(&self, answer: &[Record]) -> Option<&Tail> {
+        let Some(tail) = &self.servers else {
+            return None;
+        };
+        if meets(tail.additional(), answer) {
+            return None;
+        }
+        Some(tail)
+    }
+
+    fn ready_denial(&self) -> Option<&Tail> {
+        let Some(tail) = &self.denial else {
+            return None;
+        };
+        Some(tail)
     }
 
     fn refer_or_find(

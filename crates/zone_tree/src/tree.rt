@@ -4,9 +4,11 @@ ghost use Rattle.zone_tree.specs.Tree.{IsNumbered, IsTree};
 use crate::cuts::cuts_of;
 use crate::hosts::hosts_of;
 use crate::node::{Node, Numbers};
+use crate::ready::{denial_of, servers_of};
 use crate::sets::sets_of;
 use crate::shape::add_owners;
 use dns_data::{Name, NoMemory, Zone};
+use dns_write::Tail;
 use name_table::NameTable;
 use std::alloc::Global;
 use std::marker::Model;
@@ -29,21 +31,26 @@ pub struct Tree {
     pub hosts: Vec<Option<Numbers>>,
 }
 
-/// A zone as a tree of its names. Contracts see the zone.
+/// A zone as a tree of its names, and the sections that many of its answers end in. Contracts see
+/// the zone.
 #[derive(Debug, Drop)]
 pub struct TreeZone {
     pub(crate) tree: Tree,
+    /// The origin's NS and the addresses of its hosts, where these are known.
+    pub(crate) servers: Option<Tail>,
+    /// The SOA of a denial, where there is one.
+    pub(crate) denial: Option<Tail>,
 }
 
 impl Model for TreeZone {
     ghost use Rattle.dns_data.specs.declared.zone.Zone.{Zone};
-    ghost use Rattle.zone_tree.specs.Tree.{IsTree};
+    ghost use Rattle.zone_tree.specs.Ready.{AreReady};
 
     ghost Value = { Zone };
 
     ghost view = { λ t. t.tree.zone };
 
-    ghost invariant = { λ t. IsTree t.tree };
+    ghost invariant = { λ t. AreReady t.tree t.servers t.denial };
 }
 
 impl TreeZone {
@@ -51,8 +58,13 @@ impl TreeZone {
     pub fn new(alloc: Global, zone: Zone) -> Result<TreeZone, NoMemory>
         ensures { IfOk result (λ made. made ≡ zone) }
     {
+        let tree = Tree::new(alloc, zone)?;
+        let servers = servers_of(alloc, &tree)?;
+        let denial = denial_of(alloc, &tree)?;
         Ok(TreeZone {
-            tree: Tree::new(alloc, zone)?,
+            tree,
+            servers,
+            denial,
         })
     }
 }

@@ -14,17 +14,17 @@ returns-in_default c =
     let tree = c.self.inside.tree in
     subst (λ zone. Refers zone (sought zone c.args.name.now c.args.kind) (step.Found c.nothing.result) c.args.slot.now) c.self.view_is
     (refers_found tree.zone c.args.name.now c.args.kind c.nothing.result [] c.args.slot.now
-    (steps_nothing tree.table tree.zone c.args.name.now c.args.kind c.nothing.result [] c.self.invariant.names c.in_default.ensures.none c.nothing.ensures.absent c.nothing.ensures.target) c.requires.clear)
+    (steps_nothing tree.table tree.zone c.args.name.now c.args.kind c.nothing.result [] c.self.invariant.tree_is.names c.in_default.ensures.none c.nothing.ensures.absent c.nothing.ensures.target) c.requires.clear)
 
 pub index-requires : goal.index-requires
-index-requires c = let lt = longest_inside c.self.inside.tree.table c.args.name.now c.in-Some.encloser c.in-Some.ensures.found in omega (arith, lt, c.self.invariant.cuts.as_many)
+index-requires c = let lt = longest_inside c.self.inside.tree.table c.args.name.now c.in-Some.encloser c.in-Some.ensures.found in omega (arith, lt, c.self.invariant.tree_is.cuts.as_many)
 
 pub returns-in_default-index : goal.returns-in_default-index
 returns-in_default-index c =
     let tree = c.self.inside.tree in
     let clear = c.slot.view_is ∙ c.requires.clear in
     let none_yet = ap (λ a. a.answer) clear in
-    let at = cut_is_at tree c.args.name.now c.in-Some.encloser c.index.result.now c.self.invariant c.in-Some.ensures.found c.index.ensures in
+    let at = cut_is_at tree c.args.name.now c.in-Some.encloser c.index.result.now c.self.invariant.tree_is c.in-Some.ensures.found c.index.ensures in
     let none = no_cut_by tree.table (cut_of tree.zone c.args.name.now) c.index.result.now at c.in_default-index.is in
     let finds = rw none_yet at c.in_ok-find.ensures in
     refers_in tree.zone c.args.self.now c.args.name.now c.args.kind (step.Found c.in_ok-find.find) _ c.self.view_is
@@ -34,26 +34,26 @@ returns-in_default-index c =
 pub index-requires-2 : goal.index-requires-2
 index-requires-2 c =
     let tree = c.self.inside.tree in
-    let at = cut_is_at tree c.args.name.now c.in-Some.encloser c.index.result.now c.self.invariant c.in-Some.ensures.found c.index.ensures in
+    let at = cut_is_at tree c.args.name.now c.in-Some.encloser c.index.result.now c.self.invariant.tree_is c.in-Some.ensures.found c.index.ensures in
     let cut = cut_by tree.table (cut_of tree.zone c.args.name.now) c.index.result.now c.in-Some-index.cut at c.in-Some-index.is in
     let lt = inside tree.table c.in-Some-index.cut cut.name cut.named in
-    omega (arith, lt, c.self.invariant.sets.as_many)
+    omega (arith, lt, c.self.invariant.tree_is.sets.as_many)
 
 pub index-requires-3 : goal.index-requires-3
 index-requires-3 c =
     let tree = c.self.inside.tree in
-    let at = cut_is_at tree c.args.name.now c.in-Some.encloser c.index.result.now c.self.invariant c.in-Some.ensures.found c.index.ensures in
+    let at = cut_is_at tree c.args.name.now c.in-Some.encloser c.index.result.now c.self.invariant.tree_is c.in-Some.ensures.found c.index.ensures in
     let cut = cut_by tree.table (cut_of tree.zone c.args.name.now) c.index.result.now c.in-Some-index.cut at c.in-Some-index.is in
     let lt = inside tree.table c.in-Some-index.cut cut.name cut.named in
-    omega (arith, lt, c.self.invariant.hosts.as_many)
+    omega (arith, lt, c.self.invariant.tree_is.hosts.as_many)
 
 pub returns-in_default-index-2 : goal.returns-in_default-index-2
 returns-in_default-index-2 c =
     let tree = c.self.inside.tree in
     let clear = c.slot.view_is ∙ c.requires.clear in
-    let at = cut_is_at tree c.args.name.now c.in-Some.encloser c.index.result.now c.self.invariant c.in-Some.ensures.found c.index.ensures in
+    let at = cut_is_at tree c.args.name.now c.in-Some.encloser c.index.result.now c.self.invariant.tree_is c.in-Some.ensures.found c.index.ensures in
     let cut = cut_by tree.table (cut_of tree.zone c.args.name.now) c.index.result.now c.in-Some-index.cut at c.in-Some-index.is in
-    let servers = served tree cut.name c.in-Some-index.cut c.index-2.result.now _ _ c.slot.inside.authority c.copy_kind.new.out c.self.invariant cut.named c.index-2.ensures c.as_slice-records.ensures c.as_slice.ensures c.in_ok-copy_kind.ensures.ok in
+    let servers = served tree cut.name c.in-Some-index.cut c.index-2.result.now _ _ c.slot.inside.authority c.copy_kind.new.out c.self.invariant.tree_is cut.named c.index-2.ensures c.as_slice-records.ensures c.as_slice.ensures c.in_ok-copy_kind.ensures.ok in
     let add = c.in_ok-push_hosts.ensures ∙ (λ j. with_hosts (sym c.self.view_is j) [] c.slot.inside.additional (c.as_slice-servers.ensures j)) in
     refers_in tree.zone c.args.self.now c.args.name.now c.args.kind step.Cut _ c.self.view_is
     (refers_by_cut tree.zone c.args.name.now cut.name c.args.kind _ cut.is (referral_of tree.zone _ (set_at tree.zone cut.name 2) c.copy_kind.new.out c.push_hosts.new.out clear servers add))
@@ -62,10 +62,10 @@ pub returns : goal.returns
 returns c =
     let tree = c.self.inside.tree in
     let clear = c.slot.view_is ∙ c.requires.clear in
-    let at = cut_is_at tree c.args.name.now c.in-Some.encloser c.index.result.now c.self.invariant c.in-Some.ensures.found c.index.ensures in
+    let at = cut_is_at tree c.args.name.now c.in-Some.encloser c.index.result.now c.self.invariant.tree_is c.in-Some.ensures.found c.index.ensures in
     let cut = cut_by tree.table (cut_of tree.zone c.args.name.now) c.index.result.now c.in-Some-index.cut at c.in-Some-index.is in
-    let servers = served tree cut.name c.in-Some-index.cut c.index-2.result.now _ _ c.slot.inside.authority c.copy_kind.new.out c.self.invariant cut.named c.index-2.ensures c.as_slice-records.ensures c.as_slice.ensures c.in_ok-copy_kind.ensures.ok in
-    let known = hosts_known tree cut.name c.in-Some-index.cut c.index-3.result.now c.in-Some-index-2.hosts c.self.invariant cut.named c.index-3.ensures c.in-Some-index-2.is in
+    let servers = served tree cut.name c.in-Some-index.cut c.index-2.result.now _ _ c.slot.inside.authority c.copy_kind.new.out c.self.invariant.tree_is cut.named c.index-2.ensures c.as_slice-records.ensures c.as_slice.ensures c.in_ok-copy_kind.ensures.ok in
+    let known = hosts_known tree cut.name c.in-Some-index.cut c.index-3.result.now c.in-Some-index-2.hosts c.self.invariant.tree_is cut.named c.index-3.ensures c.in-Some-index-2.is in
     let add = c.in_ok-copy_numbers.ensures ∙ (λ j. c.slot.inside.additional ++ picked (c.as_slice-records.ensures j) (c.as_slice-2.ensures j)) in
     refers_in tree.zone c.args.self.now c.args.name.now c.args.kind step.Cut _ c.self.view_is
     (refers_by_cut tree.zone c.args.name.now cut.name c.args.kind _ cut.is

@@ -1,7 +1,7 @@
 use Rattle.std.proofs.Common.{◌∙◌}
-use Rattle.std.proofs.lemmas.Result.{on_ok_weaker}
+use Rattle.std.proofs.lemmas.Result.{IfOk-weaker}
 use Rattle.zone_lookup.proofs.Chaining.{begun, cut_answers}
-use Rattle.zone_lookup.proofs.answering.lookup.Goals as goal
+use Rattle.zone_lookup.proofs.answering.answer.Goals as goal
 
 pub returns-in-Cut : goal.returns-in-Cut
 returns-in-Cut g c = let r = rw c.in-Cut.is at c.in_ok-refer_or_find.ensures in cut_answers _ _ _ _ r
@@ -15,4 +15,4 @@ positive-requires-clause-finds g c = let r = rw c.in-Found.is at c.in_ok-refer_o
 pub returns-in-Found : goal.returns-in-Found
 returns-in-Found g c =
     let r = rw c.in-Found.is at c.in_ok-refer_or_find.ensures in
-    on_ok_weaker c.positive.result (λ e. e ∙ (begun _ _ _ _ _ r).own) c.positive.ensures
+    IfOk-weaker c.positive.result _ _ (λ tail e. e ∙ (begun _ _ _ _ _ r).own) c.positive.ensures

@@ -4,6 +4,7 @@ use Rattle.dns_lists.specs.declared.memory.NoMemory.{NoMemory}
 use Rattle.dns_data.specs.Message.{AnswerData}
 use Rattle.dns_data.specs.declared.directive.Directive.{Directive}
 use Rattle.dns_data.specs.declared.query.Query.{Query}
+use Rattle.dns_write.specs.Tails.{with_tail}
 use Rattle.outside.specs.Meanings.{Done}
 use Rattle.outside.specs.declared.mark.Mark.{Mark}
 use Rattle.chain_meaning.specs.declared.decision.Decision.{Decision}
@@ -14,9 +15,11 @@ use Rattle.chain_meaning.specs.Steps.{Answerer}
 use Rattle.chain_build.specs.declared.ended.Ended.{Ended}
 use Rattle.chain_build.specs.declared.ended.Ended.TheVariants as ended
 
--- the decision of a chain that ended so, with this answer in the slot
+-- the decision of a chain that ended so, with this answer in the slot; the records of a tail stand
+-- where those behind the answer would
 abbrev pub decision_of : Ended → AnswerData → Decision
 decision_of ended.Reply answer = decision.Reply answer
+decision_of (ended.Lent tail) answer = decision.Reply (with_tail answer tail.now)
 decision_of (ended.Code code cause) answer = decision.Code code cause
 decision_of ended.Drop answer = decision.Drop
 

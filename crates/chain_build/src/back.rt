@@ -1,7 +1,8 @@
-ghost use Rattle.std.specs.Prelude.{◌≡◌, map};
+ghost use Rattle.std.specs.Prelude.{◌≡◌, OnOk, map};
 ghost use Rattle.dns_data.specs.Message.{no_answer};
+ghost use Rattle.dns_write.specs.{with_tail};
 ghost use Rattle.outside.specs.Taking.{Asks};
-ghost use Rattle.rewrite_plugin.specs.{changed_by};
+ghost use Rattle.rewrite_plugin.specs.{changed_by, restored};
 ghost use Rattle.chain_meaning.specs.Mean.{mean, rewritten};
 ghost use Rattle.chain_build.specs.Compiled.{back_answerer, back_of, back_steps};
 ghost use Rattle.chain_build.specs.Walking.{Answered, Restored, decided, decision_of};
@@ -10,6 +11,7 @@ use crate::compiling::BlockChain;
 use crate::ended::Ended;
 use crate::room::PluginRoom;
 use dns_data::{NoMemory, Query, Seq, Slot};
+use dns_write::Tail;
 use file_plugin::{FilePlan, FileSay};
 use hosts_plugin::{HostsPlan, HostsSay};
 use outside::{Kept, Side};
@@ -31,15 +33,15 @@ pub enum BackAnswerer {
 /// Runs what stands behind a cache: the rest is asked what the rules make of the query, and its
 /// reply is restored. The slot is clear.
 #[inline(always)]
-pub fn run_behind<S: Side>(
+pub fn run_behind<'a, S: Side>(
     alloc: Global,
-    chain: &BlockChain,
+    chain: &'a BlockChain,
     query: &Query,
     side: &mut S,
     kept: &mut Kept,
     room: &mut PluginRoom,
     slot: &mut Slot,
-) -> Result<Ended, NoMemory>
+) -> Result<Ended<'a>, NoMemory>
     requires clear { slot.old ≡ no_answer }
     ensures { Asks (mean (back_steps chain.now.rewrites chain.now.back) query.now)
         (decided result slot.new) (S.state side.old) (S.state side.new) kept.old kept.new }
@@ -54,16 +56,16 @@ pub fn run_behind<S: Side>(
 // Runs the rest on what the rules make of the query, and restores its reply. Stays a call, so that a
 // chain without rules is short.
 #[inline(never)]
-fn run_rewritten<S: Side>(
+fn run_rewritten<'a, S: Side>(
     alloc: Global,
     rewrites: &[RewritePlan],
-    back: &[BackAnswerer],
+    back: &'a [BackAnswerer],
     query: &Query,
     side: &mut S,
     kept: &mut Kept,
     room: &mut PluginRoom,
     slot: &mut Slot,
-) -> Result<Ended, NoMemory>
+) -> Result<Ended<'a>, NoMemory>
     requires clear { slot.old ≡ no_answer }
     ensures { Asks
         (rewritten (mean (map back_of back.now)) rewrites.now (changed_by rewrites.now query.now))
@@ -84,19 +86,24 @@ fn run_rewritten<S: Side>(
 }
 
 // Restores the reply in the slot, where the rest ended with one.
-fn restore_reply(
+fn restore_reply<'a>(
     alloc: Global,
     rewrites: &[RewritePlan],
     changed: &Changed,
-    ended: Ended,
+    ended: Ended<'a>,
     room: &mut RewriteRoom,
     slot: &mut Slot,
-) -> Result<Ended, NoMemory>
-    ensures { Restored rewrites.now changed.now (decision_of ended slot.old) slot.new result }
+) -> Result<Ended<'a>, NoMemory>
+    ensures { Restored rewrites.now changed.now (decision_of ended.entry slot.old) slot.new
+        result }
 {
     match ended {
         Ended::Reply => {
             restore(alloc, rewrites, changed, room, slot)?;
+            Ok(Ended::Reply)
+        }
+        Ended::Lent(tail) => {
+            restore_lent(alloc, rewrites, changed, tail, room, slot)?;
             Ok(Ended::Reply)
         }
         Ended::Code(code, cause) => Ok(Ended::Code(code, cause)),
@@ -104,16 +111,33 @@ fn restore_reply(
     }
 }
 
-/// Runs the plugins that answer, behind a cache and the rules of `rewrite`. The slot is clear.
-pub fn run_back<S: Side>(
+// Copies the records of a tail behind the answer in the slot, which then is restored whole.
+#[inline(never)]
+fn restore_lent(
     alloc: Global,
-    steps: &[BackAnswerer],
+    rewrites: &[RewritePlan],
+    changed: &Changed,
+    tail: &Tail,
+    room: &mut RewriteRoom,
+    slot: &mut Slot,
+) -> Result<(), NoMemory>
+    ensures { OnOk result
+        (slot.new ≡ restored rewrites.now changed.now.steps (with_tail slot.old tail.now)) }
+{
+    tail.copy_into(alloc, slot)?;
+    restore(alloc, rewrites, changed, room, slot)
+}
+
+/// Runs the plugins that answer, behind a cache and the rules of `rewrite`. The slot is clear.
+pub fn run_back<'a, S: Side>(
+    alloc: Global,
+    steps: &'a [BackAnswerer],
     query: &Query,
     side: &mut S,
     kept: &mut Kept,
     room: &mut TemplateRoom,
     slot: &mut Slot,
-) -> Result<Ended, NoMemory>
+) -> Result<Ended<'a>, NoMemory>
     requires clear { slot.old ≡ no_answer }
     ensures { Asks (mean (map back_of steps.now) query.now) (decided result slot.new)
         (S.state side.old) (S.state side.new) kept.old kept.new }
@@ -129,13 +153,13 @@ pub fn run_back<S: Side>(
 
 // What a plugin answers. None: it goes on.
 #[tactic(auto, unfolding(chain_meaning::specs::Mean::answer_of))]
-fn answer(
+fn answer<'a>(
     alloc: Global,
-    plugin: &BackAnswerer,
+    plugin: &'a BackAnswerer,
     query: &Query,
     room: &mut TemplateRoom,
     slot: &mut Slot,
-) -> Result<Option<Ended>, NoMemory>
+) -> Result<Option<Ended<'a>>, NoMemory>
     requires clear { slot.old ≡ no_answer }
     ensures { Answered (back_answerer plugin.now) query.now slot.old slot.new result }
 {
@@ -156,6 +180,7 @@ fn answer(
         BackAnswerer::File(plans) => {
             match file_plugin::decide(alloc, plans.as_slice(), query, slot)? {
                 FileSay::Reply => Ok(Some(Ended::Reply)),
+                FileSay::Lent(tail) => Ok(Some(Ended::Lent(tail))),
                 FileSay::Next => Ok(None),
             }
         }

@@ -17,13 +17,14 @@ pub trait Extras {
     /// What they say of a query. None: they go on.
     ghost says: { Self → Query → Option Decision };
 
-    /// Leaves the answer of a reply in the slot, which is clear. None: they go on.
+    /// Leaves the answer of a reply in the slot, which is clear. A tail that it lends would have to
+    /// live for ever, so none is lent. None: they go on.
     fn answer(
         &mut self,
         alloc: Global,
         query: &Query,
         slot: &mut Slot,
-    ) -> Result<Option<Ended>, NoMemory>
+    ) -> Result<Option<Ended<'static>>, NoMemory>
         requires clear { slot.old ≡ no_answer }
         ensures said { Said (says self.old) query.now slot.old slot.new result }
         ensures stays { says self.new ≡ says self.old };
@@ -44,7 +45,7 @@ impl Extras for NoExtras {
         _alloc: Global,
         _query: &Query,
         _slot: &mut Slot,
-    ) -> Result<Option<Ended>, NoMemory> {
+    ) -> Result<Option<Ended<'static>>, NoMemory> {
         Ok(None)
     }
 }

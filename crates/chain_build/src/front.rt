@@ -37,16 +37,16 @@ pub enum FrontStep {
 
 /// Runs these first steps of a chain, asks plugins of others where they end, and then runs what
 /// stands behind a cache in it. The slot is clear.
-pub fn run_front<S: Side, X: Extras>(
+pub fn run_front<'a, S: Side, X: Extras>(
     alloc: Global,
     front: &[FrontStep],
-    behind: &BlockChain,
+    behind: &'a BlockChain,
     query: &Query,
     side: &mut S,
     extras: &mut X,
     room: &mut PluginRoom,
     slot: &mut Slot,
-) -> Result<Ended, NoMemory>
+) -> Result<Ended<'a>, NoMemory>
     requires clear { slot.old ≡ no_answer }
     ensures takes { Takes
         (mean (whole_with (X.says extras.old) front.now behind.now.rewrites behind.now.back)
@@ -75,15 +75,15 @@ pub fn run_front<S: Side, X: Extras>(
 // Asks plugins of others, and where they go on runs what stands behind a cache.
 #[inline(always)]
 #[tactic(auto, using(crate::proofs::Walks::others_starved, crate::proofs::Walks::others_say, crate::proofs::Walks::others_go))]
-fn run_others<S: Side, X: Extras>(
+fn run_others<'a, S: Side, X: Extras>(
     alloc: Global,
-    chain: &BlockChain,
+    chain: &'a BlockChain,
     query: &Query,
     side: &mut S,
     extras: &mut X,
     room: &mut PluginRoom,
     slot: &mut Slot,
-) -> Result<Ended, NoMemory>
+) -> Result<Ended<'a>, NoMemory>
     requires clear { slot.old ≡ no_answer }
     ensures takes { Takes
         (mean (others_steps (X.says extras.old) chain.now.rewrites chain.now.back) query.now)
@@ -98,14 +98,14 @@ fn run_others<S: Side, X: Extras>(
 
 /// Runs what stands behind a cache in a chain that has none. The slot is clear.
 #[inline(always)]
-pub fn run_uncached<S: Side>(
+pub fn run_uncached<'a, S: Side>(
     alloc: Global,
-    chain: &BlockChain,
+    chain: &'a BlockChain,
     query: &Query,
     side: &mut S,
     room: &mut PluginRoom,
     slot: &mut Slot,
-) -> Result<Ended, NoMemory>
+) -> Result<Ended<'a>, NoMemory>
     requires clear { slot.old ≡ no_answer }
     ensures { Takes (mean (back_steps chain.now.rewrites chain.now.back) query.now)
         (decided result slot.new) (S.state side.old) (S.state side.new) }
@@ -121,7 +121,7 @@ fn answer(
     plugin: &FrontAnswerer,
     query: &Query,
     slot: &mut Slot,
-) -> Result<Option<Ended>, NoMemory>
+) -> Result<Option<Ended<'static>>, NoMemory>
     requires clear { slot.old ≡ no_answer }
     ensures { Answered (front_answerer plugin.now) query.now slot.old slot.new result }
 {

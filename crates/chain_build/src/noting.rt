@@ -12,13 +12,14 @@ use plain_plugins::{LogOutcome, PlainPlan, error_line, log_line};
 use std::alloc::Global;
 
 /// Notes the line of a code, and gives back how the chain ended.
-pub fn note_error<S: Side>(
+pub fn note_error<'a, S: Side>(
     alloc: Global,
     query: &Query,
-    ended: Ended,
+    ended: Ended<'a>,
     side: &mut S,
-) -> Result<Ended, NoMemory>
-    ensures { (answer : AnswerData) → Takes (error_noted query.now (decision_of ended answer))
+) -> Result<Ended<'a>, NoMemory>
+    ensures { (answer : AnswerData)
+        → Takes (error_noted query.now (decision_of ended.entry answer))
         (decided result answer) (S.state side.old) (S.state side.new) }
 {
     if let Ended::Code(code, cause) = ended {
@@ -29,15 +30,15 @@ pub fn note_error<S: Side>(
 }
 
 /// Notes the line of a query in the zones of `log`, and gives back how the chain ended.
-pub fn note_query<S: Side>(
+pub fn note_query<'a, S: Side>(
     alloc: Global,
     plan: &PlainPlan,
     query: &Query,
-    ended: Ended,
+    ended: Ended<'a>,
     slot: &Slot,
     side: &mut S,
-) -> Result<Ended, NoMemory>
-    ensures { Takes (query_noted plan.now query.now (decision_of ended slot.now))
+) -> Result<Ended<'a>, NoMemory>
+    ensures { Takes (query_noted plan.now query.now (decision_of ended.entry slot.now))
         (decided result slot.now) (S.state side.old) (S.state side.new) }
 {
     if !plan.covers(&query.name) {
@@ -48,11 +49,11 @@ pub fn note_query<S: Side>(
     Ok(ended)
 }
 
-fn outcome_of(ended: Ended, slot: &Slot) -> LogOutcome
-    ensures { result ≡ outcome_of (decision_of ended slot.now) }
+fn outcome_of(ended: Ended<'_>, slot: &Slot) -> LogOutcome
+    ensures { result ≡ outcome_of (decision_of ended.entry slot.now) }
 {
     match ended {
-        Ended::Reply => LogOutcome::Rcode(slot.rcode),
+        Ended::Reply | Ended::Lent(_) => LogOutcome::Rcode(slot.rcode),
         Ended::Code(code, _) => LogOutcome::Rcode(number(code)),
         Ended::Drop => LogOutcome::Dropped,
     }

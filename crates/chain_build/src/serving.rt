@@ -1,7 +1,9 @@
 ghost use Rattle.dns_data.specs.declared.limit.TheConstants as limits;
-ghost use Rattle.std.specs.Prelude.{◌≡◌, ◌<◌, Some, None, IsTrue, IsFalse, option_map};
-ghost use Rattle.dns_data.specs.Message.{no_answer};
+ghost use Rattle.std.specs.Prelude.{◌≡◌, ◌≤◌, ◌<◌, Some, None, IfOk, IsTrue, IsFalse, option_map};
+ghost use Rattle.dns_data.specs.Message.{AreCodes, no_answer};
 ghost use Rattle.dns_wire.specs.{QueriesThis, asked_by};
+ghost use Rattle.dns_write.specs.Assembled.{message_of};
+ghost use Rattle.dns_write.specs.Writes.{Writes};
 ghost use Rattle.outside.specs.Taking.{Takes};
 ghost use Rattle.chain_meaning.specs.Mean.{nothing};
 ghost use Rattle.chain_meaning.specs.Serving.{answer_in, block_decides, block_of, chain_decides};
@@ -10,7 +12,7 @@ ghost use Rattle.chain_meaning.specs.Steps.{steps_of};
 ghost use Rattle.chain_meaning.specs.declared.decision.Decision.TheVariants as decision;
 ghost use Rattle.chain_build.specs.Plans.{steps_in};
 ghost use Rattle.chain_build.specs.Workers.{plans_of};
-ghost use Rattle.chain_build.specs.Replying.{TellsServing};
+ghost use Rattle.chain_build.specs.Replying.{TellsServing, lent_of, whole_answer, whole_message};
 ghost use Rattle.chain_build.specs.Walking.{decided, decision_of};
 
 use crate::asking::{
@@ -24,9 +26,9 @@ use crate::front::{run_front, run_uncached};
 use crate::plans::Plans;
 use crate::room::{PluginRoom, Room};
 use chain_meaning::{Served, Silence, number};
-use dns_data::{NoMemory, Opt, Query, Slot, class, rcode};
+use dns_data::{Buffer, NoMemory, Opt, Query, Slot, class, rcode};
 use dns_wire::{AskedBeside, QueryFault, read_asked_into};
-use dns_write::write_parts;
+use dns_write::{MessageParts, Tail, write_lent};
 use outside::{Datagram, Side};
 use std::alloc::Global;
 
@@ -98,19 +100,49 @@ fn reply<S: Side>(
     let opt_back = opt_reply(upper_code(opt), opt);
     let parts = reply_message(beside.id, class, opt_back, &room.query, &room.slot);
     let limit = limit_of(datagram.by, opt);
-    match write_parts(alloc, free, &parts, limit) {
+    match write_whole(alloc, free, &parts, ended, limit) {
         Ok(bytes) => Served::Reply(bytes),
         Err(NoMemory) => Served::NoMemory,
     }
 }
 
-// Leaves the answer of a chain that ended so in the slot, where it has one.
-fn settle(ended: Ended, slot: &mut Slot) -> bool
-    ensures reply { IsTrue result → answer_in (decision_of ended slot.old) ≡ Some slot.new }
-    ensures drop { IsFalse result → decision_of ended slot.old ≡ decision.Drop }
+// Writes the reply of a chain that ended so, with the records of a tail where one was lent.
+#[inline(always)]
+fn write_whole<'a>(
+    alloc: Global,
+    free: Buffer,
+    parts: &MessageParts<'a>,
+    ended: Ended<'a>,
+    limit: u32,
+) -> Result<Buffer, NoMemory>
+    requires limit { (limits.UDP_BYTES ≤ limit) × (limit ≤ limits.MESSAGE_BYTES) }
+    requires codes { AreCodes parts.now.flags.opcode parts.now.flags.rcode }
+    ensures { IfOk result (Writes (whole_message ended.entry (message_of parts.now)) limit) }
+{
+    let tail = lent_by(ended);
+    write_lent(alloc, free, parts, tail, limit)
+}
+
+// The tail that a chain lends which ended so.
+#[inline(always)]
+fn lent_by(ended: Ended<'_>) -> Option<&Tail>
+    ensures { result ≡ lent_of ended.entry }
 {
     match ended {
-        Ended::Reply => true,
+        Ended::Lent(tail) => Some(tail),
+        Ended::Reply | Ended::Code(_, _) | Ended::Drop => None,
+    }
+}
+
+// Leaves the answer of a chain that ended so in the slot, where it has one. Records of a tail stay
+// where they are.
+fn settle(ended: Ended<'_>, slot: &mut Slot) -> bool
+    ensures reply { IsTrue result
+        → answer_in (decision_of ended.entry slot.old) ≡ Some (whole_answer ended.entry slot.new) }
+    ensures drop { IsFalse result → decision_of ended.entry slot.old ≡ decision.Drop }
+{
+    match ended {
+        Ended::Reply | Ended::Lent(_) => true,
         Ended::Code(code, _) => {
             slot.clear();
             set_code(slot, number(code));
@@ -130,16 +162,16 @@ fn set_code(slot: &mut Slot, rcode: u8)
 }
 
 // What is decided for a query with this OPT record and class.
-fn decide<S: Side>(
+fn decide<'a, S: Side>(
     alloc: Global,
     opt: Option<Opt>,
     class: u16,
-    plans: &Plans,
+    plans: &'a Plans,
     query: &Query,
     side: &mut S,
     room: &mut PluginRoom,
     slot: &mut Slot,
-) -> Result<Ended, NoMemory>
+) -> Result<Ended<'a>, NoMemory>
     ensures { Takes
         (query_decides opt class plans.now.bundle.files plans.now.blocks query.now)
         (decided result slot.new) (S.state side.old) (S.state side.new) }
@@ -151,15 +183,15 @@ fn decide<S: Side>(
     Ok(Ended::Reply)
 }
 
-fn decide_class<S: Side>(
+fn decide_class<'a, S: Side>(
     alloc: Global,
     class: u16,
-    plans: &Plans,
+    plans: &'a Plans,
     query: &Query,
     side: &mut S,
     room: &mut PluginRoom,
     slot: &mut Slot,
-) -> Result<Ended, NoMemory>
+) -> Result<Ended<'a>, NoMemory>
     requires clear { slot.old ≡ no_answer }
     ensures { Takes
         (class_decides class plans.now.bundle.files plans.now.blocks query.now)
@@ -172,14 +204,14 @@ fn decide_class<S: Side>(
     Ok(Ended::Reply)
 }
 
-fn decide_block<S: Side>(
+fn decide_block<'a, S: Side>(
     alloc: Global,
-    plans: &Plans,
+    plans: &'a Plans,
     query: &Query,
     side: &mut S,
     room: &mut PluginRoom,
     slot: &mut Slot,
-) -> Result<Ended, NoMemory>
+) -> Result<Ended<'a>, NoMemory>
     requires clear { slot.old ≡ no_answer }
     ensures { Takes
         (block_decides plans.now.bundle.files (block_of plans.now.blocks query.now) query.now)
@@ -206,14 +238,14 @@ fn chain_of<'a>(plans: &'a Plans, query: &Query) -> Option<&'a BlockChain>
 }
 
 // Runs the chain of a block, which mostly has nothing in front. One without a step refuses.
-fn run_chain<S: Side>(
+fn run_chain<'a, S: Side>(
     alloc: Global,
-    chain: &BlockChain,
+    chain: &'a BlockChain,
     query: &Query,
     side: &mut S,
     room: &mut PluginRoom,
     slot: &mut Slot,
-) -> Result<Ended, NoMemory>
+) -> Result<Ended<'a>, NoMemory>
     requires clear { slot.old ≡ no_answer }
     ensures { Takes (chain_decides (steps_in chain.now) query.now)
         (decided result slot.new) (S.state side.old) (S.state side.new) }

@@ -96,6 +96,10 @@ pub(crate) fn file_says(
     let mut slot = Slot::new(alloc);
     match file_plugin::decide(alloc, plans, query, &mut slot)? {
         FileSay::Reply => Ok(Some(Decision::Reply(slot.to_answer(alloc)?))),
+        FileSay::Lent(tail) => {
+            tail.copy_into(alloc, &mut slot)?;
+            Ok(Some(Decision::Reply(slot.to_answer(alloc)?)))
+        }
         FileSay::Next => Ok(None),
     }
 }

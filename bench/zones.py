@@ -11,7 +11,8 @@ import tempfile
 
 from counted import BELOW, WORD, built, cost
 
-CRATES = ["dns_lists", "dns_addr", "dns_names", "dns_data", "equal_bytes", "name_table", "zone_lookup", "zone_tree"]
+CRATES = ["dns_lists", "dns_addr", "dns_names", "dns_data", "equal_bytes", "dns_wire", "dns_write", "name_table", "zone_lookup",
+          "zone_tree"]
 CASES = ["hit", "wildcard", "nxdomain", "referral"]
 FEW, MANY = 2_000, 22_000
 
@@ -21,7 +22,7 @@ PROGRAM = r'''// Answers questions for a zone of so many names, so many times.
 use dns_data::{Copies, Name, NoMemory, Rdata, Record, Records, Seq, Slot, Soa, Zone, class, kind};
 use std::alloc::Global;
 use std::{env, io};
-use zone_lookup::lookup;
+use zone_lookup::answer;
 use zone_tree::TreeZone;
 
 ''' + BELOW + r'''
@@ -96,7 +97,7 @@ fn name_of(alloc: Global, case: &str, number: u64, origin: &Name) -> Result<Name
 #[inline(never)]
 fn ask(alloc: Global, zone: &TreeZone, name: &Name, slot: &mut Slot) -> Result<u64, NoMemory> {
     slot.clear();
-    lookup(alloc, zone, name, kind::A, slot)?;
+    answer(alloc, zone, name, kind::A, slot)?;
     Ok(u64::from(slot.rcode).wrapping_add(slot.additional.len() as u64))
 }
 

@@ -45,10 +45,12 @@ def served(rows, room, title, text, *asked):
     port, words = server(room, text)
     process = subprocess.Popen(words, stdout=subprocess.DEVNULL, stderr=subprocess.DEVNULL)
     try:
-        with Client(port) as client:
+        # What asks whether it serves by now is another client, since its replies may come late.
+        with Client(port) as early:
             end = time.monotonic() + SECONDS
-            while time.monotonic() < end and process.poll() is None and client.ask(query_bytes(["hostile.test", "SOA"]), 0.2) is None:
+            while time.monotonic() < end and process.poll() is None and early.ask(query_bytes(["hostile.test", "SOA"]), 0.2) is None:
                 time.sleep(0.02)
+        with Client(port) as client:
             got = []
             for name, kind, _ in asked:
                 reply = client.ask(query_bytes([name, kind, "bufsize=4096"]), 5.0)

@@ -2,6 +2,7 @@
 -- How they are written is known but for two numbers: where the anchor begins in the message, and
 -- where the records do.
 use Rattle.std.specs.Prelude.{◌≡◌, ◌≤◌, ℕ, ◌+◌, ◌-◌, ◌/◌, ◌%◌, true, false, List, [], ◌∷◌, ◌++◌, length, take, drop, Option, Some, None, option_map, find, if◌then◌else◌}
+use Rattle.std.specs.Prelude.{◌⊎◌}
 use Rattle.std.specs.Int.{w16, w32, w128, to_be_bytes}
 use Rattle.std.specs.List.{AllByRecursion}
 use Rattle.dns_names.specs.Name.{IsWire, labels_of, same_labels, spelled}
@@ -332,11 +333,16 @@ abbrev pub IsPlanned : List RecordData → Option Plan → Type 0
 IsPlanned rs None = Unit {0}
 IsPlanned rs (Some plan) = IsPlanOf rs plan
 
--- a name ends in the anchor, with this label above it and so many above it
-pub record EndsIn (name anchor : List (List ℕ)) (above : List ℕ) (count : ℕ) : Type 0 where
+-- a name is below the anchor, with this label above it and so many above it
+pub record EndsBelow (name anchor : List (List ℕ)) (above : List ℕ) (count : ℕ) : Type 0 where
   pub front : List (List ℕ)
   pub is : name ≡ front ++ (above ∷ anchor)
   pub counted : count ≡ length front + 1
+
+-- a name is the anchor, or is below it
+abbrev pub EndsIn : List (List ℕ) → List (List ℕ) → List ℕ → ℕ → Type 0
+EndsIn name anchor above count =
+    ((count ≡ 0) × (name ≡ anchor)) ⊎ EndsBelow name anchor above count
 
 -- the offsets of a draft begin with those of the question's name
 pub record Knows (name : List (List ℕ)) (d : Draft) : Type 0 where

@@ -97,7 +97,7 @@ fn is_proper(entry: &Record)
 }
 
 /// The label above an anchor in which a name ends, letter for letter, and how many labels stand
-/// above the anchor.
+/// above the anchor: where the name is the anchor, no bytes and 0.
 #[inline]
 pub fn label_above<'a>(name: &'a Name, anchor: &Name) -> Option<(&'a [u8], usize)>
     ensures { IfSome result (λ found. EndsIn name.now anchor.now found.0.now found.1) }
@@ -105,7 +105,7 @@ pub fn label_above<'a>(name: &'a Name, anchor: &Name) -> Option<(&'a [u8], usize
     let end = anchor.as_wire();
     let mut labels = name.labels();
     let mut rest = name.as_wire();
-    let mut above = rest;
+    let mut above = &rest[..0];
     let mut count = 0;
     while end.len() < rest.len() {
         let Some(label) = labels.next() else {
@@ -114,9 +114,6 @@ pub fn label_above<'a>(name: &'a Name, anchor: &Name) -> Option<(&'a [u8], usize
         above = label;
         count += 1;
         rest = labels.as_wire();
-    }
-    if count == 0 {
-        return None;
     }
     if !are_equal(rest, end) {
         return None;

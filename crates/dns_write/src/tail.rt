@@ -14,8 +14,8 @@ use std::marker::Model;
 const FAR: usize = 256;
 
 /// Records of the sections authority and additional that stand behind the answers to many
-/// questions: those for names below one name, the anchor. How they are written there is found once,
-/// where all their types are A, NS, SOA or AAAA.
+/// questions: those for names at or below one name, the anchor. How they are written there is found
+/// once, where all their types are A, NS, SOA or AAAA.
 #[derive(Debug, Drop)]
 pub struct Tail {
     authority: RecordRoom,

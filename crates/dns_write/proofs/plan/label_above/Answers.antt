@@ -1,5 +1,6 @@
-use Rattle.std.proofs.Common.{◌≡◌, ◌<◌, ◌≤◌, ◌+◌, ◌-◌, ◌++◌, ◌∷◌, length, take, drop, sym, ap, subst, ◌∙◌, arith, length-drop}
+use Rattle.std.proofs.Common.{◌≡◌, ◌<◌, ◌≤◌, ◌+◌, ◌-◌, ◌++◌, ◌∷◌, length, take, drop, sym, ap, subst, ◌∙◌, arith, inl, inr, length-drop}
 use Rattle.std.proofs.lemmas.List.{drop-drop, length-take-le, take-append-drop}
+use Rattle.std.proofs.lemmas.Bool.{cases_lt}
 use Rattle.dns_names.specs.Name.{IsName, labels_of, spelled}
 use Rattle.dns_names.specs.NameLaws.{few, view_of}
 use Rattle.dns_write.proofs.plan.label_above.Goals as goal
@@ -48,11 +49,15 @@ returns c =
     let name = c.args.name.now in
     let i = c.loop-rest.invariant in
     let k = c.loop-rest.count - 1 in
-    let some : 0 < c.loop-rest.count = omega (arith, c.if-count-eq0.false) in
     let same : c.loop-rest.labels ≡ c.args.anchor.now =
     sym (view_of c.loop-rest.rest.now c.loop-rest.labels i.rest) ∙ ap labels_of (c.are_equal.ensures.0 c.if-not-are_equal.false) ∙ view_of c.as_wire-end.result.now c.args.anchor.now c.as_wire-end.ensures.value in
-    record {
-      front = take k name;
-      is = sym (take-append-drop k name) ∙ ap (λ t. take k name ++ t) (i.last some ∙ ap (λ ls. c.loop-rest.above.now ∷ ls) same);
-      counted = omega (arith, some, length-take-le k name (omega (arith, i.inside)));
-    }
+    elim (cases_lt 0 c.loop-rest.count) [
+      | inl some ↦ inr (record {
+        front = take k name;
+        is = sym (take-append-drop k name) ∙ ap (λ t. take k name ++ t) (i.last some ∙ ap (λ ls. c.loop-rest.above.now ∷ ls) same);
+        counted = omega (arith, some, length-take-le k name (omega (arith, i.inside)));
+      })
+      | inr none ↦
+          let zero_of : c.loop-rest.count ≡ 0 = omega (arith, none) in
+          inl (zero_of, ap (λ n. drop n name) (sym zero_of) ∙ i.left ∙ same)
+    ]

@@ -1,5 +1,5 @@
 -- Runs of CNAME records, and the tests of names.
-use Rattle.std.proofs.Common.{◌≡◌, ◌↔◌, ℕ, zero, suc, ◌+◌, ◌-◌, ◌<◌, ◌≤◌, Bool, true, false, IsTrue, nat_eq, List, [], ◌∷◌, ◌++◌, length, drop, get_or, Option, Some, None, refl, sym, ap, subst, ◌∙◌, arith, map, length-append, append_assoc, rules}
+use Rattle.std.proofs.Common.{◌≡◌, ◌↔◌, Bor, ℕ, zero, suc, ◌+◌, ◌-◌, ◌<◌, ◌≤◌, Bool, true, false, IsTrue, nat_eq, List, [], ◌∷◌, ◌++◌, length, drop, get_or, Option, Some, None, refl, sym, ap, subst, ◌∙◌, arith, map, length-append, append_assoc, rules}
 use Rattle.std.specs.Prelude.{not}
 use Rattle.std.proofs.lemmas.List.{length-map, drop_more}
 use Rattle.std.proofs.lemmas.Bool.Decides.{same_from_decides, Decides-eqb}
@@ -13,7 +13,11 @@ use Rattle.zone_lookup.specs.declared.answering.End.{End}
 use Rattle.dns_data.specs.Message.{AnswerData, no_answer}
 use Rattle.dns_data.specs.declared.kind.TheConstants as kinds
 use Rattle.zone_lookup.specs.Zone.{is_under, has_items, cut_of, set_at}
+use Rattle.dns_write.specs.Tails.{with_tail}
+use Rattle.dns_write.specs.declared.tail.Tail.{Tail}
+use Rattle.zone_lookup.specs.declared.find.Reached.TheVariants as reached
 use Rattle.zone_lookup.specs.declared.find.Step.TheVariants as step
+use Rattle.zone_lookup.specs.Ready.{StandsBehind}
 use Rattle.zone_lookup.specs.ZoneAnswer.{Finds, Chain, Ends, found, chain, is_followed, with_hosts, with_addresses, host_of, referral, positive, additional, the_answer, rcode_of, authority, own_answer, whole_chain, answer_under, zone_answer, sought, with_answer, asks_servers, with_authority, Refers, RefersAt, Steps, StepsAt}
 
 length_drop : {X : Type 0} (n : ℕ) (xs : List X) → n ≤ length xs → length (drop n xs) + n ≡ length xs
@@ -177,18 +181,18 @@ pub begins_with : (slot : AnswerData) (answer : List RecordData) → slot ≡ no
 begins_with slot answer e = ap (λ (a : AnswerData). with_sections a answer a.authority a.additional) e
 
 refers_cut_at : (zone : Zone) (name : List (List ℕ)) (kind : ℕ) (cut : Option (List (List ℕ))) (new : List RecordData) (a : AnswerData) → StepsAt cut (sought zone name kind) step.Cut [] new → a ≡ referral zone new
-    → RefersAt cut zone (sought zone name kind) step.Cut a
+    → RefersAt cut zone (sought zone name kind) reached.Cut a
 unfolding sought
 refers_cut_at zone name kind (Some cut) new a s e = e ∙ ap (referral zone) s
 refers_cut_at zone name kind None new a s e = absurd s
 
 -- a step that came to a cut, of which the referral was made
-pub refers_cut : (zone : Zone) (name : List (List ℕ)) (kind : ℕ) (new : List RecordData) (a : AnswerData) → Steps (sought zone name kind) step.Cut [] new → a ≡ referral zone new → Refers zone (sought zone name kind) step.Cut a
+pub refers_cut : (zone : Zone) (name : List (List ℕ)) (kind : ℕ) (new : List RecordData) (a : AnswerData) → Steps (sought zone name kind) step.Cut [] new → a ≡ referral zone new → Refers zone (sought zone name kind) reached.Cut a
 unfolding sought
 refers_cut zone name kind new a s e = refers_cut_at zone name kind (cut_of zone name) new a s e
 
 refers_found_at : (zone : Zone) (name : List (List ℕ)) (kind : ℕ) (cut : Option (List (List ℕ))) (find : Find) (new : List RecordData) (a : AnswerData) → StepsAt cut (sought zone name kind) (step.Found find) [] new
-    → a ≡ with_answer new → RefersAt cut zone (sought zone name kind) (step.Found find) a
+    → a ≡ with_answer new → RefersAt cut zone (sought zone name kind) (reached.Found find) a
 unfolding sought
 refers_found_at zone name kind (Some cut) find new a s e = absurd s
 refers_found_at zone name kind None find new a s e =
@@ -197,23 +201,42 @@ refers_found_at zone name kind None find new a s e =
 
 -- one that came to no cut
 pub refers_found : (zone : Zone) (name : List (List ℕ)) (kind : ℕ) (find : Find) (new : List RecordData) (a : AnswerData) → Steps (sought zone name kind) (step.Found find) [] new → a ≡ with_answer new
-    → Refers zone (sought zone name kind) (step.Found find) a
+    → Refers zone (sought zone name kind) (reached.Found find) a
 unfolding sought
 refers_found zone name kind find new a s e = refers_found_at zone name kind (cut_of zone name) find new a s e
 
 -- by its cut
-pub refers_by_cut : (zone : Zone) (name cut : List (List ℕ)) (kind : ℕ) (a : AnswerData) → cut_of zone name ≡ Some cut → a ≡ referral zone (set_at zone cut kinds.NS) → Refers zone (sought zone name kind) step.Cut a
+pub refers_by_cut : (zone : Zone) (name cut : List (List ℕ)) (kind : ℕ) (a : AnswerData) → cut_of zone name ≡ Some cut → a ≡ referral zone (set_at zone cut kinds.NS) → Refers zone (sought zone name kind) reached.Cut a
 unfolding sought
 refers_by_cut zone name cut kind a e is = rw e is
 
-cut_at : (zone : Zone) (name : List (List ℕ)) (kind : ℕ) (cut : Option (List (List ℕ))) (a : AnswerData) → RefersAt cut zone (sought zone name kind) step.Cut a → a ≡ answer_under zone name kind cut
+cut_at : (zone : Zone) (name : List (List ℕ)) (kind : ℕ) (cut : Option (List (List ℕ))) (a : AnswerData) → RefersAt cut zone (sought zone name kind) reached.Cut a → a ≡ answer_under zone name kind cut
 unfolding answer_under sought
 cut_at zone name kind (Some cut) a r = r
 cut_at zone name kind None a r = absurd r
 
-pub cut_answers : (zone : Zone) (name : List (List ℕ)) (kind : ℕ) (a : AnswerData) → Refers zone (sought zone name kind) step.Cut a → a ≡ zone_answer zone name kind
+pub cut_answers : (zone : Zone) (name : List (List ℕ)) (kind : ℕ) (a : AnswerData) → Refers zone (sought zone name kind) reached.Cut a → a ≡ zone_answer zone name kind
 unfolding zone_answer sought
 cut_answers zone name kind a r = cut_at zone name kind (cut_of zone name) a r
+
+-- by its cut, whose sections are lent
+pub refers_lent : (zone : Zone) (name cut : List (List ℕ)) (kind : ℕ) (tail : Bor Tail) (a : AnswerData) → cut_of zone name ≡ Some cut → a ≡ no_answer → StandsBehind zone [] (set_at zone cut kinds.NS) tail.now
+    → Refers zone (sought zone name kind) (reached.Lent tail) a
+unfolding sought
+refers_lent zone name cut kind tail a e clear s =
+    let servers = set_at zone cut kinds.NS in
+    rw e (ap (λ (b : AnswerData). with_tail b tail.now) clear
+    ∙ referral_is zone servers [] tail.now.authority tail.now.additional refl s.authority (s.additional ∙ ap (with_hosts zone [] []) (sym s.authority)))
+
+lent_at : (zone : Zone) (name : List (List ℕ)) (kind : ℕ) (cut : Option (List (List ℕ))) (tail : Bor Tail) (a : AnswerData) → RefersAt cut zone (sought zone name kind) (reached.Lent tail) a
+    → with_tail a tail.now ≡ answer_under zone name kind cut
+unfolding answer_under sought
+lent_at zone name kind (Some cut) tail a r = r
+lent_at zone name kind None tail a r = absurd r
+
+pub lent_answers : (zone : Zone) (name : List (List ℕ)) (kind : ℕ) (tail : Bor Tail) (a : AnswerData) → Refers zone (sought zone name kind) (reached.Lent tail) a → with_tail a tail.now ≡ zone_answer zone name kind
+unfolding zone_answer sought
+lent_answers zone name kind tail a r = lent_at zone name kind (cut_of zone name) tail a r
 
 -- what there is where no cut stands above
 pub record Begun (zone : Zone) (name : List (List ℕ)) (kind : ℕ) (find : Find) (a : AnswerData) : Type 0 where
@@ -221,13 +244,13 @@ pub record Begun (zone : Zone) (name : List (List ℕ)) (kind : ℕ) (find : Fin
   pub finds : Finds (found zone name kind) find [] a.answer
   pub own : own_answer zone name kind ≡ zone_answer zone name kind
 
-begun_at : (zone : Zone) (name : List (List ℕ)) (kind : ℕ) (cut : Option (List (List ℕ))) (find : Find) (a : AnswerData) → RefersAt cut zone (sought zone name kind) (step.Found find) a
+begun_at : (zone : Zone) (name : List (List ℕ)) (kind : ℕ) (cut : Option (List (List ℕ))) (find : Find) (a : AnswerData) → RefersAt cut zone (sought zone name kind) (reached.Found find) a
     → (a ≡ with_answer a.answer) × Finds (found zone name kind) find [] a.answer × (own_answer zone name kind ≡ answer_under zone name kind cut)
 unfolding answer_under sought
 begun_at zone name kind (Some cut) find a r = absurd r
 begun_at zone name kind None find a r = (r.0, r.1, refl)
 
-pub begun : (zone : Zone) (name : List (List ℕ)) (kind : ℕ) (find : Find) (a : AnswerData) → Refers zone (sought zone name kind) (step.Found find) a → Begun zone name kind find a
+pub begun : (zone : Zone) (name : List (List ℕ)) (kind : ℕ) (find : Find) (a : AnswerData) → Refers zone (sought zone name kind) (reached.Found find) a → Begun zone name kind find a
 unfolding zone_answer sought
 begun zone name kind find a r =
     let parts = begun_at zone name kind (cut_of zone name) find a r in

@@ -10,9 +10,12 @@ use Rattle.dns_data.specs.declared.kind.TheConstants as kinds
 use Rattle.dns_data.specs.declared.rcode.TheConstants as rcodes
 use Rattle.dns_data.specs.declared.record.Rdata.{Rdata}
 use Rattle.dns_data.specs.declared.record.Rdata.TheVariants as rdata
+use Rattle.dns_write.specs.Tails.{with_tail}
 use Rattle.zone_lookup.specs.declared.find.Find.{Find}
 use Rattle.zone_lookup.specs.declared.find.Step.{Step}
 use Rattle.zone_lookup.specs.declared.find.Step.TheVariants as step
+use Rattle.zone_lookup.specs.declared.find.Reached.{Reached}
+use Rattle.zone_lookup.specs.declared.find.Reached.TheVariants as reached
 use Rattle.zone_lookup.specs.declared.answering.End.{End}
 use Rattle.zone_lookup.specs.Zone.{is_same, is_under, is_of, exists_in, set_at, has_at, has_items}
 use Rattle.zone_lookup.specs.Zone.{cut_of, wildcard}
@@ -268,13 +271,17 @@ with_authority zone a records = record {
   additional = with_hosts zone a.answer a.additional records;
 }
 
-abbrev pub RefersAt : Option (List (List ℕ)) → Zone → Sought → Step → AnswerData → Type 0
-RefersAt (Some cut) zone s step.Cut a = a ≡ referral zone (s.servers cut)
-RefersAt (Some cut) zone s (step.Found find) a = ⊥
-RefersAt None zone s step.Cut a = ⊥
-RefersAt None zone s (step.Found find) a =
+abbrev pub RefersAt : Option (List (List ℕ)) → Zone → Sought → Reached → AnswerData → Type 0
+RefersAt (Some cut) zone s reached.Cut a = a ≡ referral zone (s.servers cut)
+RefersAt (Some cut) zone s (reached.Lent tail) a =
+    with_tail a tail.now ≡ referral zone (s.servers cut)
+RefersAt (Some cut) zone s (reached.Found find) a = ⊥
+RefersAt None zone s reached.Cut a = ⊥
+RefersAt None zone s (reached.Lent tail) a = ⊥
+RefersAt None zone s (reached.Found find) a =
     (a ≡ with_answer a.answer) × Finds s.found find [] a.answer
 
--- the whole referral, or what the name gives as the answer section, and nothing else yet
-abbrev pub Refers : Zone → Sought → Step → AnswerData → Type 0
-Refers zone s step a = RefersAt s.cut zone s step a
+-- the whole referral, with the sections that are lent to it, or what the name gives as the answer
+-- section, and nothing else yet
+abbrev pub Refers : Zone → Sought → Reached → AnswerData → Type 0
+Refers zone s reached a = RefersAt s.cut zone s reached a

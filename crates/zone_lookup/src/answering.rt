@@ -10,7 +10,7 @@ ghost use Rattle.zone_lookup.specs.ZoneAnswer.{own_answer, zone_answer, whole_ch
 ghost use Rattle.zone_lookup.specs.ZoneAnswer.{Ends, Finds, with_answer, with_authority};
 
 use crate::ZoneStore;
-use crate::find::{Find, Step};
+use crate::find::{Find, Reached};
 use crate::names::{is_under, same};
 use dns_data::{Name, NoMemory, Record, RecordRoom, Slot, kind, rcode};
 use dns_write::Tail;
@@ -58,8 +58,9 @@ pub fn answer<'a, Z: ZoneStore>(
         ≡ zone_answer (Z.zone zone.now) name.now kind) }
 {
     match zone.refer_or_find(alloc, name, kind, slot)? {
-        Step::Cut => Ok(None),
-        Step::Found(find) => positive(alloc, zone, name, kind, find, slot),
+        Reached::Cut => Ok(None),
+        Reached::Lent(tail) => Ok(Some(tail)),
+        Reached::Found(find) => positive(alloc, zone, name, kind, find, slot),
     }
 }
 

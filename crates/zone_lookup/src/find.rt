@@ -7,6 +7,7 @@ ghost use Rattle.zone_lookup.specs.ZoneAnswer.{with_owner, target_of, alias_of, 
 ghost use Rattle.zone_lookup.specs.ZoneAnswer.{negative_ttl};
 
 use dns_data::{Copies, Name, NoMemory, Rdata, Record, RecordRoom, kind, limit};
+use dns_write::Tail;
 use std::alloc::Global;
 
 /// What a name gave beside records: whether neither it nor a wildcard for it exists, and where a
@@ -21,6 +22,15 @@ pub struct Find {
 #[derive(Debug, Drop)]
 pub enum Step {
     Cut,
+    Found(Find),
+}
+
+/// What a question came to: a cut at or above its name, of which the referral stands in the slot or
+/// its two sections are lent, or what the name gives.
+#[derive(Debug, Drop)]
+pub enum Reached<'a> {
+    Cut,
+    Lent(&'a Tail),
     Found(Find),
 }
 

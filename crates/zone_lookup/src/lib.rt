@@ -9,7 +9,9 @@ mod plain;
 mod store;
 
 pub use answering::{answer, lookup};
-pub use find::{Find, Step, is_aliased_kind, nothing, push_one_denying, push_owned, target_from};
+pub use find::{
+    Find, Reached, Step, is_aliased_kind, nothing, push_one_denying, push_owned, target_from,
+};
 pub use hosts::host_of;
 pub use names::{is_of, is_star, same, type_of};
 pub use plain::PlainZone;

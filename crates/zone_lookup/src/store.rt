@@ -10,7 +10,8 @@ ghost use Rattle.zone_lookup.specs.ZoneAnswer.{with_addresses, with_hosts, with_
 ghost use Rattle.zone_lookup.specs.ZoneAnswer.{Finds, Refers, Steps};
 
 use crate::find::{
-    Find, Step, cut_or, is_aliased_kind, nothing, push_denying, push_owned, star_below, target_from,
+    Find, Reached, Step, cut_or, is_aliased_kind, nothing, push_denying, push_owned, star_below,
+    target_from,
 };
 use crate::hosts::{either, host_of, stands_in};
 use crate::names::is_star;
@@ -274,18 +275,18 @@ pub trait ZoneStore {
         None
     }
 
-    /// Fills a slot with the referral of the cut at or above a name, or else its answer section
-    /// with what the name gives.
+    /// Fills a slot with the referral of the cut at or above a name, or lends its two sections
+    /// where they stand ready, or else fills the slot's answer section with what the name gives.
     fn refer_or_find(
         &self,
         alloc: Global,
         name: &Name,
         kind: u16,
         slot: &mut Slot,
-    ) -> Result<Step, NoMemory>
+    ) -> Result<Reached<'_>, NoMemory>
         requires clear { slot.old ≡ no_answer }
-        ensures { IfOk result (λ step.
-            Refers (zone self.now) (sought (zone self.now) name.now kind) step slot.new) }
+        ensures { IfOk result (λ reached.
+            Refers (zone self.now) (sought (zone self.now) name.now kind) reached slot.new) }
     {
         match self.step(alloc, name, kind, &mut slot.answer)? {
             Step::Cut => {
@@ -296,9 +297,9 @@ pub trait ZoneStore {
                     slot.authority.as_slice(),
                     &mut slot.additional,
                 )?;
-                Ok(Step::Cut)
+                Ok(Reached::Cut)
             }
-            Step::Found(find) => Ok(Step::Found(find)),
+            Step::Found(find) => Ok(Reached::Found(find)),
         }
     }
 }

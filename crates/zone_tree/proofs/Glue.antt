@@ -1,5 +1,6 @@
 -- The addresses of hosts behind an answer and others, from those behind nothing.
 use Rattle.std.proofs.Common.{◌≡◌, ℕ, ◌+◌, ◌-◌, ◌<◌, Bool, true, false, cond, List, [], ◌∷◌, ◌++◌, length, take, drop, get_or, Option, Some, None, refl, sym, ap, subst, ◌∙◌, arith, inl, inr, map, append_assoc, length-append, eqb-true}
+use Rattle.std.specs.Global.{Box}
 use Rattle.std.specs.Prelude.{◌⊎◌, ◌&&◌, ◌||◌, ◌==◌, IfSome, slice_get}
 use Rattle.std.specs.List.{filter, list_any}
 use Rattle.std.proofs.lemmas.Bool.{cond-true, cond-false}
@@ -17,7 +18,8 @@ use Rattle.zone_lookup.specs.Ready.{IsDenial, IsReady}
 use Rattle.zone_lookup.specs.ZoneAnswer.{denying, host_of, referral, sought, Refers, with_addresses, with_hosts, with_set}
 use Rattle.zone_lookup.proofs.PlainList.{set_of}
 use Rattle.zone_lookup.proofs.Chaining.{referral_is, with_sections}
-use Rattle.zone_lookup.specs.declared.find.Step.{Step}
+use Rattle.zone_lookup.specs.declared.find.Reached.{Reached}
+use Rattle.zone_tree.specs.Ready.{AreReferrals, IsReferralAt}
 use Rattle.zone_tree.specs.Sets.{is_kind, meet, picked}
 use Rattle.zone_tree.specs.Tree.{AreHosts, AreNames, AreSets, IsHostsOf, IsTree}
 use Rattle.zone_tree.specs.declared.tree.Tree.{Tree}
@@ -265,8 +267,8 @@ referral_known zone slot servers hosts authority additional e was add known =
     (add ∙ ap (λ (rs : List RecordData). rs ++ hosts) none ∙ known ∙ ap (with_hosts zone [] []) (sym same) ∙ ap (λ (rs : List RecordData). with_hosts zone [] rs authority) (sym none))
 
 -- a zone by another name
-pub refers_in : (x y : Zone) (name : List (List ℕ)) (kind : ℕ) (s : Step) (a : AnswerData) → x ≡ y → Refers x (sought x name kind) s a → Refers y (sought y name kind) s a
-refers_in x y name kind s a e r = subst (λ (z : Zone). Refers z (sought z name kind) s a) e r
+pub refers_in : (x y : Zone) (name : List (List ℕ)) (kind : ℕ) (reached : Reached) (a : AnswerData) → x ≡ y → Refers x (sought x name kind) reached a → Refers y (sought y name kind) reached a
+refers_in x y name kind reached a e r = subst (λ (z : Zone). Refers z (sought z name kind) reached a) e r
 
 -- what was copied by number, where none of it meets the answer or what was there
 pub known_apart : (zone : Zone) (answer old rs hosts new : List RecordData) → hosts ≡ with_hosts zone [] [] rs → meet answer hosts ≡ false → meet old hosts ≡ false → new ≡ old ++ hosts → new ≡ with_hosts zone answer old rs
@@ -287,13 +289,38 @@ rest_is old set all start e f =
     (λ j. take (length (f j) - e j) (drop (e j) (f j))) ∙ ap (take (length (old ++ set) - length old)) (drop_at old set (length old) refl)
     ∙ take_all (length (old ++ set) - length old) set (omega (arith, length-append old set))
 
--- servers and the addresses of their hosts that stand ready
-pub ready_from : (zone : Zone) (servers hosts : List RecordData) (tail : TailData) → servers ≡ set_at zone zone.origin 2 → hosts ≡ with_hosts zone [] [] (set_at zone zone.origin 2)
-    → tail ≡ record { authority = servers; additional = hosts } → IsReady zone [] tail
-ready_from zone servers hosts tail s h e = record {
-  authority = ap (λ (t : TailData). t.authority) e ∙ s;
-  additional = ap (λ (t : TailData). t.additional) e ∙ h;
+-- the NS of a name and the addresses of their hosts, as a tail of copies of both
+pub referral_tail : (tree : Tree) (number : ℕ) (servers hosts front back : List RecordData) (tail : TailData) → IsReferralAt tree number (record { authority = servers; additional = hosts }) → front ≡ servers → back ≡ hosts
+    → tail ≡ record { authority = front; additional = back } → IsReferralAt tree number tail
+referral_tail tree number servers hosts front back tail r f b e name n =
+    let s = r name n in
+    record {
+      authority = ap (λ (t : TailData). t.authority) e ∙ f ∙ s.authority;
+      additional = ap (λ (t : TailData). t.additional) e ∙ b ∙ s.additional;
+    }
+
+-- those of the origin
+pub ready_from : (tree : Tree) (number : ℕ) (tail : TailData) → IsReferralAt tree number tail → IsNamed tree.table number tree.zone.origin → IsReady tree.zone [] tail
+ready_from tree number tail r n = let s = r tree.zone.origin n in record { authority = s.authority; additional = s.additional }
+
+-- with the next name's
+pub referrals_more : (tree : Tree) (tails : List (Option (Box TailData))) (tail : Option (Box TailData)) (i : ℕ) → AreReferrals tree tails i → IfSome tail (λ t. IsReferralAt tree i t.value) → AreReferrals tree (tails ++ tail ∷ []) (i + 1)
+referrals_more tree tails tail i r is = record {
+  as_many = omega (arith, r.as_many, length-append tails (tail ∷ []));
+  each = λ j other at. elim (get_either tails tail other j at) [
+    | inl old ↦ r.each j other old
+    | inr new ↦
+        let here : IfSome tail (λ t. IsReferralAt tree j t.value) = subst (λ (k : ℕ). IfSome tail (λ t. IsReferralAt tree k t.value)) (sym r.as_many ∙ sym new.0) is in
+        subst (λ (o : Option (Box TailData)). IfSome o (λ t. IsReferralAt tree j t.value)) new.1 here
+  ];
 }
+
+-- what stands ready at a number
+pub referral_kept : (tree : Tree) (tails : List (Option (Box TailData))) (number : ℕ) (kept : Option (Box TailData)) → AreReferrals tree tails (length tree.table) → number < length tree.table → kept ≡ get_or tails number kept
+    → IfSome kept (λ t. IsReferralAt tree number t.value)
+referral_kept tree tails number kept r lt is =
+    let inside : number < length tails = omega (arith, r.as_many, lt) in
+    r.each number kept (slice_get-get_or tails number kept inside ∙ ap Some (sym is))
 
 -- the same behind an answer that has none of the addresses
 pub ready_apart : (zone : Zone) (answer : List RecordData) (tail : TailData) → IsReady zone [] tail → meet answer tail.additional ≡ false → IsReady zone answer tail

@@ -5,7 +5,7 @@ use crate::tree::TreeZone;
 use dns_data::{Name, NoMemory, Record, RecordRoom, Slot, kind};
 use dns_write::Tail;
 use std::alloc::Global;
-use zone_lookup::{Find, Step, ZoneStore, nothing};
+use zone_lookup::{Find, Reached, ZoneStore, nothing};
 
 impl ZoneStore for TreeZone {
     ghost zone = { λ store. store };
@@ -149,29 +149,27 @@ impl ZoneStore for TreeZone {
         name: &Name,
         kind: u16,
         slot: &mut Slot,
-    ) -> Result<Step, NoMemory> {
+    ) -> Result<Reached<'_>, NoMemory> {
         let tree = &self.tree;
         let Some(encloser) = tree.table.find_longest(name) else {
-            return Ok(Step::Found(nothing()));
+            return Ok(Reached::Found(nothing()));
         };
         let Some(cut) = tree.cuts[encloser.number] else {
             let find = tree.find(alloc, name, encloser, kind, &mut slot.answer)?;
-            return Ok(Step::Found(find));
+            return Ok(Reached::Found(find));
         };
+        if let Some(tail) = &self.referrals[cut] {
+            return Ok(Reached::Lent(tail));
+        }
         let records = tree.zone.records.as_slice();
-        copy_kind(
-            alloc,
-            records,
-            tree.sets[cut].as_slice(),
-            kind::NS,
-            &mut slot.authority,
-        )?;
+        let set = tree.sets[cut].as_slice();
+        copy_kind(alloc, records, set, kind::NS, &mut slot.authority)?;
         let Some(hosts) = &tree.hosts[cut] else {
             let servers = slot.authority.as_slice();
             self.push_hosts(alloc, &[], servers, &mut slot.additional)?;
-            return Ok(Step::Cut);
+            return Ok(Reached::Cut);
         };
         copy_numbers(alloc, records, hosts.as_slice(), &mut slot.additional)?;
-        Ok(Step::Cut)
+        Ok(Reached::Cut)
     }
 }

@@ -4,7 +4,7 @@ ghost use Rattle.zone_tree.specs.Tree.{IsNumbered, IsTree};
 use crate::cuts::cuts_of;
 use crate::hosts::hosts_of;
 use crate::node::{Node, Numbers};
-use crate::ready::{denial_of, servers_of};
+use crate::ready::{denial_of, referrals_of, servers_of};
 use crate::sets::sets_of;
 use crate::shape::add_owners;
 use dns_data::{Name, NoMemory, Zone};
@@ -40,6 +40,8 @@ pub struct TreeZone {
     pub(crate) servers: Option<Tail>,
     /// The SOA of a denial, where there is one.
     pub(crate) denial: Option<Tail>,
+    /// By number, the NS of a cut and the addresses of their hosts, as far as they stand ready.
+    pub(crate) referrals: Vec<Option<Box<Tail>>>,
 }
 
 impl Model for TreeZone {
@@ -50,7 +52,7 @@ impl Model for TreeZone {
 
     ghost view = { λ t. t.tree.zone };
 
-    ghost invariant = { λ t. AreReady t.tree t.servers t.denial };
+    ghost invariant = { λ t. AreReady t.tree t.servers t.denial t.referrals.items };
 }
 
 impl TreeZone {
@@ -61,10 +63,12 @@ impl TreeZone {
         let tree = Tree::new(alloc, zone)?;
         let servers = servers_of(alloc, &tree)?;
         let denial = denial_of(alloc, &tree)?;
+        let referrals = referrals_of(alloc, &tree)?;
         Ok(TreeZone {
             tree,
             servers,
             denial,
+            referrals,
         })
     }
 }

@@ -2,6 +2,7 @@
 
 What is expected follows from the rules of master files (docs/plugins/file.md) and is worked out here, never by the program.
 """
+import contextlib
 import os
 import subprocess
 import sys
@@ -40,26 +41,51 @@ def refused(rows, room, title, text, line):
     rows.equal(f"{title}: {line}", got, (1, [line]))
 
 
-def served(rows, room, title, text, *asked):
-    """A row: the zone is served, and each question gets these lines, the RCODE and the answer's records."""
+def held(process):
+    """How many MiB of memory a process has had at most."""
+    with open(f"/proc/{process.pid}/status") as status:
+        return next((int(line.split()[1]) // 1024 for line in status if line.startswith("VmHWM:")), 0)
+
+
+@contextlib.contextmanager
+def started(room, text):
+    """The port and the process of a server that serves the zone, or doesn't in time; it ends with the `with` block."""
     port, words = server(room, text)
     process = subprocess.Popen(words, stdout=subprocess.DEVNULL, stderr=subprocess.DEVNULL)
     try:
-        # What asks whether it serves by now is another client, since its replies may come late.
+        # What asks whether it serves by now is a client of its own, since its replies may come late.
         with Client(port) as early:
             end = time.monotonic() + SECONDS
             while time.monotonic() < end and process.poll() is None and early.ask(query_bytes(["hostile.test", "SOA"]), 0.2) is None:
                 time.sleep(0.02)
+        yield port, process
+    finally:
+        process.kill()
+        process.wait(SECONDS)
+
+
+def served(rows, room, title, text, *asked, most=512):
+    """A row: the zone is served within so many MiB, and each question gets these lines, the RCODE and the answer's records."""
+    with started(room, text) as (port, process):
         with Client(port) as client:
             got = []
             for name, kind, _ in asked:
                 reply = client.ask(query_bytes([name, kind, "bufsize=4096"]), 5.0)
                 lines = reply_lines(reply) if reply else ["silence"]
                 got.append([lines[0].split(" ")[0]] + [line for line in lines if line.startswith("answer ")])
-        rows.equal(title, got, [list(lines) for _, _, lines in asked])
-    finally:
-        process.kill()
-        process.wait(SECONDS)
+        rows.equal(title, (got, max(most, held(process))), ([list(lines) for _, _, lines in asked], most))
+
+
+def spent(room, text):
+    """CPU seconds until a zone is served."""
+    with started(room, text) as (_, process), open(f"/proc/{process.pid}/stat") as stat:
+        return sum(map(int, stat.read().rsplit(")", 1)[1].split()[11:13])) / os.sysconf("SC_CLK_TCK")
+
+
+def as_cheap(rows, room, title, text, other, most):
+    """A row: until a zone is served it takes at most so many times the CPU time of another one."""
+    ratio = spent(room, text) / max(spent(room, other), 0.02)
+    rows.equal(title, max(most, round(ratio, 1)), most)
 
 
 def digits(number, width):
@@ -104,6 +130,24 @@ def many(count):
     return "@ NS aaaa\n" + "".join(f"\tNS {digits(number, 4)}\n" for number in range(1, count))
 
 
+def shared(count):
+    """So many cuts, each with the same 32 hosts of 32 addresses."""
+    hosts = "".join(f"h{host:02}" + "".join(f"\tA 10.{host}.0.{number}\n" for number in range(32)) for host in range(32))
+    return hosts + "".join(f"cut{number}" + "".join(f"\tNS h{host:02}\n" for host in range(32)) for number in range(count))
+
+
+def far_below(count):
+    """So many cuts of one label below 110 labels, each with a host that has all of them too."""
+    return "$ORIGIN " + "b." * 110 + "hostile.test.\n" + "".join(f"{digits(number, 3)} 60 NS {digits(number, 3)}\n" for number in range(count))
+
+
+def scattered(count, kind):
+    """So many names with records of a type, each with 32 hosts, which each have 55 labels of their own."""
+    origins = (".".join(digits(host * 55 + label, 3) for label in range(55)) for host in range(32))
+    cuts = "".join(f"cut{number}.hostile.test. 60 {kind} h\n" for number in range(count))
+    return "".join(f"$ORIGIN {origin}.hostile.test.\n{cuts}" for origin in origins)
+
+
 def zones(rows, room):
     label = "l" * 63
     served(rows, room, "a label of 63 bytes is one", HEAD + label + " 60 A 192.0.2.2\n",
@@ -127,6 +171,15 @@ def zones(rows, room):
            ("b.*.*.hostile.test", "A", ["NOERROR", "answer b.*.*.hostile.test. 60 IN A 192.0.2.2"]), ("b.c.d.hostile.test", "A", ["NOERROR"]))
     text = HEAD + "a 60 TXT ( \n" + '"x"\n' * 200 + ")\n"
     served(rows, room, "a record of 200 lines is one", text, ("a.hostile.test", "TXT", ["NOERROR", "answer a.hostile.test. 60 IN TXT " + " ".join(['"x"'] * 200)]))
+    served(rows, room, "2,000 cuts whose 32 hosts have 32 addresses each don't take memory by the product", HEAD + shared(2_000),
+           ("x.cut0.hostile.test", "A", ["NOERROR"]), ("x.cut1999.hostile.test", "A", ["NOERROR"]), ("h31.hostile.test", "A",
+           ["NOERROR"] + [f"answer h31.hostile.test. 60 IN A 10.31.0.{number}" for number in range(32)]), most=128)
+    served(rows, room, "40,000 cuts below 110 labels don't take memory by their labels", HEAD + far_below(40_000), ("x.hostile.test", "A", ["NXDOMAIN"]),
+           ("x.aaa." + "b." * 110 + "hostile.test", "A", ["NOERROR"]), most=128)
+    own = HEAD + scattered(800, "NS")
+    served(rows, room, "800 cuts whose 32 hosts have labels of their own", own,
+           ("x.cut0.hostile.test", "A", ["NOERROR"]), ("x.cut799.hostile.test", "A", ["NOERROR"]), most=128)
+    as_cheap(rows, room, "they take no more than five times the time of as many records that are no cuts", own, HEAD + scattered(800, "PTR"), 5)
     # As many records as a zone may have: the SOA, an address, and 99,998 NS.
     full = "@ 60 IN SOA ns admin 1 7200 3600 1209600 60\nx 60 A 192.0.2.2\n" + many(99_998)
     served(rows, room, "a zone of 100,000 records", full, ("x.hostile.test", "A", ["NOERROR", "answer x.hostile.test. 60 IN A 192.0.2.2"]))

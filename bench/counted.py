@@ -1,8 +1,9 @@
 """What the benches share that count the instructions of a program of their own over a few crates."""
 import os
-import re
 import shutil
 import subprocess
+
+from callgrind import collected, under
 
 TOP = os.path.dirname(os.path.dirname(os.path.abspath(__file__)))
 
@@ -44,6 +45,5 @@ def built(folder, name, crates, needs, source, words):
 def cost(folder, program, *words):
     """User instructions of one run by these words, and what it printed."""
     out = os.path.join(folder, "callgrind.out")
-    asked = ["valgrind", "--tool=callgrind", f"--callgrind-out-file={out}", program, *map(str, words)]
-    done = subprocess.run(asked, check=True, capture_output=True, text=True)
-    return int(re.search(r"Collected : (\d+)", done.stderr).group(1)), done.stdout
+    done = subprocess.run([*under(out), program, *map(str, words)], check=True, capture_output=True, text=True)
+    return collected(done.stderr), done.stdout

@@ -13,6 +13,8 @@ import sys
 import tempfile
 import time
 
+from callgrind import collected, under
+
 TOP = os.path.dirname(os.path.dirname(os.path.abspath(__file__)))
 PROGRAM = os.path.join(TOP, "crates", "dnschain", "out", "dnschain")
 FEW, MANY = 2_000, 22_000
@@ -36,14 +38,22 @@ TEN = name(*[b"label%d" % number for number in range(8)], b"example", b"org")
 WHOAMI = ".:%d {\n\twhoami\n}\n"
 RELOAD = ".:%d {\n\treload\n\twhoami\n}\n"
 ZONE = "example.org:%d {\n\tfile FOLDER/db\n}\n"
+LONG_ZONE = "example.org:%d {\n\tfile FOLDER/long\n}\n"
 HOST = name(b"h617", b"example", b"org")
 WILD = name(b"x", b"w", b"example", b"org")
 ABSENT = name(b"nope", b"example", b"org")
 BELOW = name(b"x", b"sub", b"example", b"org")
-DB = "\n".join([
-    "$TTL 300", "@ SOA ns admin 1 7200 3600 1209600 60", "@ NS ns", "ns A 192.0.2.53", "*.w A 192.0.2.10", "sub NS ns.sub", "ns.sub A 192.0.2.54",
-    *(f"h{k} A 10.9.{k // 256}.{k % 256}" for k in range(1000)), "",
-])
+CUT = name(b"sub", b"example", b"org")
+AS_LONG = name(b"abcd", b"sub", b"example", b"org")
+
+
+def zone(form):
+    """A zone of 1,000 hosts, whose names are of this form."""
+    return "\n".join([
+        "$TTL 300", "@ SOA ns admin 1 7200 3600 1209600 60", "@ NS ns", "ns A 192.0.2.53", "*.w A 192.0.2.10", "sub NS ns.sub", "ns.sub A 192.0.2.54",
+        *(f"{form.format(k)} A 10.9.{k // 256}.{k % 256}" for k in range(1000)), "",
+    ])
+
 
 HOSTS = ".:%d {\n\thosts FOLDER/hosts\n}\n"
 MANY_HOSTS = ".:%d {\n\thosts FOLDER/many\n}\n"
@@ -58,7 +68,7 @@ def hosts(count):
     return "".join(f"10.9.{k // 2048}.{k // 8 % 256} " + " ".join(f"h{j}.example.org" for j in range(k, k + 8)) + "\n" for k in range(0, count, 8))
 
 
-FILES = {"db": DB, "hosts": hosts(1000), "many": hosts(40000)}
+FILES = {"db": zone("h{}"), "long": zone("host{:04}"), "hosts": hosts(1000), "many": hosts(40000)}
 
 CASES = [
     ("whoami, 2 labels", WHOAMI, query(TWO)),
@@ -70,6 +80,9 @@ CASES = [
     ("the same by a wildcard", ZONE, query(WILD)),
     ("the same: NXDOMAIN with SOA", ZONE, query(ABSENT)),
     ("the same: a referral with its address", ZONE, query(BELOW)),
+    ("the same for the cut itself", ZONE, query(CUT)),
+    ("the same where the zone's names are as long as the asked one", LONG_ZONE, query(AS_LONG)),
+    ("the zone's origin, without such a record, with the SOA", ZONE, query(TWO)),
     ("a hosts file of 1,000 names: A", HOSTS, query(HOST)),
     ("the same of 40,000 names", MANY_HOSTS, query(HOST)),
     ("the same: a name that isn't listed, SERVFAIL", MANY_HOSTS, query(ABSENT)),
@@ -93,7 +106,7 @@ def count(text, message, queries, folder, answered):
             file.write(lines)
     out = os.path.join(folder, "callgrind.out")
     server = subprocess.Popen(
-        ["valgrind", "--tool=callgrind", f"--callgrind-out-file={out}", PROGRAM, "serve", "--conf", conf, "--queries", str(queries)],
+        [*under(out), PROGRAM, "serve", "--conf", conf, "--queries", str(queries)],
         stdout=subprocess.DEVNULL, stderr=subprocess.PIPE,
     )
     try:
@@ -117,8 +130,7 @@ def count(text, message, queries, folder, answered):
     finally:
         if server.poll() is None:
             server.kill()
-    said = server.stderr.read().decode()
-    return int(re.search(r"Collected : (\d+)", said).group(1)), out
+    return collected(server.stderr.read().decode()), out
 
 
 def functions(folder):

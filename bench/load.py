@@ -6,7 +6,9 @@ import subprocess
 
 # Threads that keep so many queries under way on each of so many sockets over UDP, sent and received by bursts, so that a server
 # has the next query before it has answered the last one: PORT THREADS SOCKETS WINDOW QUERIES FILE. The file has the queries, each
-# behind its length. Prints how many were sent and how many replies came.
+# behind its length. Prints how many were sent and how many replies came. With RCODE ANSWER AUTHORITY ADDITIONAL behind, the id of a
+# query is its place in the file, and it ends with 3 and writes the reply at one that isn't of the query of its id, or has another RCODE
+# or other numbers of records.
 ASKS = r"""
 #define _GNU_SOURCE
 #include <arpa/inet.h>
@@ -19,7 +21,7 @@ ASKS = r"""
 #include <unistd.h>
 enum { MOST = 64, QUERIES = 4096 };
 static struct iovec queries[QUERIES];
-static int count, port, sockets, window;
+static int count, port, sockets, window, checked, wanted[4];
 static long asked;
 struct client { pthread_t thread; long sent, got, next; };
 static void put(struct client *c, int fd, long more, struct mmsghdr *out) {
@@ -30,6 +32,19 @@ static void put(struct client *c, int fd, long more, struct mmsghdr *out) {
         if (now <= 0) break;
         c->sent += now; c->next += now; more -= now;
     }
+}
+static int right(const unsigned char *reply, unsigned size) {
+    unsigned id = reply[0] << 8 | reply[1];
+    if (size < 12 || id >= (unsigned)count || !(reply[2] & 0x80) || (reply[3] & 15) != wanted[0]) return 0;
+    for (int k = 1; k < 4; k++) if ((reply[4 + 2 * k] << 8 | reply[5 + 2 * k]) != wanted[k]) return 0;
+    const unsigned char *query = queries[id].iov_base;
+    unsigned length = queries[id].iov_len;
+    return size >= length && memcmp(reply + 4, query + 4, 2) == 0 && memcmp(reply + 12, query + 12, length - 12) == 0;
+}
+static void check(const unsigned char *reply, unsigned size) {
+    if (right(reply, size)) return;
+    for (unsigned k = 0; k < size; k++) fprintf(stderr, "%02x", reply[k]);
+    exit(3);
 }
 static void *client(void *one) {
     struct client *c = one;
@@ -55,9 +70,10 @@ static void *client(void *one) {
             int now = recvmmsg(p[i].fd, in, MOST, MSG_DONTWAIT, NULL);
             if (now <= 0) continue;
             some = 1; c->got += now;
+            for (int k = 0; checked && k < now; k++) check(replies[k], in[k].msg_len);
             put(c, p[i].fd, now < asked - c->sent ? now : asked - c->sent, out);
         }
-        if (!some && poll(p, sockets, 1000) == 0) break;
+        if (!some && poll(p, sockets, checked ? 5000 : 1000) == 0) break;
     }
     return NULL;
 }
@@ -71,6 +87,8 @@ int main(int n, char **a) {
         count++;
     }
     if (count == 0) return 1;
+    checked = n > 10;
+    for (int k = 0; checked && k < 4; k++) wanted[k] = atoi(a[7 + k]);
     struct client c[16] = {0};
     int threads = atoi(a[2]);
     port = atoi(a[1]); sockets = atoi(a[3]); window = atoi(a[4]); asked = atol(a[5]) / threads;
@@ -115,8 +133,8 @@ def queries_file(folder, queries):
     return path
 
 
-def spent_by_all(pid):
-    """User and system time of a process and of those below it, in seconds."""
+def family(pid):
+    """A process and those below it."""
     parents = {}
     for entry in os.listdir("/proc"):
         if entry.isdigit():
@@ -125,9 +143,22 @@ def spent_by_all(pid):
                     parents[int(entry)] = int(file.read().rsplit(")", 1)[1].split()[1])
             except OSError:
                 pass
-    family, more = {pid}, {pid}
+    found, more = {pid}, {pid}
     while more:
-        more = {child for child, parent in parents.items() if parent in more} - family
-        family |= more
-    times = [spent(member) for member in family]
-    return [sum(each) for each in zip(*times)]
+        more = {child for child, parent in parents.items() if parent in more} - found
+        found |= more
+    return sorted(found)
+
+
+def spent_by_all(pid):
+    """User and system time of a process and of those below it, in seconds."""
+    return [sum(each) for each in zip(*map(spent, family(pid)))]
+
+
+def resident_by_all(pid):
+    """The resident memory of a process and of those below it, in KiB, of a page that several share its part."""
+    total = 0
+    for member in family(pid):
+        with open(f"/proc/{member}/smaps_rollup") as file:
+            total += next(int(line.split()[1]) for line in file if line.startswith("Pss:"))
+    return total

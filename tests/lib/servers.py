@@ -1,11 +1,14 @@
-"""The program, NSD and Knot, each on a port of its own with the same zones, for tests and benches that hold them against one another."""
+"""The program, NSD and Knot, each on a port of its own with the same zones, for tests and benches that hold them against one another.
+
+Each may be started by a command that stands in front of its own words, such as one that counts its instructions.
+"""
 import os
 import shutil
 import socket
 import subprocess
 import time
 
-from program import PROGRAM, free_port
+from program import PROGRAM, Client, free_port
 
 START_SECONDS = 60
 NSD = shutil.which("nsd") or ("/usr/sbin/nsd" if os.path.exists("/usr/sbin/nsd") else None)
@@ -67,10 +70,12 @@ class Server:
         except (TimeoutError, ConnectionRefusedError):
             return None
 
-    def is_serving(self, query):
-        end = time.monotonic() + START_SECONDS
+    def is_serving(self, query, seconds=START_SECONDS):
+        """Whether a query gets NOERROR in time; each try is a client of its own, since its reply may come late."""
+        end = time.monotonic() + seconds
         while time.monotonic() < end and self.process.poll() is None:
-            reply = self.ask(query, 0.2)
+            with Client(self.port) as client:
+                reply = client.ask(query, 0.2)
             if reply is not None and reply[3] & 15 == 0:
                 return True
             time.sleep(0.05)
@@ -95,25 +100,25 @@ def write(room, name, text):
     return path
 
 
-def dnschain(room, corefile):
+def dnschain(room, corefile, front=()):
     """The program by this Corefile, whose `{port}` becomes its port."""
     port = free_port()
     conf = write(room, "Corefile", corefile.replace("{port}", str(port)))
-    return Server("dnschain", [PROGRAM, "serve", "--conf", conf], port, room)
+    return Server("dnschain", [*front, PROGRAM, "serve", "--conf", conf], port, room)
 
 
-def nsd(room, zones):
+def nsd(room, zones, front=()):
     """NSD with the zones of these origins and files."""
     port = free_port()
     lines = "".join(f'zone:\n  name: "{origin}"\n  zonefile: "{path}"\n' for origin, path in zones)
     conf = write(room, "nsd.conf", NSD_CONF.format(port=port, room=room) + lines)
-    return Server("NSD", [NSD, "-d", "-c", conf], port, room)
+    return Server("NSD", [*front, NSD, "-d", "-c", conf], port, room)
 
 
-def knot(room, zones):
+def knot(room, zones, front=()):
     """Knot with the zones of these origins and files."""
     port = free_port()
     os.makedirs(os.path.join(room, "knot"), exist_ok=True)
     lines = "".join(f'  - domain: "{origin}"\n    file: "{path}"\n' for origin, path in zones)
     conf = write(room, "knot.conf", KNOT_CONF.format(port=port, room=room) + lines)
-    return Server("Knot", [KNOT, "-c", conf], port, room)
+    return Server("Knot", [*front, KNOT, "-c", conf], port, room)

@@ -1,24 +1,33 @@
 # The commands of this repository. `make` alone lists them.
 CONF = examples/whoami/Corefile
+PORT = 5300
 
 help:
 	@sed -n 's/^## //p' Makefile
 
-## make build        proves and builds the program, crates/dnschain/out/dnschain, and says at which crate it is
-build:
-	tools/build
+## make run          builds without proof, some three minutes, and serves examples/whoami on port 5300; CONF=FILE another Corefile, PORT=N
+run:
+	@tools/run-unproved $(CONF) $(PORT)
 
-## make run          builds, and serves examples/whoami on port 5300; CONF=FILE serves another Corefile
-run: build
-	./dnschain serve --conf $(CONF)
+## make build        proves and builds the program, crates/dnschain/out/dnschain, and says how far it is
+build:
+	@tools/build
+
+## make serve        builds where something has changed, and serves a Corefile with what was proved: CONF=FILE PORT=N
+serve: build
+	./dnschain serve --conf $(CONF) --port $(PORT)
 
 ## make conf-check   builds, and checks a Corefile without serving it: CONF=FILE
 conf-check: build
 	tools/check-corefile $(CONF)
 
-## make test         the gate: every proof from nothing, then the scripts under tests/
+## make test         the gate: every proof and test, the edits of what has changed, and the scripts under tests/
 test:
 	.ci/run
+
+## make test-all     the gate with every must-fail edit, as before a release
+test-all:
+	.ci/run all
 
 ## make check NAME=  proves one crate, as dns_wire
 check:
@@ -28,4 +37,4 @@ check:
 fmt:
 	for crate in crates/*/; do (cd $$crate && rt fmt); done
 
-.PHONY: help build run conf-check test check fmt
+.PHONY: help run build serve conf-check test test-all check fmt

@@ -17,6 +17,7 @@ import time
 sys.path.insert(0, os.path.join(os.path.dirname(os.path.abspath(__file__)), "lib"))
 from message import query_bytes, reply_lines  # noqa: E402
 from program import PROGRAM, SECONDS, TOP, Rows, free_port, needs_program  # noqa: E402
+from upstream import Upstream  # noqa: E402
 
 FOLDER = os.path.join(TOP, "tests", "scenarios")
 PROBE = query_bytes(["probe.invalid", "A"])
@@ -39,10 +40,11 @@ def steps_of(text):
 
 
 class Run:
-    """One run of the program, with a folder of its own. `{port}`, `{port2}` and `{dir}` in a text are what they are here."""
+    """One run of the program, with a folder of its own. `{port}`, `{port2}`, `{dir}` and the ports of its upstreams in a text are what they are here."""
 
     def __init__(self, room):
         self.room, self.process, self.words, self.env, self.client = room, None, [], dict(os.environ), 0
+        self.upstreams = {}
         self.ports = {"port": free_port(), "port2": free_port()}
         self.noted, self.read = [], 0
         self.errors = os.path.join(room, ".stderr")
@@ -88,6 +90,29 @@ class Run:
             except (TimeoutError, ConnectionRefusedError):
                 return None, client.getsockname()[1]
 
+    def ask_tcp(self, message, seconds=2.0, address="127.0.0.1", port="port"):
+        """The same over a connection of its own."""
+        family = socket.AF_INET6 if ":" in address else socket.AF_INET
+        with socket.socket(family, socket.SOCK_STREAM) as client:
+            client.settimeout(seconds)
+            if family == socket.AF_INET:
+                client.bind((address, 0))
+            try:
+                client.connect(("::1" if family == socket.AF_INET6 else "127.0.0.1", self.ports[port]))
+                own = client.getsockname()[1]
+                client.sendall(len(message).to_bytes(2, "big") + message)
+                stream = client.makefile("rb")
+                head = stream.read(2)
+                reply = stream.read(int.from_bytes(head, "big")) if len(head) == 2 else b""
+                return reply or None, own
+            except (TimeoutError, ConnectionError):
+                return None, client.getsockname()[1]
+
+    def upstream(self, name, lines):
+        """Starts a scripted upstream, whose port is `{NAME}`."""
+        self.upstreams[name] = Upstream(lines)
+        self.ports[name] = self.upstreams[name].port
+
     def next_note(self, line):
         """The next line on standard error, in time. A look that comes to the same as the one before repeats its line: unless that is
         the one that is waited for, repeated lines are passed over."""
@@ -108,6 +133,8 @@ class Run:
             self.process.kill()
         if self.process is not None:
             self.process.wait(SECONDS)
+        for upstream in self.upstreams.values():
+            upstream.end()
 
 
 def has_ipv6():
@@ -119,21 +146,35 @@ def has_ipv6():
         return False
 
 
+def query_words(words):
+    """The words of a query without those that say how it is asked, and these: the transport, from which address and to which port."""
+    how = {"over": "udp", "from": "127.0.0.1", "to": "port"}
+    left, words = [], list(words)
+    while words:
+        word = words.pop(0)
+        if word in ("from", "to"):
+            how[word] = words.pop(0)
+        elif word == "port2":
+            how["to"] = word
+        elif word == "tcp":
+            how["over"] = word
+        else:
+            left.append(word)
+    return left, how
+
+
 def take_query(run, rows, line, words, body):
-    address = "127.0.0.1"
-    port = "port"
+    words, how = query_words(words)
+    address = how["from"]
     seconds = 0.3 if body == ["silence"] else 2.0
-    if "from" in words:
-        address = words[words.index("from") + 1]
-        words = words[:words.index("from")]
-    if words[-1] == "port2":
-        port, words = words[-1], words[:-1]
     if ":" in address and not has_ipv6():
         print(f"skipped {line}: there is no IPv6 on loopback")
         return
     message = bytes.fromhex("".join(words[2:])) if words[1] == "hex" else query_bytes(words[1:])
-    run.started()
-    got, client = run.ask(message, seconds, address, port)
+    if how["to"] not in run.upstreams:
+        run.started()
+    asks = run.ask_tcp if how["over"] == "tcp" else run.ask
+    got, client = asks(message, seconds, address, how["to"])
     run.client = client
     want = [run.filled(text, client=address, **{"client-port": client}) for text in body]
     if got is None:
@@ -164,6 +205,12 @@ def take_step(run, rows, title, line, body):
         run.env[name] = value
     elif verb == "query":
         take_query(run, rows, text, words, body)
+    elif verb == "wait":
+        time.sleep(min(float(rest), SECONDS))
+    elif verb == "upstream":
+        run.upstream(rest, body)
+    elif verb == "asked":
+        rows.equal(text, run.upstreams[rest].take_asked(), body)
     elif verb == "noted":
         run.started()
         rows.equal(text, run.next_note(run.filled(rest, **{"client-port": run.client})), run.filled(rest, **{"client-port": run.client}))
@@ -222,6 +269,7 @@ def run_try(rows, example):
     rows.row(f"{name}: TRY has a query", any(what == "$" and command.startswith("dig ") for what, command, _ in tries))
     with tempfile.TemporaryDirectory() as room:
         run = Run(room)
+        run.words = ["--port", "{port}"]
         shutil.copytree(example, room, dirs_exist_ok=True)
         with open(os.path.join(room, "Corefile")) as file:
             run.put("Corefile", file.read().replace("5300", "{port}").split("\n")[:-1])

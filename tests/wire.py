@@ -7,6 +7,7 @@ import time
 sys.path.insert(0, os.path.join(os.path.dirname(os.path.abspath(__file__)), "lib"))
 sys.path.append("/usr/lib/python3/dist-packages")
 from program import Client, Rows, Served, needs_program  # noqa: E402
+from wire_format import name, spells  # noqa: E402
 
 try:
     import dns.exception
@@ -74,20 +75,43 @@ def form_error(bytes_):
 
 
 def is_of(bytes_, reply):
-    """The reply has the query's id, QR, RD and CD, and the question as it came."""
+    """The reply has the query's id, QR, RD and CD, and the question as it came, letter for letter."""
+    question = name(bytes_, 12)[1] + 4
     return (
         reply[:2] == bytes_[:2]
         and reply[2] & 0xF9 == 0x80 | bytes_[2] & 1
         and reply[3] & 0x70 == bytes_[3] & 0x10
         and reply[4:6] == b"\x00\x01"
+        and reply[12:question] == bytes_[12:question]
     )
+
+
+class Quiet:
+    """Messages that get no reply. Behind each 100 of them a query is asked from the same port, and its reply is the first that comes."""
+
+    def __init__(self, port, wrong):
+        self.client, self.wrong, self.sent, self.asked = Client(port), wrong, [], 0
+
+    def send(self, bytes_):
+        self.client.send(bytes_)
+        self.sent.append(bytes_)
+        if len(self.sent) == 100:
+            self.settle()
+
+    def settle(self):
+        self.asked += 1
+        number = (self.asked % 65536).to_bytes(2, "big")
+        got = self.client.ask(number + GOOD[2:], 5)
+        if got is None or got[:2] != number or got[2:4] != b"\x85\x00":
+            self.wrong["silence"].extend(self.sent)
+        self.sent = []
 
 
 def main():
     needs_program()
     rows = Rows()
     made = random.Random(4)
-    wrong = {"header": [], "form": [], "reply": [], "dnspython reads the reply": [], "dnspython reads what was answered": []}
+    wrong = {"silence": [], "header": [], "form": [], "malformed": [], "well formed": [], "reply": [], "dnspython reads the reply": [], "dnspython reads what was answered": []}
     count = {"silence": 0, "notimp": 0, "formerr": 0, "answered": 0, "compared": 0}
     with Served(WHOAMI) as server:
         rows.row("the program serves", server.is_serving(GOOD))
@@ -135,7 +159,7 @@ def full_of_pointers(rows, server):
 
 def send_all(server, made, count, wrong):
     """Sends the messages one after another, each behind the reply to the one before. How many were sent in time."""
-    client = Client(server.port)
+    client, quiet = Client(server.port), Quiet(server.port, wrong)
     end = time.monotonic() + SECONDS
     for sent in range(MESSAGES):
         if time.monotonic() > end:
@@ -144,7 +168,7 @@ def send_all(server, made, count, wrong):
         bytes_ = mutated(made)
         want = expected(bytes_)
         if want == b"":
-            client.send(bytes_)
+            quiet.send(bytes_)
             count["silence"] += 1
             continue
         got = client.ask(bytes_, 2)
@@ -154,6 +178,8 @@ def send_all(server, made, count, wrong):
             client = Client(server.port)
             got = client.ask(bytes_, 5)
         check(bytes_, want, got, count, wrong)
+    quiet.settle()
+    quiet.client.socket.close()
     client.socket.close()
     return MESSAGES
 
@@ -169,6 +195,10 @@ def check(bytes_, want, got, count, wrong):
         return
     if got == form_error(bytes_):
         count["formerr"] += 1
+        if spells(bytes_):
+            wrong["well formed"].append(bytes_)
+    elif not spells(bytes_):
+        wrong["malformed"].append(bytes_)
     elif is_of(bytes_, got):
         count["answered"] += 1
     else:

@@ -150,7 +150,8 @@ def main():
                     rows.row(f"{name} {kind} gets a reply", False)
                     continue
                 asked.append(((name, kind), Reply(message)))
-            rows.row(f"{len(questions)} questions over {ZONES} zones get a reply each", len(asked) == len(questions), len(asked))
+            others = ", ".join(server.name for server in servers[1:]) or "nobody, since neither NSD nor Knot is installed"
+            rows.row(f"{len(questions)} questions over {ZONES} zones get a reply each, to compare with {others}", len(asked) == len(questions), len(asked))
             for server in servers[1:]:
                 compare(rows, servers[0], server, asked)
             for name, found in (("NSD", NSD), ("Knot", KNOT)):

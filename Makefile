@@ -5,7 +5,7 @@ PORT = 5300
 help:
 	@sed -n 's/^## //p' Makefile
 
-## make run          builds without proof, some three minutes, and serves examples/whoami on port 5300; CONF=FILE another Corefile, PORT=N
+## make run          builds without proof, one to three minutes, and serves examples/whoami on port 5300; CONF=FILE another Corefile, PORT=N
 run:
 	@tools/run-unproved $(CONF) $(PORT)
 

@@ -151,8 +151,8 @@ pub fn run_back<'a, S: Side>(
     }
 }
 
-/// What a plugin behind a cache answers, with the answer of a reply in the slot, which is clear. None:
-/// it goes on.
+/// What a plugin behind a cache answers, with the answer of a reply in the slot, which is clear.
+/// None: it goes on.
 #[tactic(auto, unfolding(chain_meaning::specs::Mean::answer_of))]
 pub fn back_answer<'a>(
     alloc: Global,

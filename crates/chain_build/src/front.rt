@@ -114,8 +114,8 @@ pub fn run_uncached<'a, S: Side>(
     run_behind(alloc, chain, query, side, &mut kept, room, slot)
 }
 
-/// What a plugin in front of a cache answers, with the answer of a reply in the slot, which is clear.
-/// None: it goes on.
+/// What a plugin in front of a cache answers, with the answer of a reply in the slot, which is
+/// clear. None: it goes on.
 #[tactic(auto, unfolding(chain_meaning::specs::Mean::answer_of))]
 pub fn front_answer(
     alloc: Global,

@@ -48,8 +48,8 @@ pub(crate) fn evaluate<'a>(
     }
 }
 
-// What stands behind a cache: the rest is evaluated for the query behind the rules, and its reply is
-// restored.
+// What stands behind a cache: the rest is evaluated for the query behind the rules, and its reply
+// is restored.
 fn evaluate_behind<'a>(
     alloc: Global,
     chain: &BlockChain,
@@ -71,7 +71,8 @@ fn evaluate_behind<'a>(
     behind_rewrite(alloc, rules, &changed, &mut room, meant)
 }
 
-// What the plugins that answer mean, behind a cache and the rules of `rewrite`. The end is SERVFAIL.
+// What the plugins that answer mean, behind a cache and the rules of `rewrite`. The end is
+// SERVFAIL.
 fn evaluate_back<'a>(
     alloc: Global,
     back: &[BackAnswerer],

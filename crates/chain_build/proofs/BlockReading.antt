@@ -29,21 +29,9 @@ one_left all i d inside is = drop_more all i d inside ∙ ap (λ (x : Directive)
 -- how many patterns stand behind a directive
 counted : (r : Option Rank) (c : Context) (d : Directive) (p : Places) → (placed_by r c d p).patterns ≡ p.patterns + length (rank_patterns r d)
 counted None c d p = omega arith
-counted (Some rank.Passive) c d p = omega arith
-counted (Some rank.Reload) c d p = omega arith
-counted (Some rank.Errors) c d p = omega arith
-counted (Some rank.Log) c d p = omega arith
-counted (Some rank.Dns64) c d p = omega arith
-counted (Some rank.Acl) c d p = omega arith
-counted (Some rank.Any) c d p = omega arith
-counted (Some rank.Extra) c d p = omega arith
-counted (Some rank.Cache) c d p = omega arith
 counted (Some rank.Rewrite) c d p = omega arith
 counted (Some rank.Template) c d p = omega arith
-counted (Some rank.Hosts) c d p = omega arith
-counted (Some rank.File) c d p = omega arith
-counted (Some rank.Forward) c d p = omega arith
-counted (Some rank.Whoami) c d p = omega arith
+counted (Some other) c d p = omega arith
 
 module _ (context own : Context) (all : List Directive) (i : ℕ) (d : Directive) (old new : Places) (same : own ≡ context) (inside : i < length all) (is : d ≡ get_or all i d) where
   task_here : directive_task (behind_in own (take i all) old) d ≡ directive_task (behind_in context (take i all) old) d

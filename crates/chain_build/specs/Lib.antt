@@ -7,6 +7,7 @@ pub mod PlacesLaws
 pub mod Reading
 pub mod Replying
 pub mod Walking
+pub mod WalkingLaws
 -- what public clauses cite
 pub use Rattle.chain_build.specs.Chains.{IsMade, MakesPlans}
 pub use Rattle.chain_build.specs.Reading.{check_behind, is_of_pattern}

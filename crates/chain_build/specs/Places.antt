@@ -10,11 +10,13 @@ use Rattle.dns_data.specs.declared.file.FileText.{FileText}
 use Rattle.pattern_judging.specs.{IsFault, IsWell}
 use Rattle.chain_meaning.specs.Accepting.{Behind, block_task, directive_task, rank_patterns, told}
 use Rattle.chain_meaning.specs.Steps.{Context, Step, acl_steps, any_steps, context_of, error_steps}
-use Rattle.chain_meaning.specs.Steps.{file_plan, file_steps, hosts_plan, hosts_steps, log_steps}
-use Rattle.chain_meaning.specs.Steps.{plan_in, rewrite_steps, template_steps, whoami_steps}
+use Rattle.chain_meaning.specs.Steps.{file_plan, file_steps, hosts_plan, hosts_steps}
+use Rattle.chain_meaning.specs.Steps.{log_steps, plan_in, rewrite_steps, template_steps}
+use Rattle.chain_meaning.specs.Steps.{whoami_steps}
 use Rattle.chain_build.specs.declared.fault.CheckFault.{CheckFault}
 use Rattle.chain_build.specs.declared.fault.CheckFault.TheVariants as fault
 use Rattle.chain_build.specs.declared.places.Places.{Places}
+use Rattle.chain_build.specs.declared.places.Reading.{Reading}
 
 -- nothing was read, behind so many patterns
 abbrev pub no_places : ℕ → Places
@@ -86,6 +88,13 @@ back_in places =
 abbrev pub behind_in : Context → List Directive → Places → Behind
 behind_in context before places =
     record { patterns = places.patterns; before = before; context = context }
+
+-- what a directive is read in, and what it stands behind, where this was read of those before it
+abbrev pub context_at : Reading → Context
+context_at reading = context_in reading.zones.now reading.files.now
+
+abbrev pub behind_at : Reading → Places → Behind
+behind_at reading places = behind_in (context_at reading) reading.before.now places
 
 -- reading one more directive, behind those that stand before it
 abbrev pub ReadsMore : Context → List Directive → Directive → Places → Places

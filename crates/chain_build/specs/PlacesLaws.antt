@@ -6,9 +6,7 @@ use Rattle.std.specs.List.{filter}
 use Rattle.dns_data.specs.declared.block.Block.{Block}
 use Rattle.dns_data.specs.declared.directive.Directive.{Directive}
 use Rattle.dns_data.specs.declared.file.FileText.{FileText}
-use Rattle.file_plugin.specs.{FileData}
-use Rattle.hosts_plugin.specs.{HostsData}
-use Rattle.plugin_api.specs.{PlanData, rank_of}
+use Rattle.plugin_api.specs.{rank_of}
 use Rattle.plugin_api.specs.declared.ranks.Rank.{Rank}
 use Rattle.plugin_api.specs.declared.ranks.Rank.TheVariants as rank
 use Rattle.chain_meaning.specs.Accepting.{patterns_in, rank_patterns}
@@ -19,34 +17,20 @@ use Rattle.chain_build.specs.declared.places.Places.{Places}
 use Rattle.chain_build.specs.Compiled.{back_of, front_of, whole}
 use Rattle.chain_build.specs.Places.{answers_in, back_in, front_in, no_places, placed, placed_by}
 
-abbrev fields : Bool → List PlanData → List PlanData → Bool → List Directive → List PlanData → List HostsData → List FileData → Bool → ℕ → Places
-fields errors logs acls any rewrites templates hosts files whoami patterns = record { errors = errors; logs = logs; acls = acls; any = any; rewrites = rewrites; templates = templates; hosts = hosts; files = files; whoami = whoami; patterns = patterns }
-
-abbrev logs_of : Context → List Directive → Places → List PlanData
-logs_of c ds p = p.logs ++ plans_of rank.Log c.zones ds
-
-abbrev acls_of : Context → List Directive → Places → List PlanData
-acls_of c ds p = p.acls ++ plans_of rank.Acl c.zones ds
-
-abbrev rewrites_of : Context → List Directive → Places → List Directive
-rewrites_of c ds p = p.rewrites ++ filter (has_rank rank.Rewrite) ds
-
-abbrev templates_of : Context → List Directive → Places → List PlanData
-templates_of c ds p = p.templates ++ plans_of rank.Template c.zones ds
-
-abbrev hosts_of : Context → List Directive → Places → List HostsData
-hosts_of c ds p = p.hosts ++ hosts_plans c ds
-
-abbrev files_of : Context → List Directive → Places → List FileData
-files_of c ds p = p.files ++ file_plans c ds
-
-abbrev count_of : List Directive → Places → ℕ
-count_of ds p = p.patterns + length (patterns_in ds)
-
 -- what was read before, with what further directives are
 abbrev with_all : Context → List Directive → Places → Places
-with_all c ds p =
-    fields (p.errors || some_has rank.Errors ds) (logs_of c ds p) (acls_of c ds p) (p.any || some_has rank.Any ds) (rewrites_of c ds p) (templates_of c ds p) (hosts_of c ds p) (files_of c ds p) (p.whoami || some_has rank.Whoami ds) (count_of ds p)
+with_all c ds p = record {
+  errors = p.errors || some_has rank.Errors ds;
+  logs = p.logs ++ plans_of rank.Log c.zones ds;
+  acls = p.acls ++ plans_of rank.Acl c.zones ds;
+  any = p.any || some_has rank.Any ds;
+  rewrites = p.rewrites ++ filter (has_rank rank.Rewrite) ds;
+  templates = p.templates ++ plans_of rank.Template c.zones ds;
+  hosts = p.hosts ++ hosts_plans c ds;
+  files = p.files ++ file_plans c ds;
+  whoami = p.whoami || some_has rank.Whoami ds;
+  patterns = p.patterns + length (patterns_in ds);
+}
 
 or_true : (b : Bool) → (b || true) ≡ true
 or_true true = refl
@@ -66,23 +50,39 @@ step : (c : Context) (d : Directive) (ds : List Directive) (p : Places) (r : Opt
 step c d ds p None e = rw e refl
 step c d ds p (Some rank.Passive) e = rw e refl
 step c d ds p (Some rank.Reload) e = rw e refl
-step c d ds p (Some rank.Errors) e = rw e (λ i. fields (sym (or_true p.errors) i) (logs_of c ds p) (acls_of c ds p) (p.any || some_has rank.Any ds) (rewrites_of c ds p) (templates_of c ds p) (hosts_of c ds p) (files_of c ds p) (p.whoami || some_has rank.Whoami ds) (count_of ds p))
-step c d ds p (Some rank.Log) e = rw e (λ i. fields (p.errors || some_has rank.Errors ds) (append_assoc p.logs (plan_in c.zones d ∷ []) (plans_of rank.Log c.zones ds) i) (acls_of c ds p) (p.any || some_has rank.Any ds) (rewrites_of c ds p) (templates_of c ds p) (hosts_of c ds p) (files_of c ds p) (p.whoami || some_has rank.Whoami ds) (count_of ds p))
+step c d ds p (Some rank.Errors) e = rw e (ap (λ x. record (with_all c ds p) { errors = x }) (sym (or_true p.errors)))
+step c d ds p (Some rank.Log) e = rw e (ap (λ x. record (with_all c ds p) { logs = x }) (append_assoc p.logs (plan_in c.zones d ∷ []) (plans_of rank.Log c.zones ds)))
 step c d ds p (Some rank.Dns64) e = rw e refl
-step c d ds p (Some rank.Acl) e = rw e (λ i. fields (p.errors || some_has rank.Errors ds) (logs_of c ds p) (append_assoc p.acls (plan_in c.zones d ∷ []) (plans_of rank.Acl c.zones ds) i) (p.any || some_has rank.Any ds) (rewrites_of c ds p) (templates_of c ds p) (hosts_of c ds p) (files_of c ds p) (p.whoami || some_has rank.Whoami ds) (count_of ds p))
-step c d ds p (Some rank.Any) e = rw e (λ i. fields (p.errors || some_has rank.Errors ds) (logs_of c ds p) (acls_of c ds p) (sym (or_true p.any) i) (rewrites_of c ds p) (templates_of c ds p) (hosts_of c ds p) (files_of c ds p) (p.whoami || some_has rank.Whoami ds) (count_of ds p))
+step c d ds p (Some rank.Acl) e = rw e (ap (λ x. record (with_all c ds p) { acls = x }) (append_assoc p.acls (plan_in c.zones d ∷ []) (plans_of rank.Acl c.zones ds)))
+step c d ds p (Some rank.Any) e = rw e (ap (λ x. record (with_all c ds p) { any = x }) (sym (or_true p.any)))
 step c d ds p (Some rank.Extra) e = rw e refl
 step c d ds p (Some rank.Cache) e = rw e refl
-step c d ds p (Some rank.Rewrite) e = rw e (λ i. fields (p.errors || some_has rank.Errors ds) (logs_of c ds p) (acls_of c ds p) (p.any || some_has rank.Any ds) (append_assoc p.rewrites (d ∷ []) (filter (has_rank rank.Rewrite) ds) i) (templates_of c ds p) (hosts_of c ds p) (files_of c ds p) (p.whoami || some_has rank.Whoami ds) (counts_on p.patterns (rank_patterns (Some rank.Rewrite) d) (patterns_in ds) i))
-step c d ds p (Some rank.Template) e = rw e (λ i. fields (p.errors || some_has rank.Errors ds) (logs_of c ds p) (acls_of c ds p) (p.any || some_has rank.Any ds) (rewrites_of c ds p) (append_assoc p.templates (plan_in c.zones d ∷ []) (plans_of rank.Template c.zones ds) i) (hosts_of c ds p) (files_of c ds p) (p.whoami || some_has rank.Whoami ds) (counts_on p.patterns (rank_patterns (Some rank.Template) d) (patterns_in ds) i))
-step c d ds p (Some rank.Hosts) e = rw e (λ i. fields (p.errors || some_has rank.Errors ds) (logs_of c ds p) (acls_of c ds p) (p.any || some_has rank.Any ds) (rewrites_of c ds p) (templates_of c ds p) (append_assoc p.hosts (hosts_plan c d ∷ []) (hosts_plans c ds) i) (files_of c ds p) (p.whoami || some_has rank.Whoami ds) (count_of ds p))
-step c d ds p (Some rank.File) e = rw e (λ i. fields (p.errors || some_has rank.Errors ds) (logs_of c ds p) (acls_of c ds p) (p.any || some_has rank.Any ds) (rewrites_of c ds p) (templates_of c ds p) (hosts_of c ds p) (append_assoc p.files (file_plan c d ∷ []) (file_plans c ds) i) (p.whoami || some_has rank.Whoami ds) (count_of ds p))
+step c d ds p (Some rank.Rewrite) e = rw e (λ i. record (with_all c ds p) {
+  rewrites = append_assoc p.rewrites (d ∷ []) (filter (has_rank rank.Rewrite) ds) i;
+  patterns = counts_on p.patterns (rank_patterns (Some rank.Rewrite) d) (patterns_in ds) i;
+})
+step c d ds p (Some rank.Template) e = rw e (λ i. record (with_all c ds p) {
+  templates = append_assoc p.templates (plan_in c.zones d ∷ []) (plans_of rank.Template c.zones ds) i;
+  patterns = counts_on p.patterns (rank_patterns (Some rank.Template) d) (patterns_in ds) i;
+})
+step c d ds p (Some rank.Hosts) e = rw e (ap (λ x. record (with_all c ds p) { hosts = x }) (append_assoc p.hosts (hosts_plan c d ∷ []) (hosts_plans c ds)))
+step c d ds p (Some rank.File) e = rw e (ap (λ x. record (with_all c ds p) { files = x }) (append_assoc p.files (file_plan c d ∷ []) (file_plans c ds)))
 step c d ds p (Some rank.Forward) e = rw e refl
-step c d ds p (Some rank.Whoami) e = rw e (λ i. fields (p.errors || some_has rank.Errors ds) (logs_of c ds p) (acls_of c ds p) (p.any || some_has rank.Any ds) (rewrites_of c ds p) (templates_of c ds p) (hosts_of c ds p) (files_of c ds p) (sym (or_true p.whoami) i) (count_of ds p))
+step c d ds p (Some rank.Whoami) e = rw e (ap (λ x. record (with_all c ds p) { whoami = x }) (sym (or_true p.whoami)))
 
 all : (c : Context) (ds : List Directive) (p : Places) → placed c ds p ≡ with_all c ds p
-all c [] p =
-    λ i. fields (sym (or_false p.errors) i) (sym (append-nil p.logs) i) (sym (append-nil p.acls) i) (sym (or_false p.any) i) (sym (append-nil p.rewrites) i) (sym (append-nil p.templates) i) (sym (append-nil p.hosts) i) (sym (append-nil p.files) i) (sym (or_false p.whoami) i) (sym (plus_none p.patterns) i)
+all c [] p = λ i. record {
+  errors = sym (or_false p.errors) i;
+  logs = sym (append-nil p.logs) i;
+  acls = sym (append-nil p.acls) i;
+  any = sym (or_false p.any) i;
+  rewrites = sym (append-nil p.rewrites) i;
+  templates = sym (append-nil p.templates) i;
+  hosts = sym (append-nil p.hosts) i;
+  files = sym (append-nil p.files) i;
+  whoami = sym (or_false p.whoami) i;
+  patterns = sym (plus_none p.patterns) i;
+}
 all c (d ∷ ds) p = all c ds (placed_by (rank_of d.name) c d p) ∙ step c d ds p (rank_of d.name) refl
 
 -- the plans of `file` that were read of directives

@@ -145,15 +145,16 @@ pub fn run_back<'a, S: Side>(
     let Some((plugin, rest)) = steps.split_first() else {
         return Ok(Ended::Code(Code::ServFail, Cause::EndOfChain));
     };
-    match answer(alloc, plugin, query, room, slot)? {
+    match back_answer(alloc, plugin, query, room, slot)? {
         Some(ended) => Ok(ended),
         None => run_back(alloc, rest, query, side, kept, room, slot),
     }
 }
 
-// What a plugin answers. None: it goes on.
+/// What a plugin behind a cache answers, with the answer of a reply in the slot, which is clear.
+/// None: it goes on.
 #[tactic(auto, unfolding(chain_meaning::specs::Mean::answer_of))]
-fn answer<'a>(
+pub fn back_answer<'a>(
     alloc: Global,
     plugin: &'a BackAnswerer,
     query: &Query,

@@ -51,8 +51,8 @@ pub fn check<M: PatternMaker>(
     })
 }
 
-// The chains of blocks in a bundle with these files.
-fn block_chains<M: PatternMaker>(
+/// The chains of blocks in a bundle with these files, or the first refusal of a directive.
+pub fn block_chains<M: PatternMaker>(
     alloc: Global,
     files: &[FileText],
     blocks: &[Block],

@@ -65,7 +65,7 @@ pub fn run_front<'a, S: Side, X: Extras>(
             let ended = run_front(alloc, rest, behind, query, side, extras, room, slot)?;
             note_query(alloc, plan, query, ended, slot, side)
         }
-        FrontStep::Answers(plugin) => match answer(alloc, plugin, query, slot)? {
+        FrontStep::Answers(plugin) => match front_answer(alloc, plugin, query, slot)? {
             Some(ended) => Ok(ended),
             None => run_front(alloc, rest, behind, query, side, extras, room, slot),
         },
@@ -114,9 +114,10 @@ pub fn run_uncached<'a, S: Side>(
     run_behind(alloc, chain, query, side, &mut kept, room, slot)
 }
 
-// What a plugin answers. None: it goes on.
+/// What a plugin in front of a cache answers, with the answer of a reply in the slot, which is
+/// clear. None: it goes on.
 #[tactic(auto, unfolding(chain_meaning::specs::Mean::answer_of))]
-fn answer(
+pub fn front_answer(
     alloc: Global,
     plugin: &FrontAnswerer,
     query: &Query,

@@ -21,14 +21,14 @@ pub use asking::{
     fill_query, header_reply, is_known_version, limit_of, opt_reply, query_of, reply_message,
     upper_code,
 };
-pub use back::{BackAnswerer, run_back, run_behind};
+pub use back::{BackAnswerer, back_answer, run_back, run_behind};
 pub use chain::{Chain, build};
-pub use checking::check;
+pub use checking::{block_chains, check};
 pub use compiling::{BlockChain, compile};
 pub use ended::Ended;
 pub use extras::{Extras, NoExtras};
 pub use fault::CheckFault;
-pub use front::{FrontAnswerer, FrontStep, run_front};
+pub use front::{FrontAnswerer, FrontStep, front_answer, run_front};
 pub use places::{Places, read_block};
 pub use plans::Plans;
 pub use room::{PluginRoom, Room};

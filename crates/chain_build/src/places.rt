@@ -1,7 +1,4 @@
-ghost use Rattle.std.specs.Prelude.{◌≡◌, None, Some, true, List, map, IfOk, OnOk};
-ghost use Rattle.dns_data.specs.declared.directive.Directive.{Directive};
-ghost use Rattle.dns_data.specs.declared.file.FileText.{FileText};
-ghost use Rattle.chain_meaning.specs.Steps.{Context};
+ghost use Rattle.std.specs.Prelude.{◌≡◌, None, Some, true, map, IfOk, OnOk};
 ghost use Rattle.plugin_api.specs.declared.ranks.Rank.TheVariants as rank;
 ghost use Rattle.plain_plugins.specs.{IsPlain};
 ghost use Rattle.chain_meaning.specs.Accepting.{is_built, stands_in};
@@ -9,7 +6,7 @@ ghost use Rattle.std.specs.List.{All};
 ghost use Rattle.corefile_blocks.specs.Readable.{HasShortBytes};
 ghost use Rattle.chain_meaning.specs.Steps.{file_plans, file_word, hosts_word};
 ghost use Rattle.plugin_api.specs.declared.fault.DirectiveFault.TheVariants as directive;
-ghost use Rattle.chain_build.specs.Places.{ReadsBlock, ReadsMore, behind_in, context_in};
+ghost use Rattle.chain_build.specs.Places.{ReadsBlock, ReadsMore, behind_at, context_at};
 ghost use Rattle.chain_build.specs.Places.{no_places, placed_plain};
 ghost use Rattle.chain_build.specs.Reading.{CountsOn, IsFixed, ReadsAs, ReadsRank, RefusesAs};
 ghost use Rattle.chain_build.specs.Reading.{RefusesFileAs, RefusesWith, check_behind};
@@ -44,6 +41,16 @@ pub struct Places {
     pub whoami: bool,
     /// How many patterns of the configuration stand behind these directives.
     pub patterns: usize,
+}
+
+/// A directive, and what it is read in: the zones of its block's keys, the files of the bundle, and
+/// the directives of the block that stand before it.
+#[derive(Clone, Copy)]
+pub(crate) struct Reading<'a> {
+    pub zones: &'a Names,
+    pub files: &'a [FileText],
+    pub before: &'a [Directive],
+    pub directive: &'a Directive,
 }
 
 impl Places {
@@ -82,15 +89,13 @@ pub fn read_block<M: PatternMaker>(
     let all = block.directives.as_slice();
     let mut places = Places::new(alloc, patterns);
     for (index, directive) in all.iter().enumerate() {
-        read_more(
-            alloc,
-            &zones,
+        let reading = Reading {
+            zones: &zones,
             files,
-            &all[..index],
+            before: &all[..index],
             directive,
-            maker,
-            &mut places,
-        )?;
+        };
+        read_more(alloc, &reading, maker, &mut places)?;
     }
     Ok(places)
 }
@@ -111,50 +116,48 @@ fn key_zones(alloc: Global, keys: &[BlockKey]) -> Result<Names, NoMemory>
 // Reads one more directive.
 fn read_more<M: PatternMaker>(
     alloc: Global,
-    zones: &Names,
-    files: &[FileText],
-    before: &[Directive],
-    directive: &Directive,
+    reading: &Reading<'_>,
     maker: &mut M,
     places: &mut Places,
 ) -> Result<(), CheckFault>
-    requires short { All HasShortBytes files.now }
-    requires plans { places.old.files ≡ file_plans (context_in zones.now files.now) before.now }
-    ensures reads { ReadsMore (context_in zones.now files.now) before.now directive.now
-        places.old places.new result }
+    requires short { All HasShortBytes reading.now.files.now }
+    requires plans { places.old.files ≡ file_plans (context_at reading.now) reading.now.before.now }
+    ensures reads { ReadsMore (context_at reading.now) reading.now.before.now
+        reading.now.directive.now places.old places.new result }
     ensures maker { M.state maker.new ≡ check_behind result (M.state maker.old) }
 {
+    let directive = reading.directive;
     let Some(rank) = rank(&directive.name) else {
         return Err(unknown(directive));
     };
     if !is_built(rank) {
         return Err(unknown(directive));
     }
-    if rank.is_once() && stands_in(before, &directive.name) {
+    if rank.is_once() && stands_in(reading.before, &directive.name) {
         return Err(CheckFault::Refused(Refusal::Directive {
             line: directive.line,
             why: DirectiveWhy::Twice,
         }));
     }
     match rank {
-        Rank::Rewrite => read_rewrite(alloc, directive, maker, places),
-        Rank::Template => read_template(alloc, zones, directive, maker, places),
-        _ => read_as(alloc, rank, zones, files, before, directive, places),
+        Rank::Rewrite => read_rewrite(alloc, reading, maker, places),
+        Rank::Template => read_template(alloc, reading, maker, places),
+        _ => read_as(alloc, rank, reading, places),
     }
 }
 
 // Reads a directive `rewrite`. Neither zones nor files matter to it, nor what stands before.
 fn read_rewrite<M: PatternMaker>(
     alloc: Global,
-    directive: &Directive,
+    reading: &Reading<'_>,
     maker: &mut M,
     places: &mut Places,
 ) -> Result<(), CheckFault>
-    ensures reads { (context : Context) (before : List Directive) → ReadsRank rank.Rewrite
-        (behind_in context before places.old) directive.now places.old places.new result }
+    ensures reads { ReadsRank rank.Rewrite (behind_at reading.now places.old)
+        reading.now.directive.now places.old places.new result }
     ensures maker { M.state maker.new ≡ check_behind result (M.state maker.old) }
 {
-    match RewritePlan::read(alloc, directive, places.patterns, maker) {
+    match RewritePlan::read(alloc, reading.directive, places.patterns, maker) {
         Ok(plan) => {
             let count = plan.pattern_count();
             places.rewrites.push(plan)?;
@@ -167,17 +170,16 @@ fn read_rewrite<M: PatternMaker>(
 // Reads a directive `template`. No file matters to it, nor what stands before.
 fn read_template<M: PatternMaker>(
     alloc: Global,
-    zones: &Names,
-    directive: &Directive,
+    reading: &Reading<'_>,
     maker: &mut M,
     places: &mut Places,
 ) -> Result<(), CheckFault>
-    ensures reads { (files : List FileText) (before : List Directive) → ReadsRank rank.Template
-        (behind_in (context_in zones.now files) before places.old) directive.now places.old
-        places.new result }
+    ensures reads { ReadsRank rank.Template (behind_at reading.now places.old)
+        reading.now.directive.now places.old places.new result }
     ensures maker { M.state maker.new ≡ check_behind result (M.state maker.old) }
 {
-    match TemplatePlan::read(alloc, directive, zones, places.patterns, maker) {
+    let zones = reading.zones;
+    match TemplatePlan::read(alloc, reading.directive, zones, places.patterns, maker) {
         Ok(plan) => {
             let count = plan.pattern_count();
             places.templates.push(plan)?;
@@ -245,23 +247,20 @@ fn stands_in(before: &[Directive], name: &Text) -> bool
 fn read_as(
     alloc: Global,
     rank: Rank,
-    zones: &Names,
-    files: &[FileText],
-    before: &[Directive],
-    directive: &Directive,
+    reading: &Reading<'_>,
     places: &mut Places,
 ) -> Result<(), CheckFault>
     requires built { is_built rank ≡ true }
     requires fixed { IsFixed rank }
-    requires short { All HasShortBytes files.now }
-    requires plans { places.old.files ≡ file_plans (context_in zones.now files.now) before.now }
-    ensures { ReadsAs rank (behind_in (context_in zones.now files.now) before.now places.old)
-        directive.now places.old places.new result }
+    requires short { All HasShortBytes reading.now.files.now }
+    requires plans { places.old.files ≡ file_plans (context_at reading.now) reading.now.before.now }
+    ensures { ReadsAs rank (behind_at reading.now places.old) reading.now.directive.now places.old
+        places.new result }
 {
     match rank {
-        Rank::File => read_file(alloc, zones, files, before, directive, places),
-        Rank::Hosts => read_hosts(alloc, zones, files, directive, places),
-        Rank::Acl => match AclPlan::read(alloc, directive, zones) {
+        Rank::File => read_file(alloc, reading, places),
+        Rank::Hosts => read_hosts(alloc, reading, places),
+        Rank::Acl => match AclPlan::read(alloc, reading.directive, reading.zones) {
             Ok(plan) => {
                 places.acls.push(plan)?;
                 Ok(())
@@ -269,32 +268,26 @@ fn read_as(
             Err(fault) => Err(refused(fault)),
         },
         Rank::Passive | Rank::Reload | Rank::Errors | Rank::Log | Rank::Any | Rank::Whoami =>
-            match PlainPlan::read(alloc, rank, directive, zones) {
+            match PlainPlan::read(alloc, rank, reading.directive, reading.zones) {
                 Ok(plan) => {
                     place(rank, plan, places)?;
                     Ok(())
                 }
                 Err(fault) => Err(refused(fault)),
             },
-        _ => Err(CheckFault::NoMemory),
+        _ => unreachable!(),
     }
 }
 
 // Reads a directive `hosts`. What stands before it is no matter.
-fn read_hosts(
-    alloc: Global,
-    zones: &Names,
-    files: &[FileText],
-    directive: &Directive,
-    places: &mut Places,
-) -> Result<(), CheckFault>
-    requires { All HasShortBytes files.now }
-    ensures { (before : List Directive) → ReadsAs rank.Hosts
-        (behind_in (context_in zones.now files.now) before places.old) directive.now
+fn read_hosts(alloc: Global, reading: &Reading<'_>, places: &mut Places) -> Result<(), CheckFault>
+    requires { All HasShortBytes reading.now.files.now }
+    ensures { ReadsAs rank.Hosts (behind_at reading.now places.old) reading.now.directive.now
         places.old places.new result }
 {
-    let file = file_of(files, hosts_word(directive.args.as_slice()));
-    match HostsPlan::read(alloc, directive, zones, file) {
+    let directive = reading.directive;
+    let file = file_of(reading.files, hosts_word(directive.args.as_slice()));
+    match HostsPlan::read(alloc, directive, reading.zones, file) {
         Ok(plan) => {
             places.hosts.push(plan)?;
             Ok(())
@@ -314,21 +307,21 @@ fn hosts_word(words: &[Text]) -> &str
 }
 
 // Reads a directive `file`.
-fn read_file(
-    alloc: Global,
-    zones: &Names,
-    files: &[FileText],
-    before: &[Directive],
-    directive: &Directive,
-    places: &mut Places,
-) -> Result<(), CheckFault>
-    requires short { All HasShortBytes files.now }
-    requires plans { places.old.files ≡ file_plans (context_in zones.now files.now) before.now }
-    ensures { ReadsAs rank.File (behind_in (context_in zones.now files.now) before.now places.old)
-        directive.now places.old places.new result }
+fn read_file(alloc: Global, reading: &Reading<'_>, places: &mut Places) -> Result<(), CheckFault>
+    requires short { All HasShortBytes reading.now.files.now }
+    requires plans { places.old.files ≡ file_plans (context_at reading.now) reading.now.before.now }
+    ensures { ReadsAs rank.File (behind_at reading.now places.old) reading.now.directive.now
+        places.old places.new result }
 {
-    let file = file_of(files, file_word(directive.args.as_slice()));
-    match FilePlan::read(alloc, directive, zones, places.files.as_slice(), file) {
+    let directive = reading.directive;
+    let file = file_of(reading.files, file_word(directive.args.as_slice()));
+    match FilePlan::read(
+        alloc,
+        directive,
+        reading.zones,
+        places.files.as_slice(),
+        file,
+    ) {
         Ok(plan) => {
             places.files.push(plan)?;
             Ok(())

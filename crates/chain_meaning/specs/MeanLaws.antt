@@ -16,7 +16,7 @@ use Rattle.zone_words.specs.{is_in}
 use Rattle.chain_meaning.specs.declared.decision.Decision.{Decision}
 use Rattle.chain_meaning.specs.declared.decision.Decision.TheVariants as decision
 use Rattle.chain_meaning.specs.Mean.{answer_of, error_noted, mean, or_rest, outcome_of, query_noted, reply_restored, rewritten, rule, take_note}
-use Rattle.chain_meaning.specs.Steps.{Answerer, Acl, Any, Template, Hosts, File, Whoami, Step, Errors, Log, Rewrite, Answers, Others}
+use Rattle.chain_meaning.specs.Steps.{Answerer, Acl, Step, Errors, Log, Rewrite, Answers, Others}
 
 pub mean-end : (q : Query) (marks : List Mark) → mean [] q marks ≡ Done (decision.Code code.ServFail cause.EndOfChain) marks
 unfolding mean
@@ -62,14 +62,11 @@ note_nothing line v false = refl
 pub query_nothing : (plan : PlanData) (q : Query) (v : Decision) → Starved (query_noted plan q v [])
 query_nothing plan q v = note_nothing (log_line q (outcome_of v)) v (is_in q.name (plain_zones plan))
 
+-- a plugin that takes marks has a row of its own
 pub answer_nothing : (plugin : Answerer) (q : Query) → Starved (answer_of plugin q [])
 unfolding answer_of
 answer_nothing (Acl plans) q = refl
-answer_nothing Any q = refl
-answer_nothing (Template plans) q = refl
-answer_nothing (Hosts plan) q = refl
-answer_nothing (File plans) q = refl
-answer_nothing Whoami q = refl
+answer_nothing other q = refl
 
 pub or_rest_nothing : (rest : Query → List Mark → Meaning Decision) (q : Query) → Starved (rest q []) → (v : Option Decision) → Starved (or_rest rest q v [])
 or_rest_nothing rest q none (Some v) = refl

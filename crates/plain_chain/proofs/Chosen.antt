@@ -1,60 +1,50 @@
--- What was read of a block are its steps, and of which block a query goes through the chain.
-use Rattle.std.proofs.Common.{◌≡◌, ℕ, true, nat_eq, List, [], ◌∷◌, ◌++◌, map, Option, Some, None, option_map, slice_get, refl, sym, ap, ◌∙◌, append_assoc}
+-- Of which block a query goes through the chain, and what a chain without a step decides.
+use Rattle.std.proofs.Common.{◌≡◌, ◌<◌, ◌≤◌, ℕ, true, false, nat_eq, List, [], ◌∷◌, ◌++◌, map, length, Option, Some, None, option_map, slice_get, refl, sym, ap, ◌∙◌, arith}
 use Rattle.std.specs.Prelude.{option_and_then}
 use Rattle.std.proofs.lemmas.Option.{slice_get-map}
 use Rattle.dns_data.specs.declared.block.Block.{Block}
 use Rattle.dns_data.specs.declared.class.TheConstants as classes
+use Rattle.dns_data.specs.declared.directive.Directive.{Directive}
 use Rattle.dns_data.specs.declared.file.FileText.{FileText}
 use Rattle.dns_data.specs.declared.message.Opt.{Opt}
 use Rattle.dns_data.specs.declared.query.Query.{Query}
 use Rattle.outside.specs.Meanings.{Done}
 use Rattle.outside.specs.declared.mark.Mark.{Mark}
+use Rattle.chain_meaning.specs.Mean.{mean}
 use Rattle.chain_meaning.specs.Serving.{block_decides, block_of, chain_decides, is_known_version, query_decides, refused}
-use Rattle.chain_meaning.specs.Steps.{acl_steps, any_steps, context_of, error_steps, log_steps, rewrite_steps, steps_of, template_steps}
-use Rattle.chain_build.specs.Places.{back_in, front_in, no_places, placed}
-use Rattle.chain_build.specs.PlacesLaws.{places-steps}
-use Rattle.chain_build.specs.declared.places.Places.{Places}
-use Rattle.plain_chain.specs.Behind.{from_errors}
-
--- the steps in front of a cache and behind it are all from the first on
-whole : (places : Places) → front_in places ++ back_in places ≡ from_errors places
-whole places =
-    let e = error_steps places.errors in
-    let l = log_steps places.logs in
-    let a = acl_steps places.acls in
-    let y = any_steps places.any in
-    append_assoc e (l ++ (a ++ y)) (back_in places)
-    ∙ ap (λ s. e ++ s) (append_assoc l (a ++ y) (back_in places) ∙ ap (λ s. l ++ s) (append_assoc a y (back_in places)))
-
--- what was read of a block are its steps
-pub steps-read : (files : List FileText) (block : Block) (n : ℕ) (places : Places) → places ≡ placed (context_of files block) block.directives (no_places n) → from_errors places ≡ steps_of files block
-steps-read files block n places is = sym (whole places) ∙ places-steps files block n places is
+use Rattle.chain_meaning.specs.Steps.{Step, steps_of}
+use Rattle.chain_build.specs.Compiled.{front_of, whole}
+use Rattle.chain_build.specs.Plans.{steps_in}
+use Rattle.chain_build.specs.declared.back.BackAnswerer.{BackAnswerer}
+use Rattle.chain_build.specs.declared.compiling.BlockChain.{BlockChain}
+use Rattle.chain_build.specs.declared.front.FrontStep.{FrontStep}
+use Rattle.plain_chain.specs.Reading.{has_none}
 
 -- what was read of the block of a number
-module _ (files : List FileText) (read : List Places) (blocks : List Block) (same : map from_errors read ≡ map (steps_of files) blocks) where
-  by-number : (number : Option ℕ) → option_map from_errors (option_and_then (slice_get read) number) ≡ option_map (steps_of files) (option_and_then (slice_get blocks) number)
+module _ (files : List FileText) (read : List BlockChain) (blocks : List Block) (same : map steps_in read ≡ map (steps_of files) blocks) where
+  by-number : (number : Option ℕ) → option_map steps_in (option_and_then (slice_get read) number) ≡ option_map (steps_of files) (option_and_then (slice_get blocks) number)
   by-number None = refl
-  by-number (Some n) = sym (slice_get-map from_errors read n) ∙ ap (λ l. slice_get l n) same ∙ slice_get-map (steps_of files) blocks n
+  by-number (Some n) = sym (slice_get-map steps_in read n) ∙ ap (λ l. slice_get l n) same ∙ slice_get-map (steps_of files) blocks n
 
-  chosen : (block : Option Block) (places : Option Places) (q : Query) (marks : List Mark) → option_map from_errors places ≡ option_map (steps_of files) block → (p : Places) → places ≡ Some p
-      → chain_decides (from_errors p) q marks ≡ block_decides files block q marks
+  chosen : (block : Option Block) (chain : Option BlockChain) (q : Query) (marks : List Mark) → option_map steps_in chain ≡ option_map (steps_of files) block → (p : BlockChain) → chain ≡ Some p
+      → chain_decides (steps_in p) q marks ≡ block_decides files block q marks
   chosen None None q marks e p is = absurd cc
   chosen None (Some o) q marks e p is = absurd cc
   chosen (Some block) None q marks e p is = absurd cc
   chosen (Some block) (Some o) q marks e p is =
       let here : o ≡ p = cc in
-      let steps : from_errors o ≡ steps_of files block = cc in
-      ap (λ s. chain_decides s q marks) (ap from_errors (sym here) ∙ steps)
+      let steps : steps_in o ≡ steps_of files block = cc in
+      ap (λ s. chain_decides s q marks) (ap steps_in (sym here) ∙ steps)
 
-  not_chosen : (block : Option Block) (places : Option Places) (q : Query) (marks : List Mark) → option_map from_errors places ≡ option_map (steps_of files) block → places ≡ None
+  not_chosen : (block : Option Block) (chain : Option BlockChain) (q : Query) (marks : List Mark) → option_map steps_in chain ≡ option_map (steps_of files) block → chain ≡ None
       → Done refused marks ≡ block_decides files block q marks
-  not_chosen None places q marks e is = refl
+  not_chosen None chain q marks e is = refl
   not_chosen (Some block) (Some o) q marks e is = absurd cc
   not_chosen (Some block) None q marks e is = absurd cc
 
   -- the chain that was read decides
-  pub read-decides : (number : Option ℕ) (q : Query) (marks : List Mark) (p : Places) → Some p ≡ option_and_then (slice_get read) number
-      → chain_decides (from_errors p) q marks ≡ block_decides files (option_and_then (slice_get blocks) number) q marks
+  pub read-decides : (number : Option ℕ) (q : Query) (marks : List Mark) (p : BlockChain) → Some p ≡ option_and_then (slice_get read) number
+      → chain_decides (steps_in p) q marks ≡ block_decides files (option_and_then (slice_get blocks) number) q marks
   read-decides number q marks p is = chosen (option_and_then (slice_get blocks) number) (option_and_then (slice_get read) number) q marks (by-number number) p (sym is)
 
   -- and without one a query is refused
@@ -66,3 +56,34 @@ module _ (files : List FileText) (read : List Places) (blocks : List Block) (sam
 pub asked-decides : (opt : Option Opt) (class : ℕ) (files : List FileText) (blocks : List Block) (q : Query) (marks : List Mark) → is_known_version opt ≡ true → nat_eq class classes.IN ≡ true
     → block_decides files (block_of blocks q) q marks ≡ query_decides opt class files blocks q marks
 asked-decides opt class files blocks q marks known own = rw (known, own) refl
+
+-- a chain without a step refuses, and another means what its steps do
+pub none-refuses : (steps : List Step) (q : Query) (marks : List Mark) → has_none steps ≡ true → Done refused marks ≡ chain_decides steps q marks
+none-refuses [] q marks e = refl
+none-refuses (step ∷ steps) q marks e = absurd cc
+
+pub some-mean : (steps : List Step) (q : Query) (marks : List Mark) → has_none steps ≡ false → mean steps q marks ≡ chain_decides steps q marks
+some-mean [] q marks e = absurd cc
+some-mean (step ∷ steps) q marks e = refl
+
+-- whether a chain has a step
+pub some-front : (front : List FrontStep) (behind : List Step) → 0 < length front → false ≡ has_none (map front_of front ++ behind)
+some-front [] behind some = absurd (omega (arith, some))
+some-front (step ∷ front) behind some = refl
+
+pub some-rules : (front : List FrontStep) (ds : List Directive) (back : List BackAnswerer) → length front ≤ 0 → 0 < length ds → false ≡ has_none (whole front ds back)
+some-rules [] [] back none some = absurd (omega (arith, some))
+some-rules [] (d ∷ ds) back none some = refl
+some-rules (step ∷ front) ds back none some = absurd (omega (arith, none))
+
+pub some-back : (front : List FrontStep) (ds : List Directive) (back : List BackAnswerer) → length front ≤ 0 → length ds ≤ 0 → 0 < length back → false ≡ has_none (whole front ds back)
+some-back [] [] [] none no_rules some = absurd (omega (arith, some))
+some-back [] [] (plugin ∷ back) none no_rules some = refl
+some-back [] (d ∷ ds) back none no_rules some = absurd (omega (arith, no_rules))
+some-back (step ∷ front) ds back none no_rules some = absurd (omega (arith, none))
+
+pub no-steps : (front : List FrontStep) (ds : List Directive) (back : List BackAnswerer) → length front ≤ 0 → length ds ≤ 0 → length back ≤ 0 → true ≡ has_none (whole front ds back)
+no-steps [] [] [] none no_rules no_back = refl
+no-steps [] [] (plugin ∷ back) none no_rules no_back = absurd (omega (arith, no_back))
+no-steps [] (d ∷ ds) back none no_rules no_back = absurd (omega (arith, no_rules))
+no-steps (step ∷ front) ds back none no_rules no_back = absurd (omega (arith, none))

@@ -1,5 +1,3 @@
-pub mod BlocksRead
 pub mod Rules
 pub mod Tails
 pub mod Chosen
-pub mod Steps

@@ -17,7 +17,7 @@ use Rattle.chain_meaning.specs.declared.decision.Decision.{Decision}
 use Rattle.chain_meaning.specs.declared.decision.Decision.TheVariants as decision
 use Rattle.chain_meaning.specs.Mean.{answer_of, error_noted, mean, or_rest, outcome_of, query_noted, reply_restored, rule, take_note}
 use Rattle.chain_meaning.specs.Serving.{block_decides, block_of, chain_decides, class_decides, is_known_version, query_decides}
-use Rattle.chain_meaning.specs.Steps.{Answerer, Acl, Any, Template, Hosts, File, Whoami, Step, Errors, Log, Rewrite, Answers, Others, steps_of}
+use Rattle.chain_meaning.specs.Steps.{Answerer, Acl, Step, Errors, Log, Rewrite, Answers, Others, steps_of}
 use Rattle.plain_chain.specs.Meant.{IsTail}
 
 -- what is left are the last of these marks
@@ -71,14 +71,11 @@ error-tails q decision.Drop left = tail-whole left
 query-tails : (plan : PlanData) (q : Query) (v : Decision) (left : List Mark) → Tails left (query_noted plan q v left)
 query-tails plan q v left = tails-if (is_in q.name (plain_zones plan)) left (take_note (log_line q (outcome_of v)) v left) (Done v left) (note-tails (log_line q (outcome_of v)) v left) (tail-whole left)
 
+-- a plugin that takes marks has a row of its own
 answer-tails : (plugin : Answerer) (q : Query) (marks : List Mark) → Tails marks (answer_of plugin q marks)
 unfolding answer_of
 answer-tails (Acl plans) q marks = tail-whole marks
-answer-tails Any q marks = tail-whole marks
-answer-tails (Template plans) q marks = tail-whole marks
-answer-tails (Hosts plan) q marks = tail-whole marks
-answer-tails (File plans) q marks = tail-whole marks
-answer-tails Whoami q marks = tail-whole marks
+answer-tails other q marks = tail-whole marks
 
 rest-tails : (rest : Query → List Mark → Meaning Decision) (q : Query) → ((left : List Mark) → Tails left (rest q left)) → (v : Option Decision) (left : List Mark) → Tails left (or_rest rest q v left)
 rest-tails rest q tails (Some v) left = tail-whole left

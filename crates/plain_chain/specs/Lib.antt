@@ -1,5 +1,4 @@
 pub mod Meant
-pub mod Behind
 pub mod Reading
 pub mod Serving
 -- what public clauses cite

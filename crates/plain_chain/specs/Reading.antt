@@ -1,16 +1,18 @@
--- Reading directives anew: whether they are accepted, and the steps of each block.
-use Rattle.std.specs.Prelude.{◌≡◌, ℕ, ◌+◌, List, length, map, Result, Ok, Err, if◌then◌else◌}
+-- Reading directives anew: whether they are accepted, and the chain of each block.
+use Rattle.std.specs.Prelude.{◌≡◌, ℕ, Bool, true, false, List, [], ◌∷◌, map, Result, Ok, Err}
+use Rattle.std.specs.Prelude.{if◌then◌else◌}
 use Rattle.dns_data.specs.declared.block.Block.{Block}
 use Rattle.dns_data.specs.declared.file.FileText.{FileText}
 use Rattle.outside.specs.{WatchState, raised, with_refusals}
 use Rattle.pattern_judging.specs.{IsFault, IsWell}
-use Rattle.chain_meaning.specs.Accepting.{block_task, blocks_task, patterns_in, told}
-use Rattle.chain_meaning.specs.Steps.{steps_of}
+use Rattle.chain_meaning.specs.Accepting.{blocks_task, told}
+use Rattle.chain_meaning.specs.Steps.{Step, steps_of}
 use Rattle.chain_build.specs.{is_of_pattern}
-use Rattle.chain_build.specs.declared.places.Places.{Places}
-use Rattle.plain_chain.specs.Behind.{from_errors}
+use Rattle.chain_build.specs.Plans.{steps_in}
+use Rattle.chain_build.specs.declared.compiling.BlockChain.{BlockChain}
 use Rattle.plain_chain.specs.declared.fault.PlainFault.{PlainFault}
 use Rattle.plain_chain.specs.declared.fault.PlainFault.TheVariants as fault
+use Rattle.plain_chain.specs.declared.reading.Read.{Read}
 
 -- the refusals of a maker behind a fault: they rise by one where it refused a pattern
 abbrev pub refusals_behind : PlainFault → ℕ → ℕ
@@ -23,25 +25,19 @@ plain_behind (Ok x) state = state
 plain_behind (Err refused) state =
     with_refusals state (refusals_behind refused state.refusals)
 
--- what was read of a block of a bundle with these files, behind so many patterns
-pub record IsRead (patterns : ℕ) (files : List FileText) (block : Block) (places : Places) : Type 0
-  where
-    pub well : IsWell (block_task patterns files block)
-    pub steps : from_errors places ≡ steps_of files block
-    pub count : places.patterns ≡ patterns + length (patterns_in block.directives)
+-- reading the directives of all blocks
+abbrev pub ReadsChains : List FileText → List Block → Result (List BlockChain) PlainFault → Type 0
+ReadsChains files blocks (Ok chains) =
+    IsWell (blocks_task 0 files blocks) × (map steps_in chains ≡ map (steps_of files) blocks)
+ReadsChains files blocks (Err (fault.Refused why)) = IsFault told (blocks_task 0 files blocks) why
+ReadsChains files blocks (Err fault.Short) = ⊥
+ReadsChains files blocks (Err fault.NoMemory) = Unit {0}
 
--- reading the directives of a block
-abbrev pub ReadsSteps : ℕ → List FileText → Block → Result Places PlainFault → Type 0
-ReadsSteps patterns files block (Ok places) = IsRead patterns files block places
-ReadsSteps patterns files block (Err (fault.Refused why)) =
-    IsFault told (block_task patterns files block) why
-ReadsSteps patterns files block (Err fault.Short) = ⊥
-ReadsSteps patterns files block (Err fault.NoMemory) = Unit {0}
+-- the chains are those of the blocks
+abbrev pub AreChains : Read → Type 0
+AreChains read = map steps_in read.chains ≡ map (steps_of read.files.now) read.blocks
 
--- reading those of all blocks
-abbrev pub ReadsAll : List FileText → List Block → Result (List Places) PlainFault → Type 0
-ReadsAll files blocks (Ok all) =
-    IsWell (blocks_task 0 files blocks) × (map from_errors all ≡ map (steps_of files) blocks)
-ReadsAll files blocks (Err (fault.Refused why)) = IsFault told (blocks_task 0 files blocks) why
-ReadsAll files blocks (Err fault.Short) = ⊥
-ReadsAll files blocks (Err fault.NoMemory) = Unit {0}
+-- whether there is no step
+abbrev pub has_none : List Step → Bool
+has_none [] = true
+has_none (step ∷ steps) = false

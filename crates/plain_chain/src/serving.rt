@@ -1,21 +1,19 @@
-ghost use Rattle.std.specs.Prelude.{◌≡◌, ◌<◌, ◌^◌, Some, None, IfOk, length, map};
+ghost use Rattle.std.specs.Prelude.{◌≡◌, ◌<◌, ◌^◌, Some, None, IfOk, length};
 ghost use Rattle.corefile_blocks.specs.{IsReadable};
 ghost use Rattle.dns_data.specs.Message.{no_answer};
 ghost use Rattle.dns_wire.specs.{QueriesThis};
-ghost use Rattle.chain_meaning.specs.Steps.{steps_of};
-ghost use Rattle.plain_chain.specs.Behind.{from_errors};
 ghost use Rattle.plain_chain.specs.Meant.{IsTail};
-ghost use Rattle.plain_chain.specs.Reading.{plain_behind};
+ghost use Rattle.plain_chain.specs.Reading.{AreChains, plain_behind};
 ghost use Rattle.plain_chain.specs.Serving.{AreLeft, BlocksServe, GivesAnswer, PlainServes};
 
 use crate::deciding::decide;
 use crate::fault::PlainFault;
 use crate::meant::Meant;
-use crate::reading::read_all;
-use chain_build::{Places, header_reply, limit_of, opt_reply, query_of, reply_message, upper_code};
+use crate::reading::{Read, read_chains};
+use chain_build::{header_reply, limit_of, opt_reply, query_of, reply_message, upper_code};
 use chain_meaning::{Decision, Refusal, number};
 use corefile_blocks::{Bundle, CorefileFault, read_blocks};
-use dns_data::{Blocks, Buffer, FileText, NoMemory, Slot, rcode};
+use dns_data::{Buffer, NoMemory, Slot, rcode};
 use dns_wire::{Asked, QueryFault, read_asked};
 use dns_write::write_parts;
 use outside::{Datagram, Mark, PatternMaker};
@@ -56,26 +54,28 @@ pub fn plain_serve<M: PatternMaker>(
         return Err(PlainFault::NoMemory);
     }
     let files = bundle.files.as_slice();
-    let read = read_all(alloc, files, blocks.as_slice(), maker)?;
-    serve_by(alloc, files, read.as_slice(), &blocks, datagram, marks)
+    let chains = read_chains(alloc, files, blocks.as_slice(), maker)?;
+    let read = Read {
+        files,
+        blocks,
+        chains,
+    };
+    serve_by(alloc, &read, datagram, marks)
 }
 
-// What it means under blocks that are accepted, in a bundle with these files; this was read of
-// their directives.
+// What it means by what was read of a bundle.
 fn serve_by(
     alloc: Global,
-    files: &[FileText],
-    read: &[Places],
-    blocks: &Blocks,
+    read: &Read<'_>,
     datagram: &Datagram,
     marks: &[Mark],
 ) -> Result<Plain, PlainFault>
-    requires few { length blocks.now < 2 ^ 32 }
-    requires read { map from_errors read.now ≡ map (steps_of files.now) blocks.now }
-    ensures { BlocksServe files.now blocks.now datagram.now marks.now result }
+    requires few { length read.now.blocks < 2 ^ 32 }
+    requires read { AreChains read.now }
+    ensures { BlocksServe read.now.files.now read.now.blocks datagram.now marks.now result }
 {
     match read_asked(alloc, datagram.bytes.as_slice()) {
-        Ok(asked) => reply(alloc, files, read, blocks, datagram, asked, marks),
+        Ok(asked) => reply(alloc, read, datagram, asked, marks),
         Err(QueryFault::Short) => Ok(silent()),
         Err(QueryFault::Response) => Ok(silent()),
         Err(QueryFault::NotImp(head)) => { Ok(header(header_reply(alloc, head, rcode::NOTIMP)?)) }
@@ -105,22 +105,20 @@ fn header(bytes: Buffer) -> Plain
 // The reply to what a query asks.
 fn reply(
     alloc: Global,
-    files: &[FileText],
-    read: &[Places],
-    blocks: &Blocks,
+    read: &Read<'_>,
     datagram: &Datagram,
     asked: Asked,
     marks: &[Mark],
 ) -> Result<Plain, PlainFault>
-    requires few { length blocks.now < 2 ^ 32 }
-    requires read { map from_errors read.now ≡ map (steps_of files.now) blocks.now }
+    requires few { length read.now.blocks < 2 ^ 32 }
+    requires read { AreChains read.now }
     requires asks { QueriesThis datagram.now.bytes asked }
-    ensures { BlocksServe files.now blocks.now datagram.now marks.now result }
+    ensures { BlocksServe read.now.files.now read.now.blocks datagram.now marks.now result }
 {
     let (id, class, opt) = (asked.id, asked.question.class, asked.opt);
     let limit = limit_of(datagram.by, opt);
     let query = query_of(datagram, asked);
-    let (decision, left) = match decide(alloc, files, read, blocks, opt, class, &query, marks)? {
+    let (decision, left) = match decide(alloc, read, opt, class, &query, marks)? {
         Meant::Done(decision, left) => (decision, left),
         Meant::More => return Err(PlainFault::Short),
         Meant::Off => return Err(PlainFault::Short),

@@ -3,7 +3,8 @@ use Rattle.outside.specs.Meanings.{onward}
 use Rattle.chain_meaning.specs.Mean.{answer_of, error_noted, mean, or_rest, query_noted}
 use Rattle.chain_meaning.specs.MeanLaws.{error_nothing, mean_nothing, query_nothing}
 use Rattle.chain_build.specs.Compiled.{front_answerer, others_steps, whole_with}
-use Rattle.chain_build.proofs.Walks.{answers, decided-err, front-answers, front-end, front-errors, front-log, goes}
+use Rattle.chain_build.specs.WalkingLaws.{front-answers, front-end, front-errors, front-log}
+use Rattle.chain_build.proofs.Walks.{answers, decided-err, goes}
 use Rattle.chain_build.proofs.front.+run_front.Goals as goal
 
 pub returns-in_default-clause-takes : goal.returns-in_default-clause-takes
@@ -43,7 +44,7 @@ returns-in_ok-ended-in-Log-clause-takes g t c =
 pub returns-in_err-ended-in-Answers-clause-takes : goal.returns-in_err-ended-in-Answers-clause-takes
 returns-in_err-ended-in-Answers-clause-takes g t c =
     let steps = whole_with (g.X.Extras.says c.args.extras.now) c.args.front.now c.args.behind.now.rewrites c.args.behind.now.back in
-    takes-starved (mean steps c.args.query.now) (decided-err _ c.answer.new.slot c.from_residual-in_err-ended-in-Answers.ensures.0) (mean_nothing steps c.args.query.now)
+    takes-starved (mean steps c.args.query.now) (decided-err _ c.front_answer.new.slot c.from_residual-in_err-ended-in-Answers.ensures.0) (mean_nothing steps c.args.query.now)
 
 pub returns-in-Some-2-clause-takes : goal.returns-in-Some-2-clause-takes
 returns-in-Some-2-clause-takes g t c =
@@ -51,7 +52,7 @@ returns-in-Some-2-clause-takes g t c =
     let rest = mean (whole_with (g.X.Extras.says c.args.extras.now) c.in-Some.rest.now c.args.behind.now.rewrites c.args.behind.now.back) in
     takes-as _ _ (front-answers c.in-Some.step.now c.in-Some.rest.now behind c.args.query.now c.in-Some.ensures.cases.0 c.in-Answers.plugin c.in-Answers.is)
     (takes-nothing (λ left. onward (answer_of (front_answerer c.in-Answers.plugin) c.args.query.now left) (or_rest rest c.args.query.now))
-    (answers (front_answerer c.in-Answers.plugin) rest c.args.query.now _ c.answer.new.slot c.in-Some-2.ended c.in_ok-ended-in-Answers.ensures c.in-Some-2.is))
+    (answers (front_answerer c.in-Answers.plugin) rest c.args.query.now _ c.front_answer.new.slot c.in-Some-2.ended c.in_ok-ended-in-Answers.ensures c.in-Some-2.is))
 
 pub returns-in-None-clause-takes : goal.returns-in-None-clause-takes
 returns-in-None-clause-takes g t c =
@@ -59,5 +60,5 @@ returns-in-None-clause-takes g t c =
     let rest = mean (whole_with (g.X.Extras.says c.args.extras.now) c.in-Some.rest.now c.args.behind.now.rewrites c.args.behind.now.back) in
     takes-as _ _ (front-answers c.in-Some.step.now c.in-Some.rest.now behind c.args.query.now c.in-Some.ensures.cases.0 c.in-Answers.plugin c.in-Answers.is)
     (takes-as (rest c.args.query.now) _
-    (goes (front_answerer c.in-Answers.plugin) rest c.args.query.now _ c.answer.new.slot c.in_ok-ended-in-Answers.ensures c.in-None.is)
+    (goes (front_answerer c.in-Answers.plugin) rest c.args.query.now _ c.front_answer.new.slot c.in_ok-ended-in-Answers.ensures c.in-None.is)
     c.run_front-in-None.ensures.takes)

@@ -7,11 +7,11 @@ use Rattle.plain_chain.proofs.deciding.decide.Goals as goal
 
 pub returns : goal.returns
 returns c =
-    let files = c.args.files.now in
-    let blocks = c.args.blocks.now in
+    let read = c.args.read.now in
+    let files = read.files.now in
     let q = c.args.query.now in
     let known : is_known_version c.args.opt ≡ true = search rules in
     let own : nat_eq c.args.class classes.IN ≡ true = search rules in
     c.in_ok-decide_by.ensures
-    ∙ read-decides files c.args.read.now blocks c.requires.read (picked blocks q.local q.name) q c.args.marks.now c.in-Some.places.now c.in-Some.ensures
-    ∙ asked-decides c.args.opt c.args.class files blocks q c.args.marks.now known own
+    ∙ read-decides files read.chains read.blocks c.requires.read (picked read.blocks q.local q.name) q c.args.marks.now c.in-Some.chain.now c.in-Some.ensures
+    ∙ asked-decides c.args.opt c.args.class files read.blocks q c.args.marks.now known own

@@ -1,12 +1,25 @@
-use Rattle.std.proofs.Common.{◌<◌, sym, subst}
-use Rattle.plain_chain.proofs.Steps.{some-any, some-logs, some-whoami}
+use Rattle.std.proofs.Common.{ap, ◌∙◌}
+use Rattle.chain_build.specs.Compiled.{back_steps, whole}
+use Rattle.plain_chain.specs.Reading.{has_none}
+use Rattle.plain_chain.proofs.Chosen.{no-steps, some-back, some-front, some-rules}
 use Rattle.plain_chain.proofs.deciding.has_none.Goals as goal
 
-pub returns-then-places-2 : goal.returns-then-places-2
-returns-then-places-2 c = sym (some-any c.args.places.now c.if-places-2.true)
+pub returns-then-front-gt0 : goal.returns-then-front-gt0
+returns-then-front-gt0 c =
+    some-front c.as_slice-front.result.now (back_steps c.args.chain.now.rewrites c.args.chain.now.back) c.if-front-gt0.true
+    ∙ ap (λ front. has_none (whole front c.args.chain.now.rewrites c.args.chain.now.back)) c.as_slice-front.ensures
 
-pub returns-then-places-3 : goal.returns-then-places-3
-returns-then-places-3 c = sym (some-whoami c.args.places.now c.if-places-3.true)
+pub returns-then-rules-gt0 : goal.returns-then-rules-gt0
+returns-then-rules-gt0 c =
+    some-rules c.as_slice-front.result.now c.as_slice-rules.result.now c.args.chain.now.back c.if-front-gt0.false c.if-rules-gt0.true
+    ∙ (λ i. has_none (whole (c.as_slice-front.ensures i) (c.as_slice-rules.ensures i) c.args.chain.now.back))
 
-pub returns-then-len-gt0 : goal.returns-then-len-gt0
-returns-then-len-gt0 c = sym (some-logs c.args.places.now (subst (λ n. 0 < n) c.len.ensures c.if-len-gt0.true))
+pub returns-then-back-gt0 : goal.returns-then-back-gt0
+returns-then-back-gt0 c =
+    some-back c.as_slice-front.result.now c.as_slice-rules.result.now c.as_slice-back.result.now c.if-front-gt0.false c.if-rules-gt0.false c.if-back-gt0.true
+    ∙ (λ i. has_none (whole (c.as_slice-front.ensures i) (c.as_slice-rules.ensures i) (c.as_slice-back.ensures i)))
+
+pub returns : goal.returns
+returns c =
+    no-steps c.as_slice-front.result.now c.as_slice-rules.result.now c.as_slice-back.result.now c.if-front-gt0.false c.if-rules-gt0.false c.if-back-gt0.false
+    ∙ (λ i. has_none (whole (c.as_slice-front.ensures i) (c.as_slice-rules.ensures i) (c.as_slice-back.ensures i)))

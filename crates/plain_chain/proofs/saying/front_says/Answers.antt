@@ -1,0 +1,9 @@
+use Rattle.chain_build.specs.Compiled.{front_answerer}
+use Rattle.plain_chain.proofs.Rules.{none-said, some-said}
+use Rattle.plain_chain.proofs.saying.front_says.Goals as goal
+
+pub returns-in-Some : goal.returns-in-Some
+returns-in-Some c = some-said (front_answerer c.args.plugin.now) c.args.query.now _ c.front_answer.new.slot c.in-Some.ended c.in_ok-ended.ensures c.in-Some.is c.in_ok-decided-in-Some.ensures
+
+pub returns : goal.returns
+returns c = none-said (front_answerer c.args.plugin.now) c.args.query.now _ c.front_answer.new.slot c.in_ok-ended.ensures c.in-None.is

@@ -3,8 +3,8 @@ ghost use Rattle.outside_mem.specs.Unused.{IsUnusedSide, IsUnusedWatch};
 
 use dns_data::{Addr, Answer, Buffer, Bytes, Name, NoMemory, Query, Seq, Text, Transport};
 use outside::{
-    Class, Datagram, Entry, FileSet, Host, InnerMark, Key, Outcome, ReadOut, Received, Seen, Side,
-    SideScript, Upstream, Watch, WatchScript,
+    Class, Datagram, Entry, FileSet, Host, InnerMark, Key, Made, Outcome, PatternMaker, ReadOut,
+    Received, Seen, Side, SideScript, Upstream, Watch, WatchScript,
 };
 use outside_mem::{MemHost, MemSide, MemWatch};
 use std::alloc::Global;
@@ -34,7 +34,7 @@ fn outcomes(alloc: Global) -> Result<Vec<Outcome>, NoMemory> {
 }
 
 // The datagrams 1 and 2, the times 7 and 9, the word 5, and the outcomes 3 and 4.
-pub(super) fn side_script(alloc: Global) -> Result<SideScript, NoMemory> {
+pub fn side_script(alloc: Global) -> Result<SideScript, NoMemory> {
     let mut script = SideScript::of_gets(alloc, datagrams(alloc)?);
     script.nows = vec![in alloc; 7, 9]?;
     script.words = vec![in alloc; 5]?;
@@ -43,7 +43,7 @@ pub(super) fn side_script(alloc: Global) -> Result<SideScript, NoMemory> {
 }
 
 // In each list of failing calls, this one too.
-pub(super) fn failing(mut script: SideScript, call: u64) -> Result<SideScript, NoMemory> {
+pub fn failing(mut script: SideScript, call: u64) -> Result<SideScript, NoMemory> {
     script.fail_recv.push(call)?;
     script.fail_send.push(call)?;
     script.fail_ask.push(call)?;
@@ -52,7 +52,7 @@ pub(super) fn failing(mut script: SideScript, call: u64) -> Result<SideScript, N
 }
 
 // The first byte of the datagram that came.
-pub(super) fn received(side: &mut MemSide) -> Option<u8> {
+pub fn received(side: &mut MemSide) -> Option<u8> {
     match side.recv() {
         Received::Got(datagram) => datagram.bytes.as_slice().first().copied(),
         Received::End | Received::Failed | Received::NoMemory => None,
@@ -66,16 +66,16 @@ fn first_byte(outcome: &Outcome) -> Option<u8> {
     }
 }
 
-pub(super) fn asked(side: &mut MemSide) -> Option<u8> {
+pub fn asked(side: &mut MemSide) -> Option<u8> {
     first_byte(&side.ask(&UPSTREAM, Transport::Udp, b"?"))
 }
 
-pub(super) fn more(side: &mut MemSide) -> Option<u8> {
+pub fn more(side: &mut MemSide) -> Option<u8> {
     first_byte(&side.more())
 }
 
 // How many marks the side told, or None where it tells no more.
-pub(super) fn told(side: &MemSide) -> Option<usize> {
+pub fn told(side: &MemSide) -> Option<usize> {
     match side.journal() {
         Some(marks) => Some(marks.len()),
         None => None,
@@ -121,7 +121,7 @@ fn entry(alloc: Global) -> Result<Entry, NoMemory> {
 }
 
 // A generation was pinned, looked in twice, put into and unpinned.
-pub(super) fn see(side: &mut MemSide, alloc: Global) -> Result<(), NoMemory> {
+pub fn see(side: &mut MemSide, alloc: Global) -> Result<(), NoMemory> {
     let entry = entry(alloc)?;
     let key = Key {
         name: Name::root(alloc),
@@ -147,7 +147,7 @@ fn corefile(alloc: Global, size: usize) -> Result<FileSet, NoMemory> {
 }
 
 // A set a size. The read of number 1 and the note of number 0 are to fail.
-pub(super) fn watch_script(alloc: Global, sizes: &[usize]) -> Result<WatchScript, NoMemory> {
+pub fn watch_script(alloc: Global, sizes: &[usize]) -> Result<WatchScript, NoMemory> {
     let mut looks = Vec::new(alloc);
     for size in sizes {
         looks.push(corefile(alloc, *size)?)?;
@@ -158,7 +158,22 @@ pub(super) fn watch_script(alloc: Global, sizes: &[usize]) -> Result<WatchScript
     Ok(script)
 }
 
-pub(super) fn size_read(watch: &mut MemWatch, name: &Text) -> Option<usize> {
+// How many marks the watch told, or None where it tells no more.
+pub fn watch_told(watch: &MemWatch) -> Option<usize> {
+    match watch.journal() {
+        Some(marks) => Some(marks.len()),
+        None => None,
+    }
+}
+
+pub fn is_made(alloc: Global, watch: &mut MemWatch, text: &Text) -> bool {
+    match watch.make(alloc, text) {
+        Made::Pattern(_) => true,
+        Made::NotPattern | Made::Refused | Made::NoMemory => false,
+    }
+}
+
+pub fn size_read(watch: &mut MemWatch, name: &Text) -> Option<usize> {
     match watch.read(name) {
         ReadOut::Got(bytes) => Some(bytes.len()),
         ReadOut::Missing | ReadOut::Failed | ReadOut::NoMemory => None,
@@ -178,7 +193,7 @@ fn unused_watch(alloc: Global) -> Result<MemWatch, NoMemory>
     MemWatch::new(alloc, WatchScript::of_looks(alloc, Vec::new(alloc)))
 }
 
-pub(super) fn host_of_two_sides(alloc: Global) -> Result<MemHost, NoMemory> {
+pub fn host_of_two_sides(alloc: Global) -> Result<MemHost, NoMemory> {
     let mut sides = Vec::new(alloc);
     sides.push(unused_side(alloc)?)?;
     sides.push(unused_side(alloc)?)?;
@@ -186,7 +201,7 @@ pub(super) fn host_of_two_sides(alloc: Global) -> Result<MemHost, NoMemory> {
 }
 
 // Opens the next side, and receives once.
-pub(super) fn received_of_next(host: &mut MemHost, number: u32) -> Option<u8> {
+pub fn received_of_next(host: &mut MemHost, number: u32) -> Option<u8> {
     match host.open_side(53, Transport::Udp, number) {
         Ok(mut side) => received(&mut side),
         Err(_) => None,

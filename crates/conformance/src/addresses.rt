@@ -1,8 +1,8 @@
-//! Addresses: `addr TEXT`, `addrtext 4|6 ADDRESS`, `net TEXT`.
+//! Addresses: `addr TEXT`, `addrtext 4|6 ADDRESS`, `net TEXT`, `holds NET ADDRESS`.
 
 use crate::case::Case;
 use crate::fault::CaseFault;
-use crate::fields::{addr_fields, bytes_field, read_addr, read_bytes};
+use crate::fields::{addr_fields, bytes_field, flag_field, read_addr, read_bytes};
 use dns_data::{Addr, Net};
 use std::alloc::Global;
 
@@ -31,5 +31,16 @@ pub fn net(alloc: Global, case: &Case<'_>) -> Result<String, CaseFault> {
             Ok(format!(in alloc; "{} {}", addr.as_str(), net.bits)?)
         }
         None => Ok(String::from_str(alloc, "bad")?),
+    }
+}
+
+/// Whether the net that a text spells holds the address that another one spells.
+pub fn holds(alloc: Global, case: &Case<'_>) -> Result<String, CaseFault> {
+    let (net, addr) = case.arguments()?;
+    let net = read_bytes(alloc, net)?;
+    let addr = read_bytes(alloc, addr)?;
+    match (Net::read(&net), Addr::read(&addr)) {
+        (Some(net), Some(addr)) => flag_field(alloc, net.holds(&addr)),
+        _ => Err(CaseFault::Bad),
     }
 }

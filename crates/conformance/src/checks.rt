@@ -1,13 +1,11 @@
 //! What a bundle is refused for: `check CONF PORT ENV FILES`.
-ghost use Rattle.std.specs.Prelude.{IfOk};
-ghost use Rattle.std.specs.List.{All};
-ghost use Rattle.corefile_blocks.specs.Readable.{HasShortBytes};
 
 use crate::case::Case;
 use crate::corefile::read_environment;
 use crate::fault::CaseFault;
-use crate::fields::{bytes_field, read_bytes, read_text};
+use crate::fields::{bytes_field, read_bytes, read_text, text_field};
 use chain_build::{CheckFault, check as check_bundle};
+use chain_meaning::Refusal;
 use corefile_blocks::Bundle;
 use dns_data::{Bytes, FileText, FileTexts};
 use outside::RegexMaker;
@@ -15,34 +13,37 @@ use std::alloc::Global;
 
 /// `ok`, or `refused` and the line that an operator sees.
 pub fn check(alloc: Global, case: &Case<'_>) -> Result<String, CaseFault> {
-    let (conf, port, environment, files) = case.four_arguments()?;
-    let Ok(port) = port.parse::<u16>() else {
-        return Err(CaseFault::Bad);
-    };
-    let conf = read_bytes(alloc, conf)?;
-    if u32::MAX as usize <= conf.len() {
+    let (bundle, port) = read_bundle(alloc, case)?;
+    if !bundle.is_readable() {
         return Err(CaseFault::Bad);
     }
-    let bundle = Bundle {
-        conf: Bytes::of(conf),
-        env: read_environment(alloc, environment)?,
-        files: read_files(alloc, files)?,
-    };
     match check_bundle(alloc, bundle, port, &mut RegexMaker::new()) {
-        Ok(_) => Ok(String::from_str(alloc, "ok")?),
-        Err(CheckFault::Refused(refusal)) => {
-            let line = format!(in alloc; "{refusal}")?;
-            let field = bytes_field(alloc, line.as_str().as_bytes())?;
-            Ok(format!(in alloc; "refused {}", field.as_str())?)
-        }
+        Ok(_) => text_field(alloc, "ok"),
+        Err(CheckFault::Refused(refusal)) => refused_field(alloc, &refusal),
         Err(CheckFault::NoMemory) => Err(CaseFault::NoMemory),
     }
 }
 
+fn refused_field(alloc: Global, refusal: &Refusal) -> Result<String, CaseFault> {
+    let line = format!(in alloc; "{refusal}")?;
+    let field = bytes_field(alloc, line.as_str().as_bytes())?;
+    Ok(format!(in alloc; "refused {}", field.as_str())?)
+}
+
+/// The bundle of a case, and the port of keys that name none.
+pub fn read_bundle(alloc: Global, case: &Case<'_>) -> Result<(Bundle, u16), CaseFault> {
+    let (conf, port, environment, files) = case.four_arguments()?;
+    let Ok(port) = port.parse::<u16>() else {
+        return Err(CaseFault::Bad);
+    };
+    let conf = Bytes::of(read_bytes(alloc, conf)?);
+    let env = read_environment(alloc, environment)?;
+    let files = read_files(alloc, files)?;
+    Ok((Bundle { conf, env, files }, port))
+}
+
 // The files of a field: `NAME:BYTES` with commas between them, or `-`.
-fn read_files(alloc: Global, field: &str) -> Result<FileTexts, CaseFault>
-    ensures { IfOk result (λ files. All HasShortBytes files) }
-{
+fn read_files(alloc: Global, field: &str) -> Result<FileTexts, CaseFault> {
     let mut files = FileTexts::new(alloc);
     if field == "-" {
         return Ok(files);
@@ -53,18 +54,12 @@ fn read_files(alloc: Global, field: &str) -> Result<FileTexts, CaseFault>
     Ok(files)
 }
 
-fn read_file(alloc: Global, field: &str) -> Result<FileText, CaseFault>
-    ensures { IfOk result HasShortBytes }
-{
+fn read_file(alloc: Global, field: &str) -> Result<FileText, CaseFault> {
     let Some((name, bytes)) = field.split_once(':') else {
         return Err(CaseFault::Bad);
     };
-    let bytes = read_bytes(alloc, bytes)?;
-    if u32::MAX as usize <= bytes.len() {
-        return Err(CaseFault::Bad);
-    }
-    Ok(FileText {
-        name: read_text(alloc, name)?,
-        bytes: Some(Bytes::of(bytes)),
-    })
+    let name = read_text(alloc, name)?;
+    let bytes = Bytes::of(read_bytes(alloc, bytes)?);
+    let bytes = Some(bytes);
+    Ok(FileText { name, bytes })
 }

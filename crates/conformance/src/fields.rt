@@ -38,21 +38,35 @@ pub fn read_name(alloc: Global, field: &str) -> Result<Name, CaseFault> {
     let mut name = Name::root(alloc);
     let mut rest = bytes.as_slice();
     while let Some((size, behind)) = rest.split_first() {
-        let size = usize::from(*size);
-        if size == 0 {
-            return if behind.is_empty() {
-                Ok(name)
-            } else {
-                Err(CaseFault::Bad)
-            };
-        }
-        if behind.len() < size || LABEL_BYTES < size || NAME_BYTES < name.wire_len() + size + 1 {
+        let Some((label, behind)) = behind.split_at_checked(usize::from(*size)) else {
             return Err(CaseFault::Bad);
+        };
+        if label.is_empty() {
+            return ended(name, behind);
         }
-        name.push(&behind[..size])?;
-        rest = &behind[size..];
+        push_label(&mut name, label)?;
+        rest = behind;
     }
     Err(CaseFault::Bad)
+}
+
+// A name whose zero byte was read, where nothing stands behind it.
+fn ended(name: Name, behind: &[u8]) -> Result<Name, CaseFault> {
+    if behind.is_empty() {
+        Ok(name)
+    } else {
+        Err(CaseFault::Bad)
+    }
+}
+
+fn push_label(name: &mut Name, label: &[u8]) -> Result<(), CaseFault> {
+    if label.is_empty() || LABEL_BYTES < label.len() {
+        return Err(CaseFault::Bad);
+    }
+    if NAME_BYTES < name.wire_len() + label.len() + 1 {
+        return Err(CaseFault::Bad);
+    }
+    Ok(name.push(label)?)
 }
 
 /// The field of a name.
@@ -84,4 +98,22 @@ pub fn addr_fields(alloc: Global, addr: Addr) -> Result<String, CaseFault> {
         Addr::V4(number) => Ok(format!(in alloc; "4 {number:08x}")?),
         Addr::V6(number) => Ok(format!(in alloc; "6 {number:032x}")?),
     }
+}
+
+/// The field of a number that is there, or `bad`.
+pub fn number_field(alloc: Global, number: Option<u64>) -> Result<String, CaseFault> {
+    match number {
+        Some(number) => Ok(format!(in alloc; "{number}")?),
+        None => text_field(alloc, "bad"),
+    }
+}
+
+/// The field of what holds or doesn't.
+pub fn flag_field(alloc: Global, flag: bool) -> Result<String, CaseFault> {
+    text_field(alloc, if flag { "1" } else { "0" })
+}
+
+/// A word as a field.
+pub fn text_field(alloc: Global, word: &str) -> Result<String, CaseFault> {
+    Ok(String::from_str(alloc, word)?)
 }

@@ -1,11 +1,14 @@
 //! Names: `name TEXT ORIGIN`, `nametext NAME`, `lower NAME`, `same NAME NAME`, `within NAME ZONE`,
-//! `reverse 4|6 ADDRESS`, `reversed NAME`.
+//! `reverse 4|6 ADDRESS`, `reversed NAME`, `zoneword TEXT`.
 
 use crate::case::Case;
 use crate::fault::CaseFault;
-use crate::fields::{addr_fields, bytes_field, name_field, read_addr, read_bytes, read_name};
+use crate::fields::{
+    addr_fields, bytes_field, flag_field, name_field, read_addr, read_bytes, read_name, text_field,
+};
 use dns_data::{Name, NameFault};
 use std::alloc::Global;
+use zone_words::read_zone;
 
 /// The name that a text spells below an origin, or `bad`.
 pub fn read(alloc: Global, case: &Case<'_>) -> Result<String, CaseFault> {
@@ -45,7 +48,7 @@ pub fn within(alloc: Global, case: &Case<'_>) -> Result<String, CaseFault> {
     let (name, zone) = case.arguments()?;
     let name = read_name(alloc, name)?;
     let is_within = name.is_within(&read_name(alloc, zone)?);
-    Ok(format!(in alloc; "{}", u8::from(is_within))?)
+    flag_field(alloc, is_within)
 }
 
 /// The name that stands for an address.
@@ -61,5 +64,14 @@ pub fn reversed(alloc: Global, case: &Case<'_>) -> Result<String, CaseFault> {
     match name.reversed_addr() {
         Some(addr) => addr_fields(alloc, addr),
         None => Ok(String::from_str(alloc, "none")?),
+    }
+}
+
+/// The zone that a word of a Corefile names, or `none`.
+pub fn zone(alloc: Global, case: &Case<'_>) -> Result<String, CaseFault> {
+    let word = read_bytes(alloc, case.argument()?)?;
+    match read_zone(alloc, &word)? {
+        Some(zone) => name_field(alloc, &zone),
+        None => text_field(alloc, "none"),
     }
 }

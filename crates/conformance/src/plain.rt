@@ -5,7 +5,7 @@ ghost use Rattle.std.specs.Prelude.{◌≤◌, length};
 use crate::fault::CaseFault;
 use corefile_blocks::Bundle;
 use corefile_words::{Pair, Pairs};
-use dns_data::{Buffer, Bytes, Copies, FileText, FileTexts};
+use dns_data::{Buffer, Bytes, Copies, FileText, FileTexts, Text};
 use dns_server::Report;
 use outside::{Datagram, Mark, ReadOut, RegexMaker, WatchMark};
 use outside_mem::MemHost;
@@ -50,22 +50,37 @@ fn is_meant(
     let Some((Mark::Pinned(serial), turn)) = marks.split_first() else {
         return Ok(false);
     };
-    let Some(bundle) = bundle_of(alloc, sources, *serial)? else {
-        return Ok(false);
-    };
+    match bundle_of(alloc, sources, *serial)? {
+        Some(bundle) => is_meant_by(alloc, &bundle, sources.port, datagram, turn),
+        None => Ok(false),
+    }
+}
+
+// The same under a bundle, of the marks behind the pin.
+fn is_meant_by(
+    alloc: Global,
+    bundle: &Bundle,
+    port: u16,
+    datagram: &Datagram,
+    turn: &[Mark],
+) -> Result<bool, CaseFault> {
     if !bundle.is_readable() {
         return Ok(false);
     }
     let (taken, end) = turn.split_at(taken_of(turn));
-    let sent = match end.first() {
-        Some(Mark::Sent(bytes, _)) => Some(bytes),
-        _ => None,
-    };
     let mut maker = RegexMaker::new();
-    match plain_serve(alloc, &bundle, sources.port, datagram, taken, &mut maker) {
-        Ok(plain) => Ok(plain.used as usize == taken.len() && is_same(sent, &plain.reply)),
+    match plain_serve(alloc, bundle, port, datagram, taken, &mut maker) {
+        Ok(plain) => Ok(plain.used as usize == taken.len() && is_same(sent_in(end), &plain.reply)),
         Err(PlainFault::NoMemory) => Err(CaseFault::NoMemory),
         Err(_) => Ok(false),
+    }
+}
+
+// What was sent by the first mark.
+fn sent_in(marks: &[Mark]) -> Option<&Bytes> {
+    match marks.first() {
+        Some(Mark::Sent(bytes, _)) => Some(bytes),
+        _ => None,
     }
 }
 
@@ -118,29 +133,40 @@ fn bundle_in(
     env: &[Pair],
     marks: &[WatchMark],
 ) -> Result<Option<Bundle>, CaseFault> {
-    let Some((WatchMark::Read(_, ReadOut::Got(conf)), mut rest)) = marks.split_first() else {
+    let Some((WatchMark::Read(_, ReadOut::Got(conf)), rest)) = marks.split_first() else {
         return Ok(None);
     };
-    let mut files = FileTexts::new(alloc);
-    while let Some((mark, behind)) = rest.split_first() {
-        let WatchMark::Read(name, out) = mark else {
-            break;
-        };
-        let bytes = match out {
-            ReadOut::Got(bytes) => Some(bytes.copy(alloc)?),
-            _ => None,
-        };
-        let name = name.copy(alloc)?;
-        files.push(FileText { name, bytes })?;
-        rest = behind;
-    }
+    let conf = conf.copy(alloc)?;
+    let env = pairs_of(alloc, env)?;
+    let files = files_in(alloc, rest)?;
+    Ok(Some(Bundle { conf, env, files }))
+}
+
+fn pairs_of(alloc: Global, env: &[Pair]) -> Result<Pairs, CaseFault> {
     let mut pairs = Pairs::new(alloc);
     for pair in env {
         pairs.push(pair.copy(alloc)?)?;
     }
-    Ok(Some(Bundle {
-        conf: conf.copy(alloc)?,
-        env: pairs,
-        files,
-    }))
+    Ok(pairs)
+}
+
+// The files of the reads at the front of these marks.
+fn files_in(alloc: Global, marks: &[WatchMark]) -> Result<FileTexts, CaseFault> {
+    let mut files = FileTexts::new(alloc);
+    for mark in marks {
+        let WatchMark::Read(name, out) = mark else {
+            break;
+        };
+        files.push(file_of(alloc, name, out)?)?;
+    }
+    Ok(files)
+}
+
+fn file_of(alloc: Global, name: &Text, out: &ReadOut) -> Result<FileText, CaseFault> {
+    let name = name.copy(alloc)?;
+    let bytes = match out {
+        ReadOut::Got(bytes) => Some(bytes.copy(alloc)?),
+        _ => None,
+    };
+    Ok(FileText { name, bytes })
 }

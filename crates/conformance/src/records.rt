@@ -1,4 +1,5 @@
-//! Records and types: `record TEXT ORIGIN TTL`, `kind TEXT`, `kindtext TYPE`.
+//! Records, types and RCODEs: `record TEXT ORIGIN TTL`, `kind TEXT`, `kindtext TYPE`,
+//! `rcodetext RCODE`.
 
 use crate::case::Case;
 use crate::fault::CaseFault;
@@ -7,7 +8,7 @@ use dns_data::limit::TTL_END;
 use dns_data::{Name, Rdata, Record, Soa, Strings};
 use record_text::{RecordFault, read_record};
 use std::alloc::Global;
-use type_names::{kind_text, read_kind};
+use type_names::{kind_text, rcode_text, read_kind};
 
 /// The record that a text spells, or `bad`.
 pub fn read(alloc: Global, case: &Case<'_>) -> Result<String, CaseFault> {
@@ -43,6 +44,14 @@ pub fn print_type(alloc: Global, case: &Case<'_>) -> Result<String, CaseFault> {
     }
 }
 
+/// The text of an RCODE.
+pub fn print_rcode(alloc: Global, case: &Case<'_>) -> Result<String, CaseFault> {
+    match case.argument()?.parse::<u8>() {
+        Ok(rcode) => bytes_field(alloc, rcode_text(alloc, rcode)?.as_str().as_bytes()),
+        Err(_) => Err(CaseFault::Bad),
+    }
+}
+
 /// A record: its owner, type, class, TTL and data, with colons between them.
 pub fn record_field(alloc: Global, read: &Record) -> Result<String, CaseFault> {
     let owner = name_field(alloc, &read.owner)?;
@@ -54,41 +63,31 @@ pub fn record_field(alloc: Global, read: &Record) -> Result<String, CaseFault> {
 // The data in wire format, with names whole.
 fn data_bytes(alloc: Global, data: &Rdata) -> Result<Vec<u8>, CaseFault> {
     let mut bytes = Vec::new(alloc);
-    match data {
-        Rdata::A(addr) => put(&mut bytes, &addr.to_be_bytes())?,
-        Rdata::Aaaa(addr) => put(&mut bytes, &addr.to_be_bytes())?,
-        Rdata::Ns(name) | Rdata::Cname(name) | Rdata::Ptr(name) => put_name(&mut bytes, name)?,
-        Rdata::Soa(soa) => put_soa(&mut bytes, soa)?,
-        Rdata::Hinfo(cpu, os) => {
-            put_string(&mut bytes, cpu.as_slice())?;
-            put_string(&mut bytes, os.as_slice())?;
-        }
-        Rdata::Mx(preference, exchange) => {
-            put(&mut bytes, &preference.to_be_bytes())?;
-            put_name(&mut bytes, exchange)?;
-        }
-        Rdata::Txt(strings) => put_strings(&mut bytes, strings)?,
-        Rdata::Srv(priority, weight, port, target) => {
-            put(&mut bytes, &priority.to_be_bytes())?;
-            put(&mut bytes, &weight.to_be_bytes())?;
-            put(&mut bytes, &port.to_be_bytes())?;
-            put_name(&mut bytes, target)?;
-        }
-        Rdata::Caa(flags, tag, value) => {
-            put(&mut bytes, &[*flags])?;
-            put_string(&mut bytes, tag.as_slice())?;
-            put(&mut bytes, value.as_slice())?;
-        }
-        Rdata::Opaque(_, text) => put(&mut bytes, text.as_slice())?,
-    }
+    put_data(&mut bytes, data)?;
     Ok(bytes)
 }
 
-fn put(bytes: &mut Vec<u8>, more: &[u8]) -> Result<(), CaseFault> {
-    for byte in more {
-        bytes.push(*byte)?;
+fn put_data(bytes: &mut Vec<u8>, data: &Rdata) -> Result<(), CaseFault> {
+    match data {
+        Rdata::A(addr) => put(bytes, &addr.to_be_bytes()),
+        Rdata::Aaaa(addr) => put(bytes, &addr.to_be_bytes()),
+        Rdata::Ns(name) | Rdata::Cname(name) | Rdata::Ptr(name) => put_name(bytes, name),
+        Rdata::Soa(soa) => put_soa(bytes, soa),
+        Rdata::Hinfo(cpu, os) => put_both(bytes, cpu.as_slice(), os.as_slice()),
+        Rdata::Mx(preference, exchange) => put_host(bytes, &[*preference], exchange),
+        Rdata::Txt(strings) => put_strings(bytes, strings),
+        Rdata::Srv(priority, weight, port, target) => {
+            put_host(bytes, &[*priority, *weight, *port], target)
+        }
+        Rdata::Caa(flags, tag, value) => {
+            put_property(bytes, *flags, tag.as_slice(), value.as_slice())
+        }
+        Rdata::Opaque(_, text) => put(bytes, text.as_slice()),
     }
-    Ok(())
+}
+
+fn put(bytes: &mut Vec<u8>, more: &[u8]) -> Result<(), CaseFault> {
+    Ok(bytes.extend_from_slice(more)?)
 }
 
 fn put_name(bytes: &mut Vec<u8>, name: &Name) -> Result<(), CaseFault> {
@@ -99,11 +98,30 @@ fn put_name(bytes: &mut Vec<u8>, name: &Name) -> Result<(), CaseFault> {
 fn put_soa(bytes: &mut Vec<u8>, soa: &Soa) -> Result<(), CaseFault> {
     put_name(bytes, &soa.mname)?;
     put_name(bytes, &soa.rname)?;
-    put(bytes, &soa.serial.to_be_bytes())?;
-    put(bytes, &soa.refresh.to_be_bytes())?;
-    put(bytes, &soa.retry.to_be_bytes())?;
-    put(bytes, &soa.expire.to_be_bytes())?;
-    put(bytes, &soa.minimum.to_be_bytes())
+    let numbers = [soa.serial, soa.refresh, soa.retry, soa.expire, soa.minimum];
+    for number in numbers {
+        put(bytes, &number.to_be_bytes())?;
+    }
+    Ok(())
+}
+
+// Numbers of two bytes each, and a name.
+fn put_host(bytes: &mut Vec<u8>, numbers: &[u16], host: &Name) -> Result<(), CaseFault> {
+    for number in numbers {
+        put(bytes, &number.to_be_bytes())?;
+    }
+    put_name(bytes, host)
+}
+
+fn put_property(bytes: &mut Vec<u8>, flags: u8, tag: &[u8], value: &[u8]) -> Result<(), CaseFault> {
+    put(bytes, &[flags])?;
+    put_string(bytes, tag)?;
+    put(bytes, value)
+}
+
+fn put_both(bytes: &mut Vec<u8>, first: &[u8], second: &[u8]) -> Result<(), CaseFault> {
+    put_string(bytes, first)?;
+    put_string(bytes, second)
 }
 
 fn put_strings(bytes: &mut Vec<u8>, strings: &Strings) -> Result<(), CaseFault> {

@@ -34,22 +34,33 @@ impl RunCase {
         let (key, fields) = line.split_once(' ').unwrap_or((line, ""));
         match key {
             "words" => self.take_words(alloc, fields),
-            "env" => Ok(self.env.push(read_pair(alloc, fields)?)?),
-            "set" => {
-                let files = Seq::new(alloc);
-                Ok(self.watch.looks.push(FileSet { files })?)
-            }
+            "env" => self.take_env(alloc, fields),
+            "set" => self.take_set(alloc),
             "file" => self.take_file(alloc, fields),
             "watchfail" => self.take_failing(fields),
-            "side" => {
-                let script = SideScript::of_gets(alloc, Vec::new(alloc));
-                Ok(self.sides.push(script)?)
-            }
+            "side" => self.take_side(alloc),
             _ => match self.sides.last_mut() {
                 Some(script) => take_of_side(alloc, script, key, fields),
                 None => Err(CaseFault::Bad),
             },
         }
+    }
+
+    fn take_env(&mut self, alloc: Global, fields: &str) -> Result<(), CaseFault> {
+        let pair = read_pair(alloc, fields)?;
+        Ok(self.env.push(pair)?)
+    }
+
+    // A set of no files yet.
+    fn take_set(&mut self, alloc: Global) -> Result<(), CaseFault> {
+        let files = Seq::new(alloc);
+        Ok(self.watch.looks.push(FileSet { files })?)
+    }
+
+    // A side of which nothing was said.
+    fn take_side(&mut self, alloc: Global) -> Result<(), CaseFault> {
+        let script = SideScript::of_gets(alloc, Vec::new(alloc));
+        Ok(self.sides.push(script)?)
     }
 
     fn take_words(&mut self, alloc: Global, fields: &str) -> Result<(), CaseFault> {
@@ -61,15 +72,11 @@ impl RunCase {
 
     // A file of the last set.
     fn take_file(&mut self, alloc: Global, fields: &str) -> Result<(), CaseFault> {
-        let Some((name, bytes)) = fields.split_once(' ') else {
-            return Err(CaseFault::Bad);
-        };
         let Some(set) = self.watch.looks.last_mut() else {
             return Err(CaseFault::Bad);
         };
-        let name = read_text(alloc, name)?;
-        let bytes = Some(Bytes::of(read_bytes(alloc, bytes)?));
-        Ok(set.files.push(FileText { name, bytes })?)
+        let file = read_file(alloc, fields)?;
+        Ok(set.files.push(file)?)
     }
 
     // Which calls of the watch are to fail.
@@ -90,17 +97,28 @@ fn take_of_side(
     fields: &str,
 ) -> Result<(), CaseFault> {
     match key {
-        "get" => Ok(script.gets.push(read_datagram(alloc, fields)?)?),
+        "get" => take_datagram(alloc, script, fields),
         "nows" => push_numbers(&mut script.nows, fields),
         "words_read" => push_numbers(&mut script.words, fields),
         "asks" if fields.is_empty() => Ok(()),
-        "fail" => match fields.split_once(' ') {
-            Some(("recv", numbers)) => push_numbers(&mut script.fail_recv, numbers),
-            Some(("send", numbers)) => push_numbers(&mut script.fail_send, numbers),
-            Some(("ask", numbers)) => push_numbers(&mut script.fail_ask, numbers),
-            Some(("note", numbers)) => push_numbers(&mut script.fail_note, numbers),
-            _ => Err(CaseFault::Bad),
-        },
+        "fail" => take_failing_of_side(script, fields),
+        _ => Err(CaseFault::Bad),
+    }
+}
+
+fn take_datagram(alloc: Global, script: &mut SideScript, fields: &str) -> Result<(), CaseFault> {
+    let datagram = read_datagram(alloc, fields)?;
+    Ok(script.gets.push(datagram)?)
+}
+
+// Which calls of a side are to fail.
+fn take_failing_of_side(script: &mut SideScript, fields: &str) -> Result<(), CaseFault> {
+    let (call, numbers) = parted(fields)?;
+    match call {
+        "recv" => push_numbers(&mut script.fail_recv, numbers),
+        "send" => push_numbers(&mut script.fail_send, numbers),
+        "ask" => push_numbers(&mut script.fail_ask, numbers),
+        "note" => push_numbers(&mut script.fail_note, numbers),
         _ => Err(CaseFault::Bad),
     }
 }
@@ -115,42 +133,72 @@ fn push_numbers(numbers: &mut Vec<u64>, fields: &str) -> Result<(), CaseFault> {
     Ok(())
 }
 
+// A field, and the fields behind it.
+fn parted(fields: &str) -> Result<(&str, &str), CaseFault> {
+    match fields.split_once(' ') {
+        Some(parts) => Ok(parts),
+        None => Err(CaseFault::Bad),
+    }
+}
+
 // A variable: its name and its value.
 fn read_pair(alloc: Global, fields: &str) -> Result<Pair, CaseFault> {
-    let Some((name, value)) = fields.split_once(' ') else {
-        return Err(CaseFault::Bad);
-    };
+    let (name, value) = parted(fields)?;
     let name = read_text(alloc, name)?;
     let value = read_text(alloc, value)?;
     Ok(Pair { name, value })
 }
 
+// A file: its name and its bytes.
+fn read_file(alloc: Global, fields: &str) -> Result<FileText, CaseFault> {
+    let (name, bytes) = parted(fields)?;
+    let name = read_text(alloc, name)?;
+    let bytes = Some(Bytes::of(read_bytes(alloc, bytes)?));
+    Ok(FileText { name, bytes })
+}
+
 // A datagram: its bytes, the client's address and port, the transport, and the port of the server.
 fn read_datagram(alloc: Global, fields: &str) -> Result<Datagram, CaseFault> {
-    let mut left = fields.split(' ');
-    let (Some(bytes), Some(client), Some(port)) = (left.next(), left.next(), left.next()) else {
-        return Err(CaseFault::Bad);
-    };
-    let (Some(by), Some(local)) = (left.next(), left.next()) else {
-        return Err(CaseFault::Bad);
-    };
-    let by = match by {
-        "udp" => Transport::Udp,
-        "tcp" => Transport::Tcp,
-        _ => return Err(CaseFault::Bad),
-    };
-    let (Some(client), Ok(port), Ok(local)) = (
-        Addr::read(client.as_bytes()),
-        port.parse::<u16>(),
-        local.parse::<u16>(),
-    ) else {
-        return Err(CaseFault::Bad);
-    };
+    let (bytes, fields) = parted(fields)?;
+    let (client, fields) = parted(fields)?;
+    let (port, fields) = parted(fields)?;
+    let (by, local) = parted(fields)?;
+    let client = read_client(client)?;
+    let port = read_port(port)?;
+    let by = read_transport(by)?;
+    let local = read_port(local)?;
     Ok(Datagram {
-        bytes: Buffer::from_slice(alloc, &read_bytes(alloc, bytes)?)?,
+        bytes: read_buffer(alloc, bytes)?,
         client,
         port,
         by,
         local,
     })
+}
+
+fn read_client(field: &str) -> Result<Addr, CaseFault> {
+    match Addr::read(field.as_bytes()) {
+        Some(addr) => Ok(addr),
+        None => Err(CaseFault::Bad),
+    }
+}
+
+fn read_port(field: &str) -> Result<u16, CaseFault> {
+    match field.parse::<u16>() {
+        Ok(port) => Ok(port),
+        Err(_) => Err(CaseFault::Bad),
+    }
+}
+
+fn read_transport(field: &str) -> Result<Transport, CaseFault> {
+    match field {
+        "udp" => Ok(Transport::Udp),
+        "tcp" => Ok(Transport::Tcp),
+        _ => Err(CaseFault::Bad),
+    }
+}
+
+fn read_buffer(alloc: Global, field: &str) -> Result<Buffer, CaseFault> {
+    let bytes = read_bytes(alloc, field)?;
+    Ok(Buffer::from_slice(alloc, &bytes)?)
 }

@@ -4,9 +4,10 @@ use crate::case::Case;
 use crate::fault::CaseFault;
 use crate::fields::{bytes_field, read_bytes, read_name};
 use crate::records::record_field;
+use chain_build::reply_message;
 use dns_data::limit::MESSAGE_BYTES;
-use dns_data::{Message, Name, Question, Slot, class, opcode};
-use dns_write::write_message;
+use dns_data::{Buffer, Query, Slot, class};
+use dns_write::write_parts;
 use std::alloc::Global;
 use zone_file::{ZoneFault, ZoneWhy, read_zone};
 use zone_lookup::lookup;
@@ -43,13 +44,20 @@ pub fn answer(alloc: Global, case: &Case<'_>) -> Result<String, CaseFault> {
     let Ok(kind) = kind.parse::<u16>() else {
         return Err(CaseFault::Bad);
     };
-    let name = read_name(alloc, name)?;
     let tree = read_tree(alloc, text, origin)?;
-    let message = answer_of(alloc, &tree, name, kind)?;
-    bytes_field(
-        alloc,
-        write_message(alloc, &message, MESSAGE_BYTES)?.as_slice(),
-    )
+    let mut query = Query::blank(alloc);
+    query.name = read_name(alloc, name)?;
+    query.kind = kind;
+    answer_field(alloc, &tree, &query)
+}
+
+// The message that answers a query.
+fn answer_field(alloc: Global, tree: &TreeZone, query: &Query) -> Result<String, CaseFault> {
+    let mut slot = Slot::new(alloc);
+    lookup(alloc, tree, &query.name, query.kind, &mut slot)?;
+    let parts = reply_message(0, class::IN, None, query, &slot);
+    let bytes = write_parts(alloc, Buffer::new(alloc), &parts, MESSAGE_BYTES)?;
+    bytes_field(alloc, bytes.as_slice())
 }
 
 // The tree of the zone that a text spells.
@@ -64,31 +72,6 @@ fn read_tree(alloc: Global, text: &str, origin: &str) -> Result<TreeZone, CaseFa
         Err(ZoneFault::NoMemory) => Err(CaseFault::NoMemory),
         Err(_) => Err(CaseFault::Bad),
     }
-}
-
-// The message that answers a question.
-fn answer_of(alloc: Global, tree: &TreeZone, name: Name, kind: u16) -> Result<Message, CaseFault> {
-    let mut slot = Slot::new(alloc);
-    lookup(alloc, tree, &name, kind, &mut slot)?;
-    let answer = slot.to_answer(alloc)?;
-    let class = class::IN;
-    Ok(Message {
-        id: 0,
-        qr: true,
-        opcode: opcode::QUERY,
-        aa: answer.aa,
-        tc: answer.tc,
-        rd: false,
-        ra: answer.ra,
-        ad: false,
-        cd: false,
-        rcode: answer.rcode,
-        question: Question { name, kind, class },
-        answer: answer.answer,
-        authority: answer.authority,
-        additional: answer.additional,
-        opt: None,
-    })
 }
 
 fn why_text(why: ZoneWhy) -> &'static str {

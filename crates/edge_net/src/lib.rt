@@ -11,8 +11,6 @@ mod peer;
 mod side;
 mod tally;
 mod tcp;
-#[cfg(test)]
-mod tests;
 mod udp;
 
 pub use arrival::Arrival;

@@ -1,5 +1,5 @@
-//! Tests of the outside and its hosts in memory, of patterns, and of frames and connections over
-//! TCP. They stand here, since a crate with tests is proved once more for them.
+//! Tests of the outside and its hosts in memory, and of frames and connections over TCP. They stand
+//! here, since a crate with tests is proved once more for them.
 #![tactic(auto)]
 
 #[cfg(test)]
@@ -7,8 +7,14 @@ mod connections;
 #[cfg(test)]
 mod frames;
 #[cfg(test)]
-mod memory_hosts;
+mod memory_host;
+#[cfg(test)]
+mod memory_side;
+#[cfg(test)]
+mod memory_watch;
 #[cfg(test)]
 mod outside_values;
 #[cfg(test)]
-mod patterns;
+mod scripts;
+#[cfg(test)]
+mod sockets;

@@ -1,8 +1,16 @@
-//! Tests of the whole server over hosts in memory (statuses, held workers, pinned generations), and of
-//! serving read off the texts.
+//! Tests of the order in which workers and watch of a server go on, over hosts in memory whose sides
+//! wait for one another.
 #![tactic(auto)]
 
 #[cfg(test)]
-mod plain_serving;
+mod orders;
 #[cfg(test)]
-mod serving;
+mod scripts;
+#[cfg(test)]
+mod stage;
+#[cfg(test)]
+mod staged_host;
+#[cfg(test)]
+mod staged_side;
+#[cfg(test)]
+mod staged_watch;

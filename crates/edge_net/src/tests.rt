@@ -1,3 +1,0 @@
-mod datagrams;
-mod pauses;
-mod streams;

@@ -1,0 +1,102 @@
+//! What the runs are given.
+ghost use Rattle.std.specs.Prelude.{IfOk};
+ghost use Rattle.std.specs.List.{All};
+ghost use Rattle.outside_mem.specs.Unused.{IsUnusedSide, IsUnusedWatch};
+
+use crate::stage::Stage;
+use crate::staged_host::StagedHost;
+use dns_data::{Addr, Buffer, NoMemory, Text, Transport};
+use dns_server::{Report, run};
+use outside::{Datagram, FileSet, SideScript, WatchScript};
+use outside_mem::{MemHost, MemSide, MemWatch};
+use std::alloc::Global;
+use std::sync::{Arc, Wait};
+use std::thread::Threads;
+
+/// example.org, A, IN, with RD.
+pub const QUERY: &[u8; 29] =
+    b"\x12\x34\x01\x00\x00\x01\x00\x00\x00\x00\x00\x00\x07example\x03org\x00\x00\x01\x00\x01";
+
+// A script that gives the query so many times, from 127.0.0.1, port 4000, over UDP to port 53.
+fn script(alloc: Global, queries: u32) -> Result<SideScript, NoMemory> {
+    let mut gets = Vec::new(alloc);
+    for _ in 0..queries {
+        gets.push(Datagram {
+            bytes: Buffer::from_slice(alloc, QUERY)?,
+            client: Addr::V4(0x7f00_0001),
+            port: 4000,
+            by: Transport::Udp,
+            local: 53,
+        })?;
+    }
+    Ok(SideScript::of_gets(alloc, gets))
+}
+
+// A side that gives the query so many times.
+fn side(alloc: Global, queries: u32) -> Result<MemSide, NoMemory>
+    ensures { IfOk result IsUnusedSide }
+{
+    let script = script(alloc, queries)?;
+    MemSide::new(alloc, script)
+}
+
+// A side for each number of queries.
+fn sides(alloc: Global, queries: &[u32]) -> Result<Vec<MemSide>, NoMemory>
+    ensures { IfOk result (λ sides. All IsUnusedSide sides.items) }
+{
+    let mut sides = Vec::new(alloc);
+    for count in queries {
+        sides.push(side(alloc, *count)?)?;
+    }
+    Ok(sides)
+}
+
+// What a watch finds: these Corefiles, the first at the start and one more at each look.
+fn looks(alloc: Global, corefiles: &[&[u8]]) -> Result<WatchScript, NoMemory> {
+    let mut looks = Vec::new(alloc);
+    for corefile in corefiles {
+        looks.push(FileSet::of_file(alloc, "/Corefile", corefile)?)?;
+    }
+    Ok(WatchScript::of_looks(alloc, looks))
+}
+
+// A watch that finds these Corefiles.
+fn watch(alloc: Global, corefiles: &[&[u8]]) -> Result<MemWatch, NoMemory>
+    ensures { IfOk result IsUnusedWatch }
+{
+    let script = looks(alloc, corefiles)?;
+    MemWatch::new(alloc, script)
+}
+
+/// A host whose watch finds these Corefiles, and whose sides give the query so many times each.
+pub fn host(alloc: Global, corefiles: &[&[u8]], queries: &[u32]) -> Result<StagedHost, NoMemory> {
+    let watch = watch(alloc, corefiles)?;
+    let sides = sides(alloc, queries)?;
+    let host = MemHost::new(alloc, sides, watch);
+    let stage = Arc::new(alloc, Stage::new())?;
+    Ok(StagedHost {
+        host,
+        stage,
+        pair: queries.len() == 2,
+    })
+}
+
+// Words with spaces between them.
+fn texts(alloc: Global, words: &str) -> Result<Vec<Text>, NoMemory> {
+    let mut texts = Vec::new(alloc);
+    for word in words.split(' ') {
+        texts.push(Text::from_str(alloc, word)?)?;
+    }
+    Ok(texts)
+}
+
+/// A run by these words.
+pub fn ran(
+    rt: &(impl Threads + Wait + Sync),
+    alloc: Global,
+    words: &str,
+    host: &mut StagedHost,
+) -> Result<Report<StagedHost>, NoMemory> {
+    let words = texts(alloc, words)?;
+    Ok(run(rt, alloc, &words, &[], host))
+}

@@ -197,6 +197,32 @@ def nobody_reads(rows):
         rows.equal("it serves on when nobody reads that pipe", server.answers(5), 5)
 
 
+def refused_threads(rows):
+    """Where the system refuses threads, the run doesn't begin. Another user has four processes at most, and the server eight threads to make."""
+    if os.geteuid() or shutil.which("setpriv") is None:
+        print("skipped: threads of another user, without root or setpriv")
+        return
+    user = 60_000 + os.getpid() % 4_000
+    limited = ["setpriv", f"--reuid={user}", "--clear-groups", "sh", "-c", 'ulimit -u 4 && exec "$@"', "sh"]
+    with tempfile.TemporaryDirectory() as room:
+        os.chmod(room, 0o755)
+        path = corefile(room, WHOAMI.replace("{port}", str(free_port())))
+        ran = subprocess.run([*limited, PROGRAM, "serve", "--conf", path, "--workers", "4"], capture_output=True, text=True, timeout=SECONDS)
+        rows.equal("threads that can't run end the run before it serves", (ran.returncode, ran.stdout, ran.stderr),
+                   told(3, "cannot open", "threads: resource temporarily unavailable: 4 asked for"))
+    with Served(WHOAMI, "--workers", "1", mode=0o755, under=limited) as server:
+        rows.row("as many as are allowed serve", server.is_serving(QUERY))
+
+
+def odd_files(rows):
+    with tempfile.TemporaryDirectory() as room:
+        circle = os.path.join(room, "circle")
+        os.symlink(circle, circle)
+        below = os.path.join(corefile(room, ""), "below")
+        for title, name, why in [("a circle of links", circle, "links that lead round in a circle"), ("what stands below a file", below, "not a folder on the way to it")]:
+            rows.equal(f"{title} is told", run("serve", "--conf", name), told(3, f"cannot read {name}", f"read {name}: {why}"))
+
+
 def failing_receives(rows):
     if shutil.which("strace") is None:
         print("skipped: there is no strace")
@@ -316,6 +342,8 @@ def main():
     closed_streams(rows)
     full_pipe(rows)
     nobody_reads(rows)
+    odd_files(rows)
+    refused_threads(rows)
     failing_receives(rows)
     ending_workers(rows)
     in_own_network(rows)

@@ -64,11 +64,12 @@ def status_of(*words):
 class Served:
     """A server for a Corefile, which ends with the `with` block. `{port}` in the text is a free port.
 
-    Its folder has these rights, and the process is what `subprocess.Popen` makes of the other names, as another user.
+    Its folder has these rights, it runs under the command `under`, and the process is what `subprocess.Popen` makes of the other names, as
+    another user.
     """
 
-    def __init__(self, text, *words, mode=0o700, **process):
-        self.text, self.words, self.mode, self.named = text, words, mode, process
+    def __init__(self, text, *words, mode=0o700, under=(), **process):
+        self.text, self.words, self.mode, self.under, self.named = text, words, mode, under, process
 
     def __enter__(self):
         self.room = tempfile.TemporaryDirectory()
@@ -76,7 +77,7 @@ class Served:
         self.port = free_port()
         self.path = corefile(self.room.name, self.text.replace("{port}", str(self.port)))
         self.process = subprocess.Popen(
-            [PROGRAM, "serve", "--conf", self.path, *self.words],
+            [*self.under, PROGRAM, "serve", "--conf", self.path, *self.words],
             stdout=subprocess.PIPE, stderr=subprocess.PIPE, **self.named,
         )
         return self

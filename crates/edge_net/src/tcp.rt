@@ -4,6 +4,7 @@ ghost use Rattle.dns_data.specs.declared.limit.TheConstants as limits;
 use crate::arrival::Arrival;
 use crate::clock::moment;
 use crate::crowd::{Crowd, Turn};
+use crate::descriptors::first_kept_now;
 use dns_data::Buffer;
 use edge_sockets::{Client, Sender, peer_of};
 use mio::net::TcpListener;
@@ -65,7 +66,7 @@ impl TcpEnd {
             poll,
             events: Events::with_capacity(alloc, EVENTS)?,
             listener,
-            crowd: Crowd::new(alloc, bounds),
+            crowd: Crowd::new(alloc, bounds, first_kept_now()),
             piece: Vec::from_elem(alloc, 0u8, PIECE)?,
             from: Sender::nobody(),
             more: true,

@@ -199,11 +199,11 @@ def nobody_reads(rows):
 
 def refused_threads(rows):
     """Where the system refuses threads, the run doesn't begin. Another user has four processes at most, and the server eight threads to make."""
-    if os.geteuid() or shutil.which("setpriv") is None:
-        print("skipped: threads of another user, without root or setpriv")
+    if os.geteuid() or shutil.which("setpriv") is None or shutil.which("prlimit") is None:
+        print("skipped: threads of another user, without root, setpriv or prlimit")
         return
     user = 60_000 + os.getpid() % 4_000
-    limited = ["setpriv", f"--reuid={user}", "--clear-groups", "sh", "-c", 'ulimit -u 4 && exec "$@"', "sh"]
+    limited = ["prlimit", "--nproc=4:4", "--", "setpriv", f"--reuid={user}", "--clear-groups"]
     with tempfile.TemporaryDirectory() as room:
         os.chmod(room, 0o755)
         path = corefile(room, WHOAMI.replace("{port}", str(free_port())))
@@ -290,6 +290,27 @@ def asked_at(family, client, server, port):
             return False
 
 
+def beside_another(rows, family, kind, taken, workers):
+    """A port that somebody has at one address is served at the others, and the edge says at which."""
+    port, over = free_port(), "udp" if kind == socket.SOCK_DGRAM else "tcp"
+    with socket.socket(family, kind) as other:
+        other.bind((taken, port))
+        if over == "tcp":
+            other.listen(1)
+        with Served(WHOAMI, "--workers", workers, port=port) as server:
+            rows.row(f"a port of which somebody has {over} at {taken} is served", server.is_serving(QUERY))
+            for address in ("127.0.0.1", "10.9.9.2"):
+                rows.row(f"over UDP at {address}", asked_at(socket.AF_INET, "10.9.9.1", address, port) if address != taken else True)
+                with socket.create_connection((address, port), timeout=2) as client:
+                    client.sendall(len(QUERY).to_bytes(2, "big") + QUERY)
+                    rows.row(f"over TCP at {address}", len(client.recv(512)) > 14)
+            noted = server.noted()
+    left = "others" if taken == "127.0.0.53" else taken
+    places = [address for address in ("10.9.9.1", "10.9.9.2", "fd00:9::1", "fd00:9::2", "127.0.0.1", "::1") if address != taken]
+    found = [re.fullmatch(rf"open {over} port {port}: address in use: open at ([0-9a-f.: ]+), left out {re.escape(left)}", line) for line in noted]
+    rows.row(f"and the edge says at which addresses over {over}", len(noted) == 1 and found[0] and sorted(found[0][1].split()) == sorted(places), noted)
+
+
 def apart(rows):
     """In a network of its own with several addresses, where IPv6 sockets keep IPv4 out unless they ask."""
     with open("/proc/sys/net/ipv6/bindv6only") as file:
@@ -310,6 +331,9 @@ def apart(rows):
         path = corefile(server.room.name, WHOAMI.replace("{port}", str(server.port)))
         rows.equal("a port that another server of this user has is taken", run("serve", "--conf", path),
                    told(3, "cannot open", f"open udp port {server.port}: address in use"))
+    beside_another(rows, socket.AF_INET, socket.SOCK_DGRAM, "127.0.0.53", "1")
+    beside_another(rows, socket.AF_INET, socket.SOCK_STREAM, "127.0.0.53", "4")
+    beside_another(rows, socket.AF_INET6, socket.SOCK_DGRAM, "fd00:9::1", "2")
 
 
 def in_own_network(rows):

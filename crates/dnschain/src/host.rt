@@ -1,9 +1,9 @@
 ghost use Rattle.std.specs.Prelude.{None};
 
-use crate::endpoint::{Endpoint, Unopened};
+use crate::endpoint::{Apart, Endpoint, Unopened};
 use crate::threads::can_run;
 use crate::watch::FileWatch;
-use dns_data::Transport;
+use dns_data::{Text, Transport};
 use edge_lines::{EdgeLine, line_text, note_line, tell_line};
 use edge_net::{Crew, End, NetSide, count};
 use outside::{Host, OpenFault, Wrote};
@@ -133,7 +133,7 @@ fn crew_of(
 
 // A worker's share of a port. The first worker's opens it.
 fn open_end(
-    net: &impl Net,
+    rt: &(impl Net + Files + Eprint),
     alloc: Global,
     last: &mut Option<Endpoint>,
     place: (u16, Transport, u32),
@@ -141,13 +141,26 @@ fn open_end(
     let (port, by, number) = place;
     if let Some(endpoint) = last {
         if number != 0 && endpoint.is_at(port, by) {
-            return endpoint.share(net, alloc, number);
+            return endpoint.share(rt, alloc, number);
         }
     }
-    let endpoint = Endpoint::open(net, port, by)?;
-    let end = endpoint.share(net, alloc, 0)?;
+    let mut endpoint = Endpoint::open(rt, alloc, port, by)?;
+    let end = endpoint.share(rt, alloc, 0)?;
+    if let Some(Apart { at, out }) = endpoint.take_apart() {
+        let out = if out.as_str().is_empty() {
+            others(alloc)
+        } else {
+            out
+        };
+        say(rt, alloc, &EdgeLine::OpenAt(by, port, at, out));
+    }
     *last = Some(endpoint);
     Ok(end)
+}
+
+// What is left out where that is no address of the host's own list.
+fn others(alloc: Global) -> Text {
+    Text::from_str(alloc, "others").unwrap_or(Text::new(alloc))
 }
 
 // Says why a side wasn't opened. Where that fails, nothing is lost that the status tells.

@@ -42,7 +42,7 @@ why_text why.Links = codes "links that lead round in a circle"
 why_text why.Unnamed = codes "not a name that a file can have"
 why_text (why.System number) = codes "error " ++ decimal number
 
--- the line of a port that is not open, of a file that was not read, and of threads that can't run
+-- the line of a port that is not open, or open at some addresses alone, of a file that was not read, and of threads that can't run
 abbrev pub edge_text : EdgeLine → List ℕ
 edge_text (edge.NotOpen Udp port cause) =
     codes "open udp port " ++ decimal port ++ codes ": " ++ why_text cause
@@ -50,5 +50,11 @@ edge_text (edge.NotOpen Tcp port cause) =
     codes "open tcp port " ++ decimal port ++ codes ": " ++ why_text cause
 edge_text (edge.NotRead name cause) =
     codes "read " ++ name ++ codes ": " ++ why_text cause
+edge_text (edge.OpenAt Udp port at out) =
+    codes "open udp port " ++ decimal port ++ codes ": address in use: open at " ++ at ++
+    codes ", left out " ++ out
+edge_text (edge.OpenAt Tcp port at out) =
+    codes "open tcp port " ++ decimal port ++ codes ": address in use: open at " ++ at ++
+    codes ", left out " ++ out
 edge_text (edge.NoThreads count) =
     codes "threads: resource temporarily unavailable: " ++ decimal count ++ codes " asked for"

@@ -81,6 +81,9 @@ impl Display for Why {
 pub enum EdgeLine {
     NotOpen(Transport, u16, Why),
     NotRead(Text, Why),
+    /// A port that somebody has at an address, and that is open at these addresses alone; what of
+    /// the host's addresses is left out.
+    OpenAt(Transport, u16, Text, Text),
     /// So many threads can't run at once.
     NoThreads(u64),
 }
@@ -102,6 +105,18 @@ impl Display for EdgeLine {
                 "open tcp port {port}: {why}"
             ),
             EdgeLine::NotRead(name, why) => write!(f, "read {}: {why}", name.as_str()),
+            EdgeLine::OpenAt(Transport::Udp, port, at, out) => write!(
+                f,
+                "open udp port {port}: address in use: open at {}, left out {}",
+                at.as_str(),
+                out.as_str()
+            ),
+            EdgeLine::OpenAt(Transport::Tcp, port, at, out) => write!(
+                f,
+                "open tcp port {port}: address in use: open at {}, left out {}",
+                at.as_str(),
+                out.as_str()
+            ),
             EdgeLine::NoThreads(count) => write!(
                 f,
                 "threads: resource temporarily unavailable: {count} asked for"

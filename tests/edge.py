@@ -305,10 +305,11 @@ def beside_another(rows, family, kind, taken, workers):
                     client.sendall(len(QUERY).to_bytes(2, "big") + QUERY)
                     rows.row(f"over TCP at {address}", len(client.recv(512)) > 14)
             noted = server.noted()
-    left = "others" if taken == "127.0.0.53" else taken
     places = [address for address in ("10.9.9.1", "10.9.9.2", "fd00:9::1", "fd00:9::2", "127.0.0.1", "::1") if address != taken]
-    found = [re.fullmatch(rf"open {over} port {port}: address in use: open at ([0-9a-f.: ]+), left out {re.escape(left)}", line) for line in noted]
-    rows.row(f"and the edge says at which addresses over {over}", len(noted) == 1 and found[0] and sorted(found[0][1].split()) == sorted(places), noted)
+    found = re.fullmatch(rf"open {over} port {port}: address in use: open at ([0-9a-f.: ]+)", noted[0]) if noted else None
+    rows.row(f"and the edge says at which addresses over {over}", found and sorted(found[1].split()) == sorted(places), noted)
+    left = [] if taken == "127.0.0.53" else [f"open {over} port {port}: address in use: left out {taken}"]
+    rows.equal(f"and which of the host's it leaves out over {over}", noted[1:], left)
 
 
 def apart(rows):

@@ -3,7 +3,7 @@ ghost use Rattle.std.specs.Prelude.{None};
 use crate::endpoint::{Apart, Endpoint, Unopened};
 use crate::threads::can_run;
 use crate::watch::FileWatch;
-use dns_data::{Text, Transport};
+use dns_data::Transport;
 use edge_lines::{EdgeLine, line_text, note_line, tell_line};
 use edge_net::{Crew, End, NetSide, count};
 use outside::{Host, OpenFault, Wrote};
@@ -147,20 +147,13 @@ fn open_end(
     let mut endpoint = Endpoint::open(rt, alloc, port, by)?;
     let end = endpoint.share(rt, alloc, 0)?;
     if let Some(Apart { at, out }) = endpoint.take_apart() {
-        let out = if out.as_str().is_empty() {
-            others(alloc)
-        } else {
-            out
-        };
-        say(rt, alloc, &EdgeLine::OpenAt(by, port, at, out));
+        say(rt, alloc, &EdgeLine::OpenAt(by, port, at));
+        if !out.as_str().is_empty() {
+            say(rt, alloc, &EdgeLine::LeftOut(by, port, out));
+        }
     }
     *last = Some(endpoint);
     Ok(end)
-}
-
-// What is left out where that is no address of the host's own list.
-fn others(alloc: Global) -> Text {
-    Text::from_str(alloc, "others").unwrap_or(Text::new(alloc))
 }
 
 // Says why a side wasn't opened. Where that fails, nothing is lost that the status tells.

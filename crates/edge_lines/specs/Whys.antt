@@ -50,11 +50,13 @@ edge_text (edge.NotOpen Tcp port cause) =
     codes "open tcp port " ++ decimal port ++ codes ": " ++ why_text cause
 edge_text (edge.NotRead name cause) =
     codes "read " ++ name ++ codes ": " ++ why_text cause
-edge_text (edge.OpenAt Udp port at out) =
-    codes "open udp port " ++ decimal port ++ codes ": address in use: open at " ++ at ++
-    codes ", left out " ++ out
-edge_text (edge.OpenAt Tcp port at out) =
-    codes "open tcp port " ++ decimal port ++ codes ": address in use: open at " ++ at ++
-    codes ", left out " ++ out
+edge_text (edge.OpenAt Udp port at) =
+    codes "open udp port " ++ decimal port ++ codes ": address in use: open at " ++ at
+edge_text (edge.OpenAt Tcp port at) =
+    codes "open tcp port " ++ decimal port ++ codes ": address in use: open at " ++ at
+edge_text (edge.LeftOut Udp port at) =
+    codes "open udp port " ++ decimal port ++ codes ": address in use: left out " ++ at
+edge_text (edge.LeftOut Tcp port at) =
+    codes "open tcp port " ++ decimal port ++ codes ": address in use: left out " ++ at
 edge_text (edge.NoThreads count) =
     codes "threads: resource temporarily unavailable: " ++ decimal count ++ codes " asked for"

@@ -81,9 +81,10 @@ impl Display for Why {
 pub enum EdgeLine {
     NotOpen(Transport, u16, Why),
     NotRead(Text, Why),
-    /// A port that somebody has at an address, and that is open at these addresses alone; what of
-    /// the host's addresses is left out.
-    OpenAt(Transport, u16, Text, Text),
+    /// A port that somebody has at an address is open at these addresses alone.
+    OpenAt(Transport, u16, Text),
+    /// A port that somebody has isn't open at these addresses of the host.
+    LeftOut(Transport, u16, Text),
     /// So many threads can't run at once.
     NoThreads(u64),
 }
@@ -105,17 +106,25 @@ impl Display for EdgeLine {
                 "open tcp port {port}: {why}"
             ),
             EdgeLine::NotRead(name, why) => write!(f, "read {}: {why}", name.as_str()),
-            EdgeLine::OpenAt(Transport::Udp, port, at, out) => write!(
+            EdgeLine::OpenAt(Transport::Udp, port, at) => write!(
                 f,
-                "open udp port {port}: address in use: open at {}, left out {}",
-                at.as_str(),
-                out.as_str()
+                "open udp port {port}: address in use: open at {}",
+                at.as_str()
             ),
-            EdgeLine::OpenAt(Transport::Tcp, port, at, out) => write!(
+            EdgeLine::OpenAt(Transport::Tcp, port, at) => write!(
                 f,
-                "open tcp port {port}: address in use: open at {}, left out {}",
-                at.as_str(),
-                out.as_str()
+                "open tcp port {port}: address in use: open at {}",
+                at.as_str()
+            ),
+            EdgeLine::LeftOut(Transport::Udp, port, at) => write!(
+                f,
+                "open udp port {port}: address in use: left out {}",
+                at.as_str()
+            ),
+            EdgeLine::LeftOut(Transport::Tcp, port, at) => write!(
+                f,
+                "open tcp port {port}: address in use: left out {}",
+                at.as_str()
             ),
             EdgeLine::NoThreads(count) => write!(
                 f,

@@ -306,9 +306,9 @@ def beside_another(rows, family, kind, taken, workers):
                     rows.row(f"over TCP at {address}", len(client.recv(512)) > 14)
             noted = server.noted()
     places = [address for address in ("10.9.9.1", "10.9.9.2", "fd00:9::1", "fd00:9::2", "127.0.0.1", "::1") if address != taken]
-    found = re.fullmatch(rf"open {over} port {port}: address in use: open at ([0-9a-f.: ]+)", noted[0]) if noted else None
+    found = re.fullmatch(rf"{over} port {port} open at ([0-9a-f.: ]+)", noted[0]) if noted else None
     rows.row(f"and the edge says at which addresses over {over}", found and sorted(found[1].split()) == sorted(places), noted)
-    left = [] if taken == "127.0.0.53" else [f"open {over} port {port}: address in use: left out {taken}"]
+    left = [] if taken == "127.0.0.53" else [f"{over} port {port} taken at {taken}"]
     rows.equal(f"and which of the host's it leaves out over {over}", noted[1:], left)
 
 

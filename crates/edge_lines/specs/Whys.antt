@@ -51,12 +51,12 @@ edge_text (edge.NotOpen Tcp port cause) =
 edge_text (edge.NotRead name cause) =
     codes "read " ++ name ++ codes ": " ++ why_text cause
 edge_text (edge.OpenAt Udp port at) =
-    codes "open udp port " ++ decimal port ++ codes ": address in use: open at " ++ at
+    codes "udp port " ++ decimal port ++ codes " open at " ++ at
 edge_text (edge.OpenAt Tcp port at) =
-    codes "open tcp port " ++ decimal port ++ codes ": address in use: open at " ++ at
+    codes "tcp port " ++ decimal port ++ codes " open at " ++ at
 edge_text (edge.LeftOut Udp port at) =
-    codes "open udp port " ++ decimal port ++ codes ": address in use: left out " ++ at
+    codes "udp port " ++ decimal port ++ codes " taken at " ++ at
 edge_text (edge.LeftOut Tcp port at) =
-    codes "open tcp port " ++ decimal port ++ codes ": address in use: left out " ++ at
+    codes "tcp port " ++ decimal port ++ codes " taken at " ++ at
 edge_text (edge.NoThreads count) =
     codes "threads: resource temporarily unavailable: " ++ decimal count ++ codes " asked for"

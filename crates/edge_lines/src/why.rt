@@ -108,22 +108,22 @@ impl Display for EdgeLine {
             EdgeLine::NotRead(name, why) => write!(f, "read {}: {why}", name.as_str()),
             EdgeLine::OpenAt(Transport::Udp, port, at) => write!(
                 f,
-                "open udp port {port}: address in use: open at {}",
+                "udp port {port} open at {}",
                 at.as_str()
             ),
             EdgeLine::OpenAt(Transport::Tcp, port, at) => write!(
                 f,
-                "open tcp port {port}: address in use: open at {}",
+                "tcp port {port} open at {}",
                 at.as_str()
             ),
             EdgeLine::LeftOut(Transport::Udp, port, at) => write!(
                 f,
-                "open udp port {port}: address in use: left out {}",
+                "udp port {port} taken at {}",
                 at.as_str()
             ),
             EdgeLine::LeftOut(Transport::Tcp, port, at) => write!(
                 f,
-                "open tcp port {port}: address in use: left out {}",
+                "tcp port {port} taken at {}",
                 at.as_str()
             ),
             EdgeLine::NoThreads(count) => write!(

@@ -197,6 +197,32 @@ def nobody_reads(rows):
         rows.equal("it serves on when nobody reads that pipe", server.answers(5), 5)
 
 
+def refused_threads(rows):
+    """Where the system refuses threads, the run doesn't begin. Another user has four processes at most, and the server eight threads to make."""
+    if os.geteuid() or shutil.which("setpriv") is None or shutil.which("prlimit") is None:
+        print("skipped: threads of another user, without root, setpriv or prlimit")
+        return
+    user = 60_000 + os.getpid() % 4_000
+    limited = ["prlimit", "--nproc=4:4", "--", "setpriv", f"--reuid={user}", "--clear-groups"]
+    with tempfile.TemporaryDirectory() as room:
+        os.chmod(room, 0o755)
+        path = corefile(room, WHOAMI.replace("{port}", str(free_port())))
+        ran = subprocess.run([*limited, PROGRAM, "serve", "--conf", path, "--workers", "4"], capture_output=True, text=True, timeout=SECONDS)
+        rows.equal("threads that can't run end the run before it serves", (ran.returncode, ran.stdout, ran.stderr),
+                   told(3, "cannot open", "threads: resource temporarily unavailable: 4 asked for"))
+    with Served(WHOAMI, "--workers", "1", mode=0o755, under=limited) as server:
+        rows.row("as many as are allowed serve", server.is_serving(QUERY))
+
+
+def odd_files(rows):
+    with tempfile.TemporaryDirectory() as room:
+        circle = os.path.join(room, "circle")
+        os.symlink(circle, circle)
+        below = os.path.join(corefile(room, ""), "below")
+        for title, name, why in [("a circle of links", circle, "links that lead round in a circle"), ("what stands below a file", below, "not a folder on the way to it")]:
+            rows.equal(f"{title} is told", run("serve", "--conf", name), told(3, f"cannot read {name}", f"read {name}: {why}"))
+
+
 def failing_receives(rows):
     if shutil.which("strace") is None:
         print("skipped: there is no strace")
@@ -264,6 +290,28 @@ def asked_at(family, client, server, port):
             return False
 
 
+def beside_another(rows, family, kind, taken, workers):
+    """A port that somebody has at one address is served at the others, and the edge says at which."""
+    port, over = free_port(), "udp" if kind == socket.SOCK_DGRAM else "tcp"
+    with socket.socket(family, kind) as other:
+        other.bind((taken, port))
+        if over == "tcp":
+            other.listen(1)
+        with Served(WHOAMI, "--workers", workers, port=port) as server:
+            rows.row(f"a port of which somebody has {over} at {taken} is served", server.is_serving(QUERY))
+            for address in ("127.0.0.1", "10.9.9.2"):
+                rows.row(f"over UDP at {address}", asked_at(socket.AF_INET, "10.9.9.1", address, port) if address != taken else True)
+                with socket.create_connection((address, port), timeout=2) as client:
+                    client.sendall(len(QUERY).to_bytes(2, "big") + QUERY)
+                    rows.row(f"over TCP at {address}", len(client.recv(512)) > 14)
+            noted = server.noted()
+    places = [address for address in ("10.9.9.1", "10.9.9.2", "fd00:9::1", "fd00:9::2", "127.0.0.1", "::1") if address != taken]
+    found = re.fullmatch(rf"{over} port {port} open at ([0-9a-f.: ]+)", noted[0]) if noted else None
+    rows.row(f"and the edge says at which addresses over {over}", found and sorted(found[1].split()) == sorted(places), noted)
+    left = [] if taken == "127.0.0.53" else [f"{over} port {port} taken at {taken}"]
+    rows.equal(f"and which of the host's it leaves out over {over}", noted[1:], left)
+
+
 def apart(rows):
     """In a network of its own with several addresses, where IPv6 sockets keep IPv4 out unless they ask."""
     with open("/proc/sys/net/ipv6/bindv6only") as file:
@@ -284,6 +332,9 @@ def apart(rows):
         path = corefile(server.room.name, WHOAMI.replace("{port}", str(server.port)))
         rows.equal("a port that another server of this user has is taken", run("serve", "--conf", path),
                    told(3, "cannot open", f"open udp port {server.port}: address in use"))
+    beside_another(rows, socket.AF_INET, socket.SOCK_DGRAM, "127.0.0.53", "1")
+    beside_another(rows, socket.AF_INET, socket.SOCK_STREAM, "127.0.0.53", "4")
+    beside_another(rows, socket.AF_INET6, socket.SOCK_DGRAM, "fd00:9::1", "2")
 
 
 def in_own_network(rows):
@@ -316,6 +367,8 @@ def main():
     closed_streams(rows)
     full_pipe(rows)
     nobody_reads(rows)
+    odd_files(rows)
+    refused_threads(rows)
     failing_receives(rows)
     ending_workers(rows)
     in_own_network(rows)

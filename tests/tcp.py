@@ -20,13 +20,15 @@ QUERY = bytes.fromhex("123401000001000000000000") + NAME + bytes.fromhex("000100
 FRAME = struct.pack(">H", len(QUERY)) + QUERY
 WHOAMI = ".:{port} {\n\twhoami\n}\n"
 BOUND = 1024
+# So many connections from one address at most, a quarter of all.
+OF_ONE = BOUND // 4
 
 
 class Stream:
-    """A connection of a client on loopback."""
+    """A connection of a client on loopback, from one of its addresses."""
 
-    def __init__(self, port, seconds=5.0):
-        self.socket = socket.create_connection(("127.0.0.1", port), timeout=seconds)
+    def __init__(self, port, seconds=5.0, address="127.0.0.1"):
+        self.socket = socket.create_connection(("127.0.0.1", port), timeout=seconds, source_address=(address, 0))
         self.socket.setsockopt(socket.IPPROTO_TCP, socket.TCP_NODELAY, 1)
         self.port = self.socket.getsockname()[1]
 
@@ -165,7 +167,7 @@ def stalled(rows, port):
     grown = []
     while len(grown) < 15 and min(grown, default=9) > 1.2:
         alone = median(port, 400)
-        crowd = [Stream(port) for _ in range(1000)]
+        crowd = [Stream(port, address=address_of(number)) for number in range(1000)]
         for at, client in enumerate(crowd):
             client.socket.sendall(FRAME[:at % len(FRAME)])
         time.sleep(0.1)
@@ -178,17 +180,13 @@ def stalled(rows, port):
     rows.row("beside 1,000 stalled clients another's median grows by at most 20 %", min(grown) <= 1.2, f"{told} times")
 
 
-def bound(rows, port):
-    if resource.getrlimit(resource.RLIMIT_NOFILE)[0] < 2200:
-        print("skipped: the bound on connections, since this process may not open so many sockets")
-        return
-    crowd = []
-    for _ in range(2000):
-        try:
-            crowd.append(Stream(port))
-        except OSError:
-            break
-    time.sleep(0.5)
+def address_of(number):
+    """An address of loopback, of which each is one of 200 numbers in a row."""
+    return f"127.0.0.{2 + number // 200}"
+
+
+def served_of(crowd):
+    """How many of the connections get a reply."""
     alive = 0
     for client in crowd:
         try:
@@ -196,6 +194,64 @@ def bound(rows, port):
             alive += client.reply() is not None
         except OSError:
             pass
+    return alive
+
+
+def many(port, addresses):
+    """A connection from each of the addresses, as far as they can be made."""
+    crowd = []
+    for address in addresses:
+        try:
+            crowd.append(Stream(port, address=address))
+        except OSError:
+            break
+    time.sleep(0.5)
+    return crowd
+
+
+def close(crowd):
+    for client in crowd:
+        client.socket.close()
+    time.sleep(0.3)
+
+
+def of_one_address(rows, port):
+    crowd = many(port, ["127.0.0.1"] * (OF_ONE + 100))
+    rows.equal(f"of {OF_ONE + 100} connections from one address {OF_ONE} are served", served_of(crowd), OF_ONE)
+    with Stream(port, address="127.0.0.2") as client:
+        rows.row("and one from another beside them", client.ask() is not None)
+    close(crowd)
+
+
+def few_descriptors(rows):
+    """A server that may open 64 descriptors keeps 32 of them from its connections, so a look reads its files all the time."""
+    limit = ["prlimit", "--nofile=64:64", "--"]
+    if shutil.which("prlimit") is None:
+        print("skipped: there is no prlimit")
+        return
+    text = ".:{port} {\n\treload 2s 1s\n\twhoami\n}\n"
+    with Served(text, under=limit) as server:
+        rows.row("with 64 descriptors it serves", server.is_serving(QUERY))
+        crowd = many(server.port, [address_of(number * 20) for number in range(60)])
+        alive = served_of(crowd)
+        rows.row("of 60 connections some are served, and 32 descriptors stay", 10 <= alive <= 32, alive)
+        with open(server.path + ".new", "w") as file:
+            file.write(text.replace("{port}", str(server.port)).replace("2s 1s", "2s 0s"))
+        os.replace(server.path + ".new", server.path)
+        time.sleep(3.4)
+        with Client(server.port) as client:
+            rows.row("UDP is served beside them", client.ask(QUERY) is not None)
+        close(crowd)
+        noted = server.noted()
+    rows.equal("the looks meanwhile read their files", noted, ["reload published 1"])
+
+
+def bound(rows, port):
+    if resource.getrlimit(resource.RLIMIT_NOFILE)[0] < 2200:
+        print("skipped: the bound on connections, since this process may not open so many sockets")
+        return
+    crowd = many(port, [address_of(number) for number in range(2000)])
+    alive = served_of(crowd)
     rows.row(f"of 2,000 connections at most {BOUND} are served, and most of these", BOUND // 2 < alive <= BOUND, alive)
     for client in crowd:
         client.socket.close()
@@ -282,9 +338,10 @@ def main():
     resource.setrlimit(resource.RLIMIT_NOFILE, (min(hard, 8192) if hard > 0 else 8192, hard))
     with Served(WHOAMI) as server:
         rows.row("the program serves", server.is_serving(QUERY))
-        for check in [pieces, pipelined, torn, never_reads, stalled, bound, with_dig, with_dnsperf]:
+        for check in [pieces, pipelined, torn, never_reads, stalled, of_one_address, bound, with_dig, with_dnsperf]:
             check(rows, server.port)
         rows.row("it runs on", server.process.poll() is None)
+    few_descriptors(rows)
     truncated(rows)
     ends(rows)
     rows.end()

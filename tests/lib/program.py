@@ -62,21 +62,22 @@ def status_of(*words):
 
 
 class Served:
-    """A server for a Corefile, which ends with the `with` block. `{port}` in the text is a free port.
+    """A server for a Corefile, which ends with the `with` block. `{port}` in the text is a free port, or the one that is given.
 
-    Its folder has these rights, and the process is what `subprocess.Popen` makes of the other names, as another user.
+    Its folder has these rights, it runs under the command `under`, and the process is what `subprocess.Popen` makes of the other names, as
+    another user.
     """
 
-    def __init__(self, text, *words, mode=0o700, **process):
-        self.text, self.words, self.mode, self.named = text, words, mode, process
+    def __init__(self, text, *words, mode=0o700, under=(), port=None, **process):
+        self.text, self.words, self.mode, self.under, self.given, self.named = text, words, mode, under, port, process
 
     def __enter__(self):
         self.room = tempfile.TemporaryDirectory()
         os.chmod(self.room.name, self.mode)
-        self.port = free_port()
+        self.port = self.given or free_port()
         self.path = corefile(self.room.name, self.text.replace("{port}", str(self.port)))
         self.process = subprocess.Popen(
-            [PROGRAM, "serve", "--conf", self.path, *self.words],
+            [*self.under, PROGRAM, "serve", "--conf", self.path, *self.words],
             stdout=subprocess.PIPE, stderr=subprocess.PIPE, **self.named,
         )
         return self

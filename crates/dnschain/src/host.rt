@@ -1,9 +1,10 @@
 ghost use Rattle.std.specs.Prelude.{None};
 
-use crate::endpoint::{Endpoint, Unopened};
+use crate::endpoint::{Apart, Endpoint, Unopened};
+use crate::threads::can_run;
 use crate::watch::FileWatch;
 use dns_data::Transport;
-use edge_lines::{EdgeLine, Why, line_text, note_line, tell_line};
+use edge_lines::{EdgeLine, line_text, note_line, tell_line};
 use edge_net::{Crew, End, NetSide, count};
 use outside::{Host, OpenFault, Wrote};
 use std::alloc::{AllocError, Global};
@@ -11,13 +12,14 @@ use std::net::Net;
 use std::random::RandomSource;
 use std::rt::Files;
 use std::sync::{Arc, Wait};
+use std::thread::Threads;
 use std::time::Clock;
 
 /// The host over the system: sockets at every address, files, standard output and standard error.
 /// It tells no lines, no opened sides and no supply, and counts its failing calls.
 #[derive(Drop)]
 pub struct SystemHost<
-    R: Wait + Net + Files + Clock + RandomSource + Print + Eprint + Copy + Send + Drop,
+    R: Threads + Wait + Net + Files + Clock + RandomSource + Print + Eprint + Copy + Send + Drop,
 > {
     rt: R,
     alloc: Global,
@@ -25,27 +27,42 @@ pub struct SystemHost<
     crew: Option<Arc<Crew, Global>>,
     // The port that was opened last, for the sides of its further workers.
     last: Option<Endpoint>,
+    // How many sides were opened. Each has a thread of its own, beside the one of the watch.
+    sides: usize,
     open_faults: u64,
     tell_faults: u64,
 }
 
-impl<R: Wait + Net + Files + Clock + RandomSource + Print + Eprint + Copy + Send + Drop> SystemHost<
-    R,
-> {
+impl<
+    R: Threads + Wait + Net + Files + Clock + RandomSource + Print + Eprint + Copy + Send + Drop,
+> SystemHost<R> {
     pub fn new(rt: R, alloc: Global) -> SystemHost<R> {
         SystemHost {
             rt,
             alloc,
             crew: None,
             last: None,
+            sides: 0,
             open_faults: 0,
             tell_faults: 0,
         }
     }
 }
 
-impl<R: Wait + Net + Files + Clock + RandomSource + Print + Eprint + Copy + Send + Drop> Host
-    for SystemHost<R> {
+impl<
+    R: Threads
+        + Wait
+        + Net
+        + Files
+        + Clock
+        + RandomSource
+        + Print
+        + Eprint
+        + Copy
+        + Send
+        + Drop
+        + 'static,
+> Host for SystemHost<R> {
     type Side = NetSide<R>;
 
     type Watch = FileWatch<R>;
@@ -76,15 +93,22 @@ impl<R: Wait + Net + Files + Clock + RandomSource + Print + Eprint + Copy + Send
         let Ok(crew) = crew_of(&self.crew, self.alloc) else {
             return Err(OpenFault::NoMemory);
         };
-        match open_end(&self.rt, self.alloc, &mut self.last, (port, by, number)) {
-            Ok(end) => Ok(NetSide::new(self.rt, self.alloc, end, port, crew)),
-            Err(Unopened::NoMemory) => Err(OpenFault::NoMemory),
-            Err(Unopened::System(why)) => {
-                say_why(&self.rt, self.alloc, port, by, why);
-                count(&mut self.open_faults);
-                Err(OpenFault::Failed)
-            }
-        }
+        let threads = self.sides.saturating_add(1);
+        let line = match can_run(&self.rt, self.alloc, threads) {
+            Ok(true) => match open_end(&self.rt, self.alloc, &mut self.last, (port, by, number)) {
+                Ok(end) => {
+                    self.sides = threads;
+                    return Ok(NetSide::new(self.rt, self.alloc, end, port, crew));
+                }
+                Err(Unopened::NoMemory) => return Err(OpenFault::NoMemory),
+                Err(Unopened::System(why)) => EdgeLine::NotOpen(by, port, why),
+            },
+            Ok(false) => EdgeLine::NoThreads(threads as u64),
+            Err(_) => return Err(OpenFault::NoMemory),
+        };
+        say(&self.rt, self.alloc, &line);
+        count(&mut self.open_faults);
+        Err(OpenFault::Failed)
     }
 
     fn tell(&mut self, line: &[u8]) -> Wrote {
@@ -109,7 +133,7 @@ fn crew_of(
 
 // A worker's share of a port. The first worker's opens it.
 fn open_end(
-    net: &impl Net,
+    rt: &(impl Net + Files + Eprint),
     alloc: Global,
     last: &mut Option<Endpoint>,
     place: (u16, Transport, u32),
@@ -117,18 +141,24 @@ fn open_end(
     let (port, by, number) = place;
     if let Some(endpoint) = last {
         if number != 0 && endpoint.is_at(port, by) {
-            return endpoint.share(net, alloc, number);
+            return endpoint.share(rt, alloc, number);
         }
     }
-    let endpoint = Endpoint::open(net, port, by)?;
-    let end = endpoint.share(net, alloc, 0)?;
+    let mut endpoint = Endpoint::open(rt, alloc, port, by)?;
+    let end = endpoint.share(rt, alloc, 0)?;
+    if let Some(Apart { at, out }) = endpoint.take_apart() {
+        say(rt, alloc, &EdgeLine::OpenAt(by, port, at));
+        if !out.as_str().is_empty() {
+            say(rt, alloc, &EdgeLine::LeftOut(by, port, out));
+        }
+    }
     *last = Some(endpoint);
     Ok(end)
 }
 
-// Says why a port wasn't opened. Where that fails, nothing is lost that the status tells.
-fn say_why(rt: &impl Eprint, alloc: Global, port: u16, by: Transport, why: Why) {
-    if let Ok(line) = line_text(alloc, &EdgeLine::NotOpen(by, port, why)) {
-        let _ = note_line(rt, line.as_str().as_bytes());
+// Says why a side wasn't opened. Where that fails, nothing is lost that the status tells.
+fn say(rt: &impl Eprint, alloc: Global, line: &EdgeLine) {
+    if let Ok(text) = line_text(alloc, line) {
+        let _ = note_line(rt, text.as_str().as_bytes());
     }
 }

@@ -5,6 +5,7 @@
 mod endpoint;
 mod host;
 mod reading;
+mod threads;
 mod watch;
 
 ghost use Rattle.std.specs.Prelude.{◌≡◌};

@@ -7,7 +7,8 @@ use std::alloc::Global;
 use std::fmt::{Display, Formatter, Write};
 use std::{fmt, io};
 
-/// Why the system didn't open a port or read a file. System: its own number of the error.
+/// Why the system didn't open a port or read a file. Unnamed: the name can be no file's, so the
+/// system wasn't asked. System: its own number of the error.
 #[derive(Clone, Copy, Debug, PartialEq, Eq)]
 pub enum Why {
     Denied,
@@ -15,6 +16,9 @@ pub enum Why {
     Descriptors,
     Memory,
     NotRegular,
+    NotFolder,
+    Links,
+    Unnamed,
     System(u32),
 }
 
@@ -29,6 +33,9 @@ impl Why {
             libc::EMFILE | ENFILE => Why::Descriptors,
             libc::ENOMEM | ENOBUFS => Why::Memory,
             libc::EISDIR => Why::NotRegular,
+            libc::ENOTDIR => Why::NotFolder,
+            ELOOP => Why::Links,
+            0 => Why::Unnamed,
             _ => Why::System(number.unsigned_abs()),
         }
     }
@@ -41,8 +48,10 @@ impl Why {
     }
 }
 
-// These two the kit doesn't name.
+// These the kit doesn't name.
 const ENFILE: i32 = 23;
+
+const ELOOP: i32 = 40;
 
 const ENOBUFS: i32 = 105;
 
@@ -59,6 +68,9 @@ impl Display for Why {
             Why::Descriptors => f.write_str("too many open files"),
             Why::Memory => f.write_str("out of memory"),
             Why::NotRegular => f.write_str("not a regular file"),
+            Why::NotFolder => f.write_str("not a folder on the way to it"),
+            Why::Links => f.write_str("links that lead round in a circle"),
+            Why::Unnamed => f.write_str("not a name that a file can have"),
             Why::System(number) => write!(f, "error {number}"),
         }
     }
@@ -69,6 +81,12 @@ impl Display for Why {
 pub enum EdgeLine {
     NotOpen(Transport, u16, Why),
     NotRead(Text, Why),
+    /// A port that somebody has at an address is open at these addresses alone.
+    OpenAt(Transport, u16, Text),
+    /// A port that somebody has isn't open at these addresses of the host.
+    LeftOut(Transport, u16, Text),
+    /// So many threads can't run at once.
+    NoThreads(u64),
 }
 
 impl Display for EdgeLine {
@@ -88,6 +106,30 @@ impl Display for EdgeLine {
                 "open tcp port {port}: {why}"
             ),
             EdgeLine::NotRead(name, why) => write!(f, "read {}: {why}", name.as_str()),
+            EdgeLine::OpenAt(Transport::Udp, port, at) => write!(
+                f,
+                "udp port {port} open at {}",
+                at.as_str()
+            ),
+            EdgeLine::OpenAt(Transport::Tcp, port, at) => write!(
+                f,
+                "tcp port {port} open at {}",
+                at.as_str()
+            ),
+            EdgeLine::LeftOut(Transport::Udp, port, at) => write!(
+                f,
+                "udp port {port} taken at {}",
+                at.as_str()
+            ),
+            EdgeLine::LeftOut(Transport::Tcp, port, at) => write!(
+                f,
+                "tcp port {port} taken at {}",
+                at.as_str()
+            ),
+            EdgeLine::NoThreads(count) => write!(
+                f,
+                "threads: resource temporarily unavailable: {count} asked for"
+            ),
         }
     }
 }

@@ -3,13 +3,14 @@ ghost use Rattle.dns_data.specs.declared.limit.TheConstants as limits;
 ghost use Rattle.slab.specs.Slab.{slab_len};
 
 use crate::peer::{Peer, Step};
-use dns_data::Buffer;
+use dns_data::{Addr, Buffer};
 use edge_sockets::Client;
 use mio::event::Event;
 use mio::net::TcpStream;
 use mio::{Interest, Registry, Token};
 use slab::Slab;
 use std::alloc::Global;
+use std::os::fd::AsRawFd;
 use stream_connection::Bounds;
 
 // Between two walks over all connections, in milliseconds.
@@ -29,6 +30,8 @@ pub(crate) enum Turn {
 pub(crate) struct Crowd {
     alloc: Global,
     bounds: Bounds,
+    // The first descriptor that no connection may have.
+    kept: u64,
     peers: Slab<Peer>,
     ready: Vec<usize>,
     // Where the one stands whose turn it is. Where that is behind the last, it is the first's.
@@ -41,10 +44,12 @@ pub(crate) struct Crowd {
 }
 
 impl Crowd {
-    pub fn new(alloc: Global, bounds: Bounds) -> Crowd {
+    /// No connections yet. Those to come have descriptors below `kept`.
+    pub fn new(alloc: Global, bounds: Bounds, kept: u64) -> Crowd {
         Crowd {
             alloc,
             bounds,
+            kept,
             peers: Slab::new(alloc),
             ready: Vec::new(alloc),
             at: 0,
@@ -64,9 +69,26 @@ impl Crowd {
         self.ready.len()
     }
 
-    /// Takes a connection in. One more than may be open is closed.
+    // Whether a quarter of all that may be open come from the network of this address.
+    fn is_crowded(&self, address: Addr) -> bool {
+        let most = self.bounds.connections / 4;
+        let mut count = 0usize;
+        for (_, peer) in &self.peers {
+            if is_same_network(peer.client.address, address) {
+                count = count.saturating_add(1);
+            }
+        }
+        count >= most
+    }
+
+    /// Takes a connection in. One more than may be open is closed, and so is one more than a
+    /// quarter of these from one address, an IPv6 network of 64 bits counting as one, and one that
+    /// would take a descriptor of those that are kept.
     pub fn add(&mut self, registry: &Registry, mut stream: TcpStream, client: Client, now: u64) {
         if !self.has_room() {
+            return;
+        }
+        if stream.as_raw_fd() as u64 >= self.kept || self.is_crowded(client.address) {
             return;
         }
         let key = self.peers.vacant_key();
@@ -195,5 +217,14 @@ impl Crowd {
 
     fn close(&mut self, key: usize) {
         let _peer = self.peers.try_remove(key);
+    }
+}
+
+// Whether two clients count as one: by address, and over IPv6 by the first 64 bits.
+fn is_same_network(a: Addr, b: Addr) -> bool {
+    match (a, b) {
+        (Addr::V4(a), Addr::V4(b)) => a == b,
+        (Addr::V6(a), Addr::V6(b)) => a >> 64 == b >> 64,
+        _ => false,
     }
 }

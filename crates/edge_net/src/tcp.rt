@@ -4,6 +4,7 @@ ghost use Rattle.dns_data.specs.declared.limit.TheConstants as limits;
 use crate::arrival::Arrival;
 use crate::clock::moment;
 use crate::crowd::{Crowd, Turn};
+use crate::descriptors::first_kept_now;
 use dns_data::Buffer;
 use edge_sockets::{Client, Sender, peer_of};
 use mio::net::TcpListener;
@@ -28,12 +29,12 @@ const PATIENCE: u64 = 1_000;
 // How many turns there may be before the system is asked again.
 const TURNS: usize = 64;
 
-/// One worker's connections over TCP, and its share of the listener.
+/// One worker's connections over TCP, and its share of the listeners.
 #[derive(Drop)]
 pub struct TcpEnd {
     poll: Poll,
     events: Events,
-    listener: TcpListener,
+    listeners: Vec<TcpListener>,
     crowd: Crowd,
     piece: Vec<u8>,
     from: Sender,
@@ -55,24 +56,31 @@ impl TcpEnd {
         listener: &net::TcpListener,
         bounds: Bounds,
     ) -> io::Result<TcpEnd> {
-        let listener = listener.try_clone()?;
-        listener.set_nonblocking(true)?;
-        let mut listener = TcpListener::from_std(listener);
-        let poll = Poll::new(net)?;
-        let readable = Interest::READABLE;
-        poll.registry().register(&mut listener, LISTENER, readable)?;
-        Ok(TcpEnd {
-            poll,
+        let mut end = TcpEnd {
+            poll: Poll::new(net)?,
             events: Events::with_capacity(alloc, EVENTS)?,
-            listener,
-            crowd: Crowd::new(alloc, bounds),
+            listeners: Vec::new(alloc),
+            crowd: Crowd::new(alloc, bounds, first_kept_now()),
             piece: Vec::from_elem(alloc, 0u8, PIECE)?,
             from: Sender::nobody(),
             more: true,
             failed: false,
             turns: 0,
             now: 0,
-        })
+        };
+        end.listen(listener)?;
+        Ok(end)
+    }
+
+    /// Takes the connections of one more listener.
+    pub fn listen(&mut self, listener: &net::TcpListener) -> io::Result<()> {
+        let listener = listener.try_clone()?;
+        listener.set_nonblocking(true)?;
+        let mut listener = TcpListener::from_std(listener);
+        let registry = self.poll.registry();
+        registry.register(&mut listener, LISTENER, Interest::READABLE)?;
+        self.listeners.push(listener)?;
+        Ok(())
     }
 
     /// Waits for the next whole message of any connection, each in its turn. `client` becomes who
@@ -150,19 +158,29 @@ impl TcpEnd {
     // Takes the connections in that wait. Where that fails it is tried again a little later.
     fn accept(&mut self, now: u64) {
         self.failed = false;
+        self.more = false;
+        for at in 0..self.listeners.len() {
+            self.accept_at(at, now);
+        }
+    }
+
+    fn accept_at(&mut self, at: usize, now: u64) {
+        let Some(listener) = self.listeners.get(at) else {
+            return;
+        };
         for _ in 0..EVENTS {
-            match self.listener.accept() {
+            match listener.accept() {
                 Ok((stream, _)) => {
                     if let Some(client) = peer_of(&stream, &mut self.from) {
                         self.crowd.add(self.poll.registry(), stream, client, now);
                     }
                 }
                 Err(fault) => {
-                    self.more = false;
-                    self.failed = fault.kind() != io::ErrorKind::WouldBlock;
+                    self.failed |= fault.kind() != io::ErrorKind::WouldBlock;
                     return;
                 }
             }
         }
+        self.more = true;
     }
 }

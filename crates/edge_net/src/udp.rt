@@ -48,6 +48,8 @@ pub struct UdpEnd {
     row: u32,
     // When the addresses were looked at last.
     looked: Option<u64>,
+    // Whether it stays with the sockets that it has, none of which is at every address.
+    stays: bool,
 }
 
 impl UdpEnd {
@@ -64,7 +66,25 @@ impl UdpEnd {
             from: Sender::nobody(),
             row: 0,
             looked: None,
+            stays: false,
         }
+    }
+
+    /// A share of sockets that have the port at an address each, of which the first is `socket`.
+    pub fn at_each(
+        alloc: Global,
+        socket: UdpSocket,
+        others: Vec<UdpSocket>,
+        port: u16,
+    ) -> Result<UdpEnd, NoMemory> {
+        let mut end = UdpEnd::new(alloc, socket, port);
+        end.stays = true;
+        end.asked.push(readable(&end.socket))?;
+        for other in &others {
+            end.asked.push(readable(other))?;
+        }
+        end.others = others;
+        Ok(end)
     }
 
     /// Waits for the next datagram, whose bytes come in place of what the message held, and which
@@ -168,6 +188,9 @@ impl UdpEnd {
     #[cold]
     #[inline(never)]
     fn look(&mut self, rt: &(impl Net + Clock + Files)) {
+        if self.stays {
+            return;
+        }
         let now = moment(rt).unwrap_or(0);
         if let Some(looked) = self.looked {
             if now.saturating_sub(looked) < BETWEEN {

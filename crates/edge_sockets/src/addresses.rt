@@ -12,6 +12,9 @@ use std::{io, str};
 // How many addresses of a family are looked at.
 const MOST: usize = 32;
 
+// 127.0.0.1.
+const LOCALHOST: u32 = 0x7f00_0001;
+
 // How many bytes of a table are read.
 const BYTES: u64 = 1_048_576;
 
@@ -23,15 +26,39 @@ const TENTATIVE: u64 = 0x40;
 pub fn host_addresses(files: &impl Files, alloc: Global) -> Option<Vec<Addr>>
     ensures { IfSome result (λ found. vec_len found ≤ 64) }
 {
+    let (mut found, six) = listed_addresses(files, alloc)?;
+    if found.len() < 2 {
+        found.clear();
+    }
+    if six.len() > 1 && found.extend_from_slice(&six).is_err() {
+        return None;
+    }
+    Some(found)
+}
+
+/// Every address of the host, up to 32 of a family, with each family's own address of the loopback
+/// and without those of links. None where the system doesn't tell them.
+pub fn every_address(files: &impl Files, alloc: Global) -> Option<Vec<Addr>>
+    ensures { IfSome result (λ found. vec_len found ≤ 66) }
+{
+    let (mut found, six) = listed_addresses(files, alloc)?;
+    let own = [Addr::V4(LOCALHOST), Addr::V6(1)];
+    if found.extend_from_slice(&six).is_err() || found.extend_from_slice(&own).is_err() {
+        return None;
+    }
+    Some(found)
+}
+
+// The addresses of each family, without those of the loopback and the links.
+fn listed_addresses(files: &impl Files, alloc: Global) -> Option<(Vec<Addr>, Vec<Addr>)>
+    ensures { IfSome result (λ found. (vec_len found.0 ≤ MOST) × (vec_len found.1 ≤ MOST)) }
+{
     let Ok(trie) = read_table(files, alloc, "/proc/net/fib_trie") else {
         return None;
     };
-    let mut found = Vec::new(alloc);
-    if add_v4(&mut found, str::from_utf8(&trie).unwrap_or("")).is_err() {
+    let mut four = Vec::new(alloc);
+    if add_v4(&mut four, str::from_utf8(&trie).unwrap_or("")).is_err() {
         return None;
-    }
-    if found.len() < 2 {
-        found.clear();
     }
     let mut six = Vec::new(alloc);
     if let Ok(table) = read_table(files, alloc, "/proc/net/if_inet6") {
@@ -39,10 +66,7 @@ pub fn host_addresses(files: &impl Files, alloc: Global) -> Option<Vec<Addr>>
             return None;
         }
     }
-    if six.len() > 1 && found.extend_from_slice(&six).is_err() {
-        return None;
-    }
-    Some(found)
+    Some((four, six))
 }
 
 fn read_table(files: &impl Files, alloc: Global, name: &str) -> io::Result<Vec<u8>> {

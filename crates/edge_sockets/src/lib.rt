@@ -9,7 +9,9 @@ mod socket;
 #[cfg(test)]
 mod tests;
 
-pub use addresses::host_addresses;
+pub use addresses::{every_address, host_addresses};
 pub use calls::{Unreceived, peer_of, receive, reply_to};
 pub use sender::{Client, Sender, client_of};
-pub use socket::{open_tcp, open_udp, open_udp_at, open_udp_beside, poke, share_port};
+pub use socket::{
+    open_tcp, open_tcp_at, open_udp, open_udp_alone, open_udp_at, open_udp_beside, poke, share_port,
+};

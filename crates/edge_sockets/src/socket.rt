@@ -88,16 +88,60 @@ pub fn share_port(socket: &impl AsRawFd) {
 
 /// A socket for datagrams at a port of one address, beside one at every address.
 pub fn open_udp_at(_net: &impl Net, addr: Addr, port: u16) -> Result<UdpSocket, Why> {
-    let (family, len) = match addr {
-        Addr::V4(_) => (Family::V4, V4_LEN),
-        Addr::V6(_) => (Family::Both, V6_LEN),
-    };
-    let socket = UdpSocket::from(new_socket(family, Transport::Udp)?);
+    let socket = UdpSocket::from(new_socket(family_of(addr), Transport::Udp)?);
     share_port(&socket);
-    // SAFETY: the descriptor is that of a socket which is open for the whole call.
-    check(unsafe { c::bind(socket.as_raw_fd(), &spelt(addr, port), len) })?;
+    bind_at(&socket, addr, port)?;
     widen(&socket);
     Ok(socket)
+}
+
+/// A socket for datagrams at a port of one address, where nobody else has it. A receive waits for a
+/// second.
+pub fn open_udp_alone(_net: &impl Net, addr: Addr, port: u16) -> Result<UdpSocket, Why> {
+    let socket = UdpSocket::from(new_socket(family_of(addr), Transport::Udp)?);
+    bind_at(&socket, addr, port)?;
+    waiting(socket)
+}
+
+/// A listener for connections at a port of one address.
+pub fn open_tcp_at(_net: &impl Net, addr: Addr, port: u16) -> Result<TcpListener, Why> {
+    let socket = new_socket(family_of(addr), Transport::Tcp)?;
+    take_again(&socket)?;
+    bind_at(&socket, addr, port)?;
+    check(c::listen(socket.as_raw_fd(), WAITING))?;
+    Ok(TcpListener::from(socket))
+}
+
+fn family_of(addr: Addr) -> Family {
+    match addr {
+        Addr::V4(_) => Family::V4,
+        Addr::V6(_) => Family::Both,
+    }
+}
+
+// Gives a socket of the address's family the port at it.
+fn bind_at(socket: &impl AsRawFd, addr: Addr, port: u16) -> Result<(), Why> {
+    let len = match addr {
+        Addr::V4(_) => V4_LEN,
+        Addr::V6(_) => V6_LEN,
+    };
+    // SAFETY: the descriptor is that of a socket which is open for the whole call.
+    check(unsafe { c::bind(socket.as_raw_fd(), &spelt(addr, port), len) })
+}
+
+// A port whose last connections still wait for late bytes may be taken again.
+fn take_again(socket: &impl AsRawFd) -> Result<(), Why> {
+    let value = value_of(1);
+    // SAFETY: the descriptor is that of a socket which is open for the whole call.
+    check(unsafe {
+        c::setsockopt(
+            socket.as_raw_fd(),
+            c::SOL_SOCKET,
+            c::SO_REUSEADDR,
+            &value,
+            4,
+        )
+    })
 }
 
 fn widen(socket: &UdpSocket) {
@@ -127,11 +171,8 @@ fn open_any(by: Transport, port: u16) -> Result<OwnedFd, Why> {
 // A socket that has the port, at every address of the family.
 fn open_at(family: Family, by: Transport, port: u16) -> Result<OwnedFd, Why> {
     let socket = new_socket(family, by)?;
-    let fd = socket.as_raw_fd();
     if by == Transport::Tcp {
-        // A port whose last connections still wait for late bytes may be taken again.
-        // SAFETY: the descriptor is that of a socket which is open for the whole call.
-        check(unsafe { c::setsockopt(fd, c::SOL_SOCKET, c::SO_REUSEADDR, &value_of(1), 4) })?;
+        take_again(&socket)?;
     }
     bind_any(&socket, family, port)?;
     Ok(socket)

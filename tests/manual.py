@@ -96,9 +96,17 @@ def take_completion(rows, folder):
     rows.equal("completion: it offers the program's own options", sorted(offered(["dnschain", "serve", "--"], folder)), sorted(set(re.findall(r"--\w+", usage))))
 
 
+def take_runbook(rows):
+    """Each line that MESSAGES.md tells of has its row in the runbook, and the runbook no other."""
+    lines = re.findall(r"(?m)^\| `([^`|]+)` \|", read("docs/MESSAGES.md"))
+    runbook = re.findall(r"(?m)^\| `([^`|]+)` \|", read("docs/OPERATIONS.md").partition("\n## Runbook\n")[2])
+    rows.equal("runbook: it has each line of MESSAGES.md, and no other", runbook, lines)
+
+
 def main():
     needs_program()
     rows = Rows()
+    take_runbook(rows)
     with tempfile.TemporaryDirectory() as folder:
         take_pages(rows, folder)
     with tempfile.TemporaryDirectory() as folder:

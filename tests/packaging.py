@@ -16,6 +16,7 @@ sys.path.insert(0, os.path.join(os.path.dirname(os.path.abspath(__file__)), "lib
 import unit  # noqa: E402
 from message import query_bytes, reply_lines  # noqa: E402
 from program import PROGRAM, SECONDS, TOP, Client, Rows, needs_program  # noqa: E402
+from under_systemd import Apart  # noqa: E402
 
 PACKAGING = os.path.join(TOP, "packaging")
 UNIT = os.path.join(PACKAGING, "dnschain.service")
@@ -203,8 +204,6 @@ def take_unit(rows, root):
         judged = ran("systemd-analyze", "security", "--offline=yes", "--no-pager", UNIT).stdout
         exposure = re.search(r"Overall exposure level for \S+: ([\d.]+)", judged)
         rows.row("unit: its exposure is at most 2.0", exposure is not None and float(exposure[1]) <= 2.0, judged[-200:])
-    if not os.path.isdir("/run/systemd/system"):
-        print("skipped the unit under systemd: this machine isn't run by it; its settings are applied by setpriv and unshare")
     if root is None or lacks("the unit's settings", "setpriv", "prlimit", "systemd-analyze"):
         return
     if not may_be_another():
@@ -236,6 +235,67 @@ def take_unit(rows, root):
     rows.equal("unit: a Corefile that is refused is told with its status, without a time", (refused.returncode, refused.stdout, refused.stderr),
                (1, "corefile line 1: block: outside\n", ""))
     os.replace(conf + ".good", conf)
+
+
+def take_systemd(rows, root):
+    """The unit under a systemd of its own: who it is, its journal, and that a Corefile which is refused is tried again until it is mended."""
+    if root is None or lacks("the unit under systemd", "systemctl", "journalctl", "nsenter"):
+        return
+    with Apart(root, os.path.join(ROOM, "systemd")) as systemd:
+        if systemd.why is not None:
+            print(f"skipped the unit under systemd: {systemd.why}")
+            return
+        rows.equal("systemd: the unit answers on port 53", asked_again(20), answered("127.0.0.1"))
+        pids = systemd.pids("system.slice/dnschain.service")
+        status = dict(re.findall(r"(?m)^(\w+):\s*(.*)$", read(f"/proc/{pids[0]}/status"))) if pids else {}
+        rows.row("systemd: as a user of its own, with that right alone",
+                 status and 61184 <= int(status["Uid"].split()[0]) <= 65519 and status["CapEff"] == f"{1 << 10:016x}" and status["Seccomp"] == "2", status)
+        conf = f"/proc/{systemd.pids('init.scope')[0]}/root/etc/dnschain/Corefile"
+        good = read(conf)
+        change(conf, "whoamy\n")
+        systemd.says("systemctl", "restart", "dnschain")
+        rows.equal("systemd: a Corefile that is refused ends it with its status", until(lambda: systemd.says("systemctl", "show", "-p", "ExecMainStatus", "--value", "dnschain").strip(), "1"), "1")
+        lines = systemd.says("journalctl", "-t", "dnschain", "-o", "cat", "--no-pager").splitlines()
+        rows.equal("systemd: the journal has the told line as it is", lines[-1:], ["corefile line 1: block: outside"])
+        change(conf, good)
+        rows.equal("systemd: it is tried again, and serves once the Corefile is mended", asked_again(20), answered("127.0.0.1"))
+        restarts = systemd.says("systemctl", "show", "-p", "NRestarts", "--value", "dnschain").strip()
+        rows.row("systemd: by the unit's own rule", restarts.isdigit() and int(restarts) > 0, restarts)
+        systemd.says("systemctl", "stop", "dnschain")
+        rows.equal("systemd: it is stopped in good order", systemd.says("systemctl", "is-failed", "dnschain").strip(), "inactive")
+
+
+def asked_again(seconds):
+    """The answer of whatever serves port 53, once it does."""
+    found, end = None, time.monotonic() + seconds
+    while found is None and time.monotonic() < end:
+        with client_at("127.0.0.1", 53) as client:
+            client.settimeout(0.2)
+            try:
+                client.send(QUESTION)
+                found = [line for line in reply_lines(client.recv(65535)) if "SRV" not in line and "question" not in line]
+            except (TimeoutError, ConnectionRefusedError):
+                time.sleep(0.1)
+    return found
+
+
+def until(asked, want, seconds=10):
+    """What is said, asked again until it is that."""
+    end = time.monotonic() + seconds
+    while (said := asked()) != want and time.monotonic() < end:
+        time.sleep(0.2)
+    return said
+
+
+def take_stub(rows, room):
+    """Somebody has port 53 at one address of loopback, as systemd-resolved does."""
+    with open(os.path.join(room, "alone"), "w") as file:
+        file.write(". {\n    whoami\n}\n")
+    with socket.socket(socket.AF_INET, socket.SOCK_DGRAM) as stub:
+        stub.bind(("127.0.0.53", 53))
+        ended = ran(PROGRAM, "serve", "--conf", os.path.join(room, "alone"), seconds=SECONDS)
+    rows.equal("port 53: one that has it at 127.0.0.53 has it", (ended.returncode, ended.stdout, ended.stderr),
+               (3, "cannot open\n", "open udp port 53: address in use\n"))
 
 
 def may_be_another():
@@ -353,9 +413,11 @@ def main():
     else:
         package = take_package(rows)
     take_unit(rows, package[0] if package else None)
+    take_systemd(rows, package[0] if package else None)
     if elf() is not None:
         take_container(rows)
     take_cluster(rows)
+    take_stub(rows, ROOM)
     if package:
         remove_package(rows, *package)
     rows.end()

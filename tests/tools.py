@@ -73,6 +73,10 @@ CASES = [
     (
         "a block that is never closed", ".:{port} {\n    whoamy\n", 1, ["{file}:1: block: openblock", "    .:{port} {"],
     ),
+    (
+        "a policy whose only line is refused", ".:{port} {\n    acl {\n        block type HTTPS\n    }\n    whoami\n}\n", 1,
+        ["{file}:3: directive: kind", "            block type HTTPS"],
+    ),
     ("an open quote", '.:{port} {\n    whoami\n}\n"a\n', 1, ["{file}:4: open quote", '    "a']),
 ]
 

@@ -21,6 +21,10 @@ serve: build
 conf-check: build
 	tools/check-corefile $(CONF)
 
+## make deb          builds, and makes the Debian package of the program: packaging/out
+deb: build
+	packaging/build-deb
+
 ## make test         the gate: every proof and test, the edits of what has changed, and the scripts under tests/
 test:
 	.ci/run
@@ -37,4 +41,4 @@ check:
 fmt:
 	for crate in crates/*/; do (cd $$crate && rt fmt); done
 
-.PHONY: help run build serve conf-check test test-all check fmt
+.PHONY: help run build serve conf-check deb test test-all check fmt

@@ -56,6 +56,27 @@ CASES = [
         "a pattern that is none", ".:{port} {\n    template IN A {\n        match (\n    }\n}\n", 1,
         ["{file}:3: directive: pattern", "            match ("],
     ),
+    (
+        "all lines that would be refused, at once",
+        "(common) {\n    errors {\n        stacktrace\n    }\n    bogus\n    import deeper\n}\n(deeper) {\n    chaos 1 {\n        x\n    }\n}\n"
+        ".:{port} {\n    import common\n    acl {\n        block type HTTPS\n    }\n    hosts {\n        10.0.0.1 a..b\n        reload 5s\n"
+        "        fallthrough\n    }\n    whoami 1\n    forward . 192.0.2.1 {\n        except a.test\n    }\n}\ntls://a.test {\n    file /none/z {\n"
+        "        reload 1s\n    }\n}\nb.test\n{\n}\nc.test {\n    log {\n        class {\n        }\n    }\n    import a b\n}\n", 1,
+        ["{file}:28: block: scheme", "    tls://a.test {", "{file}:33: block: outside", "    b.test", "{file}:34: block: nokey", "    {",
+         "{file}:38: block: deepbrace", "            class {", "{file}:41: block: importargs", "        import a b",
+         "{file}:2: directive: args", "        errors {", "    imported at {file}:14", "{file}:5: unknown directive", "        bogus", "    imported at {file}:14",
+         "{file}:9: unknown directive", "        chaos 1 {", "    imported at {file}:14", "{file}:16: directive: kind", "            block type HTTPS",
+         "{file}:19: directive: zone", "            10.0.0.1 a..b", "{file}:20: directive: net", "            reload 5s",
+         "{file}:23: directive: args", "        whoami 1", "{file}:24: unknown directive", "        forward . 192.0.2.1 {",
+         "{file}:29: directive: args", "        file /none/z {", "{file}:29: directive: nofile", "        file /none/z {"],
+    ),
+    (
+        "a block that is never closed", ".:{port} {\n    whoamy\n", 1, ["{file}:1: block: openblock", "    .:{port} {"],
+    ),
+    (
+        "a policy whose only line is refused", ".:{port} {\n    acl {\n        block type HTTPS\n    }\n    whoami\n}\n", 1,
+        ["{file}:3: directive: kind", "            block type HTTPS"],
+    ),
     ("an open quote", '.:{port} {\n    whoami\n}\n"a\n', 1, ["{file}:4: open quote", '    "a']),
 ]
 
@@ -76,7 +97,8 @@ def main():
             text = text.replace("{port}", str(free_port())).replace("{file}", os.path.join(room, "Corefile"))
             path = corefile(room, text)
             got = checked(path)
-            rows.equal(f"check-corefile: {title}", got, (status, [line.replace("{file}", path) for line in lines]))
+            port = text.partition(":")[2].partition(" ")[0]
+            rows.equal(f"check-corefile: {title}", got, (status, [line.replace("{file}", path).replace("{port}", port) for line in lines]))
         got = checked(os.path.join(room, "none"))
         rows.equal("check-corefile: no file", got, (1, ["no corefile"]))
     rows.end()

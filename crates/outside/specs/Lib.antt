@@ -12,6 +12,7 @@ pub mod Weight
 pub mod Kept
 pub mod Same
 pub mod SameLaws
+pub mod Keys
 pub mod Taking
 pub mod TakingLaws
 -- what public clauses cite
@@ -36,5 +37,6 @@ pub use Rattle.outside.specs.Kept.{Keeps, is_on}
 pub use Rattle.outside.specs.Meanings.{Meaning, Starved, Took, onward}
 pub use Rattle.outside.specs.Same.{same_answer, same_ask, same_entry, same_inner, same_key}
 pub use Rattle.outside.specs.Same.{same_line, same_outcome, same_query}
+pub use Rattle.outside.specs.Keys.{shard_of}
 pub use Rattle.outside.specs.Taking.{Asks, Takes}
 pub use Rattle.outside.specs.Weight.{inner_weight, weight_of}

@@ -146,7 +146,7 @@ impl<O: Object> Locked<O> {
         requires own { IsAt self.now.table.shared.table_id seat.old }
         requires parts { 1 < (view_of seat.old).parts }
         ensures own { StaysAt seat.old seat.new }
-        ensures at { IsAt self.now.table.shared.table_id result }
+        ensures at { IsAt seat.old.seat.table_id result }
         ensures left { view_of seat.new ≡ left_view (view_of seat.old) }
         ensures right { view_of result ≡ right_view (view_of seat.old) }
     {

@@ -88,7 +88,8 @@ impl Crowd {
         if !self.has_room() {
             return;
         }
-        if stream.as_raw_fd() as u64 >= self.kept || self.is_crowded(client.address) {
+        let number = u64::from(stream.as_raw_fd().unsigned_abs());
+        if number >= self.kept || self.is_crowded(client.address) {
             return;
         }
         let key = self.peers.vacant_key();

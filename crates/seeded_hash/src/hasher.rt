@@ -9,12 +9,16 @@ pub struct Seed {
     factor: u64,
 }
 
+// 2^64 divided by the golden ratio.
+const SPREAD: u64 = 0x9e37_79b9_7f4a_7c15;
+
 impl Seed {
-    /// A seed of two random words.
+    /// A seed of two random words. Small ones, and 0 where no random source answers, spread keys as
+    /// well, though clients may know them.
     pub fn new(state: u64, factor: u64) -> Seed {
         Seed {
             state,
-            factor: factor | 1,
+            factor: (factor ^ SPREAD) | 1,
         }
     }
 }

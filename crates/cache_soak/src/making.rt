@@ -1,0 +1,71 @@
+//! Keys and entries, made by a few numbers.
+ghost use Rattle.std.specs.Prelude.{◌≡◌, ◌<◌, ◌^◌, IfOk};
+
+use cache_shards::Judge;
+use dns_data::{Addr, Answer, Name, NoMemory, Query, Seq, Transport};
+use outside::{Class, Entry, Key};
+use std::alloc::Global;
+
+/// Any entry may stand in the cache.
+#[derive(Drop)]
+pub struct Anything;
+
+impl Judge for Anything {
+    ghost just = { λ judge entry. Unit {0} };
+}
+
+/// A class, when it was made, how long it lives, and a number by which it is told apart.
+#[derive(Clone, Copy)]
+pub struct Made {
+    pub class: Class,
+    pub born: u64,
+    pub life: u32,
+    pub number: u16,
+}
+
+/// An entry without records.
+pub fn entry(alloc: Global, made: Made) -> Entry
+    requires { made.life < 2 ^ 31 }
+{
+    Entry {
+        class: made.class,
+        born: made.born,
+        life: made.life,
+        answer: Answer {
+            rcode: 0,
+            aa: false,
+            ra: false,
+            tc: false,
+            answer: Seq::new(alloc),
+            authority: Seq::new(alloc),
+            additional: Seq::new(alloc),
+        },
+        origin: Query {
+            name: Name::root(alloc),
+            kind: 1,
+            dnssec: false,
+            cd: false,
+            rd: true,
+            edns: false,
+            client: Addr::V4(0),
+            port: made.number,
+            by: Transport::Udp,
+            local: 53,
+        },
+        inner: Seq::new(alloc),
+    }
+}
+
+/// The key of a name and a type.
+pub fn key(alloc: Global, text: &[u8], kind: u16) -> Result<Key, NoMemory> {
+    let root = Name::root(alloc);
+    let Ok(name) = Name::read(alloc, text, &root) else {
+        return Err(NoMemory);
+    };
+    Ok(Key {
+        name,
+        kind,
+        dnssec: false,
+        cd: false,
+    })
+}

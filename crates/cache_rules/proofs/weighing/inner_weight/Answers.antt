@@ -9,6 +9,6 @@ returns c =
     let i = c.loop-mark.invariant in
     let f = c.loop-mark-test.false in
     let none : drop c.loop-mark.mark-index c.args.marks.now ≡ [] =
-        drop_all c.loop-mark.mark-index c.args.marks.now (omega (arith, f)) in
+    drop_all c.loop-mark.mark-index c.args.marks.now (omega (arith, f)) in
     let e = ap (λ l. until (c.loop-mark.weight + inner_weight l)) none in
     omega (arith, e, i.0, i.1)

@@ -300,12 +300,12 @@ def beside_another(rows, family, kind, taken, workers):
         with Served(WHOAMI, "--workers", workers, port=port) as server:
             rows.row(f"a port of which somebody has {over} at {taken} is served", server.is_serving(QUERY))
             for address in ("127.0.0.1", "10.9.9.2"):
-                rows.row(f"over UDP at {address}", asked_at(socket.AF_INET, "10.9.9.1", address, port) if address != taken else True)
+                rows.row(f"over UDP at {address}", asked_at(socket.AF_INET, address, address, port))
                 with socket.create_connection((address, port), timeout=2) as client:
                     client.sendall(len(QUERY).to_bytes(2, "big") + QUERY)
                     rows.row(f"over TCP at {address}", len(client.recv(512)) > 14)
             noted = server.noted()
-    places = [address for address in ("10.9.9.1", "10.9.9.2", "fd00:9::1", "fd00:9::2", "127.0.0.1", "::1") if address != taken]
+    places = [address for address in ("10.9.9.1", "10.9.9.2", "10.9.9.3", "fd00:9::1", "fd00:9::2", "127.0.0.1", "::1") if address != taken]
     found = re.fullmatch(rf"{over} port {port} open at ([0-9a-f.: ]+)", noted[0]) if noted else None
     rows.row(f"and the edge says at which addresses over {over}", found and sorted(found[1].split()) == sorted(places), noted)
     left = [] if taken == "127.0.0.53" else [f"{over} port {port} taken at {taken}"]

@@ -21,7 +21,7 @@ struct Opened {
     server: SocketAddr,
 }
 
-fn opened(rt: &HostRuntime, bounds: Bounds) -> Result<Opened, Fail> {
+fn open_side(rt: &HostRuntime, bounds: Bounds) -> Result<Opened, Fail> {
     let listener = open_tcp(rt, 0)?;
     let port = listener.local_addr()?.port();
     let end = TcpEnd::new(rt, rt.alloc(), &listener, bounds)?;
@@ -92,7 +92,7 @@ fn turns_before(rt: &HostRuntime, end: &mut TcpEnd, port: u16) -> u32 {
 // The system is asked again behind 64 turns at the latest.
 #[test]
 fn many_queries_in_one_write_share_the_turns(rt: HostRuntime) -> Result<(), Fail> {
-    let mut side = opened(&rt, Bounds::usual())?;
+    let mut side = open_side(&rt, Bounds::usual())?;
     let many = client(&rt, side.server, &burst(&rt, 200)?)?;
     let first = turn(&rt, &mut side.end, b"reply");
     assert_eq!(rt; first, port_of(&many)?);
@@ -115,7 +115,7 @@ fn is_refused(rt: &HostRuntime, end: &mut TcpEnd, count: u32) -> Result<bool, Fa
 
 #[test]
 fn a_client_that_never_reads_is_closed(rt: HostRuntime) -> Result<(), Fail> {
-    let mut side = opened(&rt, Bounds::usual())?;
+    let mut side = open_side(&rt, Bounds::usual())?;
     let _silent = client(&rt, side.server, &burst(&rt, 400)?)?;
     assert!(rt;
         is_refused(&rt, &mut side.end, 400)?,
@@ -135,7 +135,7 @@ fn silent_and_half_clients_are_closed(rt: HostRuntime) -> Result<(), Fail> {
         idle: 500,
         ..Bounds::usual()
     };
-    let mut side = opened(&rt, bounds)?;
+    let mut side = open_side(&rt, bounds)?;
     let silent = connected(&rt, side.server)?;
     let half = client(&rt, side.server, &STREAM[..12])?;
     let _other = client(&rt, side.server, STREAM)?;

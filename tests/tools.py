@@ -86,9 +86,17 @@ def checked(path):
     return ran.returncode, [line for line in ran.stdout.split("\n")[:-1] if not line.startswith("see docs/")]
 
 
+def drawings(rows):
+    """The drawings that README and bench/README.md show are those of their texts and values."""
+    for title, words in [("docs/drawings", [os.path.join(TOP, "tools", "draw"), "check"]), ("bench/beside.svg", [sys.executable, os.path.join(TOP, "bench", "plot.py"), "check"])]:
+        ran = subprocess.run(words, capture_output=True, text=True, timeout=60)
+        rows.equal(f"{title}: drawn from what it shows", (ran.returncode, ran.stdout), (0, ""))
+
+
 def main():
     needs_program()
     rows = Rows()
+    drawings(rows)
     with tempfile.TemporaryDirectory() as room:
         if checked(corefile(room, ""))[0] == NO_PLACE:
             print("skipped: no network of its own can be made here")

@@ -50,18 +50,7 @@ impl<
 }
 
 impl<
-    R: Threads
-        + Wait
-        + Net
-        + Files
-        + Clock
-        + RandomSource
-        + Print
-        + Eprint
-        + Copy
-        + Send
-        + Drop
-        + 'static,
+    R: Threads + Wait + Net + Files + Clock + RandomSource + Print + Eprint + Copy + Send + Drop,
 > Host for SystemHost<R> {
     type Side = NetSide<R>;
 

@@ -69,9 +69,20 @@ def a_pipe_while_it_serves(rows):
             f"read {server.path}: not a regular file", f"reload cannot read {server.path}"] != [], said)
 
 
-def ports(rows):
-    with tempfile.TemporaryDirectory() as room, socket.socket(socket.AF_INET, socket.SOCK_DGRAM) as holder:
+def held_everywhere():
+    """A socket that has a port over UDP at every address, of IPv4 alone where there is no IPv6."""
+    try:
+        holder = socket.socket(socket.AF_INET6, socket.SOCK_DGRAM)
+        holder.setsockopt(socket.IPPROTO_IPV6, socket.IPV6_V6ONLY, 0)
+        holder.bind(("::", 0))
+    except OSError:
+        holder = socket.socket(socket.AF_INET, socket.SOCK_DGRAM)
         holder.bind(("0.0.0.0", 0))
+    return holder
+
+
+def ports(rows):
+    with tempfile.TemporaryDirectory() as room, held_everywhere() as holder:
         port = holder.getsockname()[1]
         path = corefile(room, WHOAMI.replace("{port}", str(port)))
         rows.equal("a port that is taken", run("serve", "--conf", path),
@@ -243,14 +254,27 @@ def failing_receives(rows):
     rows.row("over some seconds", 5 < took < 55, took)
 
 
+def sockets_at(port):
+    """How many sockets have a port over UDP."""
+    count = 0
+    for table in ("/proc/net/udp", "/proc/net/udp6"):
+        if os.path.exists(table):
+            with open(table) as file:
+                count += sum(line.split()[1].endswith(f":{port:04X}") for line in list(file)[1:])
+    return count
+
+
 def woken(room):
     """How many threads of a run of four workers got an empty datagram behind its one query; None where strace can't trace."""
     path, calls = corefile(room, WHOAMI.replace("{port}", str(port := free_port()))), os.path.join(room, "calls")
     asked = ["strace", "-f", "-o", calls, "-e", "trace=recvfrom", PROGRAM, "serve", "--conf", path, "--workers", "4", "--queries", "1"]
     with subprocess.Popen(asked, stdout=subprocess.DEVNULL, stderr=subprocess.DEVNULL) as ran:
         try:
+            # Before all of them are open the system gives the query to another worker than behind it.
+            end = time.monotonic() + SECONDS
+            while sockets_at(port) < 4 and time.monotonic() < end:
+                time.sleep(0.05)
             with Client(port) as client:
-                end = time.monotonic() + SECONDS
                 while ran.poll() is None and time.monotonic() < end:
                     client.ask(QUERY)
             ran.wait(SECONDS)

@@ -98,7 +98,8 @@ def take_completion(rows, folder):
 
 def take_runbook(rows):
     """Each line that MESSAGES.md tells of has its row in the runbook, and the runbook no other."""
-    lines = re.findall(r"(?m)^\| `([^`|]+)` \|", read("docs/MESSAGES.md"))
+    tables = re.findall(r"(?m)^\| Line \|.*\n((?:\|.*\n)+)", read("docs/MESSAGES.md"))
+    lines = re.findall(r"(?m)^\| `([^`|]+)` \|", "".join(tables))
     runbook = re.findall(r"(?m)^\| `([^`|]+)` \|", read("docs/OPERATIONS.md").partition("\n## Runbook\n")[2])
     rows.equal("runbook: it has each line of MESSAGES.md, and no other", runbook, lines)
 

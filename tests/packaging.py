@@ -305,9 +305,11 @@ def take_stub(rows, room):
         file.write(". {\n    whoami\n}\n")
     with socket.socket(socket.AF_INET, socket.SOCK_DGRAM) as stub:
         stub.bind(("127.0.0.53", 53))
-        ended = ran(PROGRAM, "serve", "--conf", os.path.join(room, "alone"), seconds=SECONDS)
-    rows.equal("port 53: one that has it at 127.0.0.53 has it", (ended.returncode, ended.stdout, ended.stderr),
-               (3, "cannot open\n", "open udp port 53: address in use\n"))
+        with Server([PROGRAM, "serve", "--conf", os.path.join(room, "alone")]) as server:
+            said = server.next_line()
+            rows.row("port 53: where somebody has it at 127.0.0.53 it is opened at the others", re.fullmatch(r"udp port 53 open at [0-9a-f.: ]+", said), said)
+            for address in ("127.0.0.1", OTHER):
+                rows.equal(f"port 53: and served at {address}", server.answer(address), answered(address))
 
 
 def may_be_another():

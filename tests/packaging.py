@@ -259,7 +259,7 @@ def take_systemd(rows, root):
         status = dict(re.findall(r"(?m)^(\w+):\s*(.*)$", read(f"/proc/{pids[0]}/status"))) if pids else {}
         rows.row("systemd: as a user of its own, with that right alone",
                  status and 61184 <= int(status["Uid"].split()[0]) <= 65519 and status["CapEff"] == f"{1 << 10:016x}" and status["Seccomp"] == "2", status)
-        conf = f"/proc/{systemd.pids('init.scope')[0]}/root/etc/dnschain/Corefile"
+        conf = os.path.join("/proc", str(systemd.pids("init.scope")[0]), "root", "etc", "dnschain", "Corefile")
         good = read(conf)
         change(conf, "whoamy\n")
         systemd.says("systemctl", "restart", "dnschain")

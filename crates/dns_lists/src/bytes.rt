@@ -5,6 +5,12 @@ use crate::{Copies, NoMemory};
 use std::alloc::Global;
 use std::marker::Model;
 
+/// Tells the caller what the type says of each byte.
+#[inline]
+pub fn are_bytes(items: &[u8])
+    ensures { (k : ℕ) → slice_index items.now k < 256 }
+{}
+
 /// Bytes, which contracts see as a list.
 #[derive(Debug, Drop)]
 pub struct Bytes {
@@ -39,14 +45,6 @@ impl Bytes {
         Ok(Bytes {
             items: Vec::from_slice(alloc, items)?,
         })
-    }
-
-    /// The bytes as a `Vec`, which are moved and not copied.
-    pub fn into_vec(self) -> Vec<u8>
-        ensures { result.items ≡ self }
-    {
-        let Bytes { items } = self;
-        items
     }
 
     pub fn push(&mut self, byte: u8) -> Result<(), NoMemory>

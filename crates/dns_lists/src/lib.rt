@@ -4,6 +4,7 @@
 
 mod buffer;
 mod bytes;
+mod compare;
 mod memory;
 mod seq;
 mod short;
@@ -11,7 +12,8 @@ mod text;
 mod wire;
 
 pub use buffer::Buffer;
-pub use bytes::Bytes;
+pub use bytes::{Bytes, are_bytes};
+pub use compare::are_equal;
 pub use memory::NoMemory;
 pub use seq::{Copies, Seq};
 pub use text::Text;

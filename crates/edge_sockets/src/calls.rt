@@ -10,6 +10,9 @@ use std::os::fd::AsRawFd;
 
 const SPACE: u32 = 128;
 
+/// For how long a receive waits, in milliseconds.
+pub const PATIENCE: u16 = 1_000;
+
 /// Why no datagram was received. Nothing: none came, as far as the call waited.
 #[derive(Clone, Copy, Debug, PartialEq, Eq)]
 pub enum Unreceived {

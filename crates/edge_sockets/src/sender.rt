@@ -24,10 +24,11 @@ impl Client {
     }
 }
 
-// The sizes of C's `sockaddr_in` and `sockaddr_in6`.
-const V4_LEN: u32 = 16;
+/// The size of C's `sockaddr_in`.
+pub(crate) const V4_LEN: u32 = 16;
 
-const V6_LEN: u32 = 28;
+/// The size of C's `sockaddr_in6`.
+pub(crate) const V6_LEN: u32 = 28;
 
 #[inline]
 fn u16_at(bytes: &[u8; 128], at: usize) -> u16

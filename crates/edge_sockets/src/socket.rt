@@ -1,7 +1,9 @@
 //! The sockets of a port: at every address of both families, or of IPv4 alone where the system has
 //! no IPv6.
+use crate::calls::PATIENCE;
+use crate::sender::{V4_LEN, V6_LEN};
+use crate::why::Why;
 use dns_data::{Addr, Transport};
-use edge_lines::Why;
 use libc::net as c;
 use os::FromRawFd;
 use std::net::{Ipv4Addr, Ipv6Addr, Net, SocketAddr, TcpListener, UdpSocket};
@@ -13,11 +15,6 @@ const RECEIVE_BYTES: i32 = 1_048_576;
 
 // How many connections may wait to be accepted. The system may allow fewer.
 const WAITING: i32 = 1_024;
-
-// The sizes of C's `sockaddr_in` and `sockaddr_in6`.
-const V4_LEN: u32 = 16;
-
-const V6_LEN: u32 = 28;
 
 #[derive(Clone, Copy, Debug)]
 enum Family {
@@ -65,7 +62,7 @@ fn poke_at(family: Family, to: SocketAddr) -> bool {
 // A socket with a receive buffer of 1 MiB, whose receives wait for a second.
 fn waiting(socket: UdpSocket) -> Result<UdpSocket, Why> {
     widen(&socket);
-    match socket.set_read_timeout(Some(Duration::from_secs(1))) {
+    match socket.set_read_timeout(Some(Duration::from_millis(u64::from(PATIENCE)))) {
         Ok(()) => Ok(socket),
         Err(fault) => Err(Why::of_error(&fault)),
     }

@@ -6,25 +6,16 @@ use Rattle.std.specs.Option.{option_and_then, option_map, option_or}
 use Rattle.std.proofs.lemmas.Bool.Decides.{same_from_decides}
 use Rattle.std.proofs.lemmas.List.Folds.{find-append, list_any-append}
 use Rattle.std.proofs.lemmas.Option.{slice_get_within}
-use Rattle.dns_names.specs.Name.{lowered}
+use Rattle.dns_names.specs.Name.{is_same, lowered}
+use Rattle.dns_names.specs.WithinLaws.{same_is}
 use Rattle.dns_data.specs.declared.block.Block.{Block}
 use Rattle.dns_data.specs.declared.block.BlockKey.{BlockKey}
+use Rattle.name_table.specs.NumberLaws.{front, last, named_as, named_by, set_other, set_same}
 use Rattle.name_table.specs.Table.{IsMissing, IsNamed, IsNumberOf}
 use Rattle.plugin_api.specs.Index.{AddsKeys, IndexData, IsIndexOf, block_by, block_in, service_on}
-use Rattle.plugin_api.specs.KeyLaws.{same_is}
-use Rattle.plugin_api.specs.Picking.{block_of, has_key, is_key, is_same, longest_of}
+use Rattle.plugin_api.specs.Picking.{block_of, has_key, is_key, longest_of}
 use Rattle.plugin_api.specs.PositionLaws.{IsFirst, IsFound, found, position_more}
 use Rattle.plugin_api.specs.declared.services.Service.{Service}
-
--- the name that a number names
-record Named (o : Option (List (List ℕ))) (small : List (List ℕ)) : Type 0 where
-  pub name : List (List ℕ)
-  pub is : o ≡ Some name
-  pub same : lowered name ≡ small
-
-named_by : (o : Option (List (List ℕ))) (small : List (List ℕ)) → option_map lowered o ≡ Some small → Named o small
-named_by None small e = absurd cc
-named_by (Some name) small e = record { name = name; is = refl; same = cc }
 
 same_sym : (a b : List (List ℕ)) → is_same a b ≡ is_same b a
 same_sym a b = same_from_decides (is_same a b) (is_same b a) (same_is a b) ((λ t. sym ((same_is b a).0 t)), (λ e. (same_is b a).1 (sym e)))
@@ -48,9 +39,6 @@ missing_by zones key (Some j) m h = absurd (m h.index (first_named zones key j h
 
 pub number_missing : (zones : List (List (List ℕ))) (key : List (List ℕ)) → IsMissing zones key → position_from (is_same key) 0 zones ≡ None
 number_missing zones key m = missing_by zones key (position_from (is_same key) 0 zones) m (found (is_same key) 0 zones)
-
-pub named_within : (zones : List (List (List ℕ))) (key : List (List ℕ)) (i : ℕ) → IsNamed zones i key → i < length zones
-named_within zones key i n = let there = named_by (slice_get zones i) (lowered key) n in slice_get_within zones i there.name there.is
 
 -- what a search among zones leads to
 pub block_is : (index : IndexData) (port : ℕ) (zone : List (List ℕ)) (number : ℕ) (services : List Service) → IsNumberOf index.zones zone number → slice_get index.services number ≡ Some services
@@ -104,33 +92,8 @@ this_zone key block port zone e = rw e (by (key.port == port))
     by true = refl
     by false = refl
 
-set_same : {X : Type 0} (xs : List X) (i : ℕ) (x : X) → i < length xs → slice_get (slice_set xs i x) i ≡ Some x
-set_same [] i x l = absurd (omega arith)
-set_same (y ∷ xs) zero x l = refl
-set_same (y ∷ xs) (suc i) x l = set_same xs i x (omega arith)
-
-set_other : {X : Type 0} (xs : List X) (i j : ℕ) (x : X) → (i ≡ j → ⊥) → slice_get (slice_set xs i x) j ≡ slice_get xs j
-set_other [] i j x n = refl
-set_other (y ∷ xs) zero zero x n = absurd (n refl)
-set_other (y ∷ xs) zero (suc j) x n = refl
-set_other (y ∷ xs) (suc i) zero x n = refl
-set_other (y ∷ xs) (suc i) (suc j) x n = set_other xs i j x (λ e. n (ap suc e))
-
-front : {X : Type 0} (xs : List X) (x : X) (i : ℕ) → i < length xs → slice_get (xs ++ x ∷ []) i ≡ slice_get xs i
-front [] x i l = absurd (omega arith)
-front (y ∷ xs) x zero l = refl
-front (y ∷ xs) x (suc i) l = front xs x i (omega arith)
-
-last : {X : Type 0} (xs : List X) (x : X) → slice_get (xs ++ x ∷ []) (length xs) ≡ Some x
-last [] x = refl
-last (y ∷ xs) x = last xs x
-
 abbrev service_of : BlockKey → ℕ → Service
 service_of key block = record { port = key.port; block = block }
-
--- a name that is the key's zone, and another, which is not
-named_as : (zones : List (List (List ℕ))) (i : ℕ) (a b : List (List ℕ)) → IsNamed zones i a → lowered a ≡ lowered b → IsNamed zones i b
-named_as zones i a b n e = n ∙ ap Some e
 
 -- the key's zone is there already
 there_same : (zones : List (List (List ℕ))) (services : List (List Service)) (number : ℕ) (old : List Service) (key : BlockKey) (block port : ℕ) (zone : List (List ℕ)) (j : ℕ)

@@ -4,7 +4,8 @@ use Rattle.std.specs.Option.{option_and_then, option_map, option_or}
 use Rattle.std.specs.List.{find, list_any, position_from}
 use Rattle.dns_data.specs.declared.block.Block.{Block}
 use Rattle.dns_data.specs.declared.block.BlockKey.{BlockKey}
-use Rattle.plugin_api.specs.Picking.{is_key, is_same, block_of}
+use Rattle.dns_names.specs.Name.{is_same}
+use Rattle.plugin_api.specs.Picking.{is_key, block_of}
 use Rattle.plugin_api.specs.declared.services.Service.{Service}
 
 -- zones, no two of which are the same, and the blocks that serve each, by port

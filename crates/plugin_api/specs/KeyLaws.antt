@@ -2,20 +2,14 @@
 -- module.
 use Rattle.std.proofs.Common.{◌≡◌, ℕ, zero, suc, ◌<◌, ◌≤◌, true, List, [], ◌∷◌, length, drop, Option, Some, None, refl, sym, ap, arith, eqb-true, eq-eqb}
 use Rattle.std.specs.Prelude.{Contains}
-use Rattle.std.specs.Bool.{Decides}
 use Rattle.std.specs.Option.{option_or}
 use Rattle.std.proofs.lemmas.Bool.{and_parts, and_from}
-use Rattle.std.proofs.lemmas.Bool.Decides.{Decides-eqb}
 use Rattle.std.proofs.lemmas.List.Folds.{Any-from_list_any, list_any-from_Any}
-use Rattle.std.proofs.lemmas.Slice.Eq.{slice_eq-Decides}
+use Rattle.dns_names.specs.WithinLaws.{same_is}
 use Rattle.dns_names.specs.Name.{lowered}
 use Rattle.dns_data.specs.declared.block.Block.{Block}
 use Rattle.dns_data.specs.declared.block.BlockKey.{BlockKey}
-use Rattle.plugin_api.specs.Picking.{has_key, is_key, is_same, longest_of}
-
--- names are the same where they are in lower case
-pub same_is : (a b : List (List ℕ)) → Decides (is_same a b) (lowered a ≡ lowered b)
-same_is a b = slice_eq-Decides (λ x y. slice_eq-Decides Decides-eqb x y _ refl) (lowered a) (lowered b) _ refl
+use Rattle.plugin_api.specs.Picking.{has_key, is_key, longest_of}
 
 -- a key of a block that serves a zone on a port
 pub record HasKey (port : ℕ) (zone : List (List ℕ)) (block : Block) : Type 0 where

@@ -4,13 +4,9 @@ use Rattle.std.specs.Prelude.{◌≡◌, ℕ, ◌≤◌, ◌&&◌, ◌==◌, Boo
 use Rattle.std.specs.Prelude.{Option, Some, None, Contains}
 use Rattle.std.specs.Option.{option_or}
 use Rattle.std.specs.List.{list_any, position_from}
-use Rattle.dns_names.specs.Name.{IsWithin, lowered, same_labels}
+use Rattle.dns_names.specs.Name.{IsWithin, is_same}
 use Rattle.dns_data.specs.declared.block.Block.{Block}
 use Rattle.dns_data.specs.declared.block.BlockKey.{BlockKey}
-
--- two names are the same, ASCII case aside (RFC 4343)
-abbrev pub is_same : List (List ℕ) → List (List ℕ) → Bool
-is_same a b = same_labels (lowered a) (lowered b)
 
 -- the key has this port and this zone
 unfoldable pub is_key : ℕ → List (List ℕ) → BlockKey → Bool

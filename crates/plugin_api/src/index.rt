@@ -3,8 +3,8 @@ ghost use Rattle.dns_data.specs.declared.block.Block.{Block as BlockData};
 ghost use Rattle.plugin_api.specs.Index.{AddsKeys, IsIndexOf, block_in};
 ghost use Rattle.plugin_api.specs.Picking.{picked};
 
-use crate::services::{Service, Services};
-use dns_data::{BlockKey, Blocks, Copies, Labels, Name, NoMemory};
+use crate::services::{Service, one_service, service_on};
+use dns_data::{BlockKey, Blocks, Copies, Labels, Name, NoMemory, Seq};
 use name_table::NameTable;
 use std::alloc::Global;
 use std::marker::Model;
@@ -13,7 +13,8 @@ use std::marker::Model;
 #[derive(Debug, Drop)]
 pub struct BlockIndex {
     zones: NameTable,
-    services: Vec<Services>,
+    // Which blocks serve each zone, by port.
+    services: Vec<Seq<Service>>,
     // Whether the root is the one zone, as in most Corefiles. No name is looked up then.
     is_root: bool,
 }
@@ -55,7 +56,7 @@ impl BlockIndex {
             → result ≡ picked blocks port name.now }
     {
         if self.is_root {
-            return self.services[0].on(port);
+            return service_on(self.services[0].as_slice(), port);
         }
         let mut rest = name.labels();
         loop {
@@ -110,7 +111,7 @@ impl BlockIndex {
             block,
         };
         let Some(number) = zones.find(&key.zone.labels()) else {
-            services.push(Services::of(alloc, service)?)?;
+            services.push(one_service(alloc, service)?)?;
             zones.push(key.zone.copy(alloc)?)?;
             return Ok(BlockIndex {
                 zones,
@@ -131,7 +132,7 @@ impl BlockIndex {
         ensures { result ≡ block_in self.now port zone.now }
     {
         let number = self.zones.find(zone)?;
-        self.services[number].on(port)
+        service_on(self.services[number].as_slice(), port)
     }
 }
 

@@ -1,5 +1,6 @@
 ghost use Rattle.std.specs.Prelude.{◌≡◌, ◌<◌, ◌^◌, length};
-ghost use Rattle.plugin_api.specs.Picking.{Picks, block_of, has_key, is_key, is_same, picked};
+ghost use Rattle.dns_data.specs.{is_same};
+ghost use Rattle.plugin_api.specs.Picking.{Picks, block_of, has_key, is_key, picked};
 
 use dns_data::{Block, BlockKey, Blocks, Labels, Name};
 

@@ -26,4 +26,5 @@ returns-then-self c = λ blocks is.
     let zones = ap (λ (d : IndexData). d.zones) (sym c.self.view_is) ∙ c.self.invariant.1 c.if-self.true in
     let some : 0 < length c.self.inside.services.items = omega (arith, c.self.invariant.0, ap length (c.self.invariant.1 c.if-self.true)) in
     let item = ap (λ (d : IndexData). slice_get d.services 0) (sym c.self.view_is) ∙ slice_get-get_or c.self.inside.services.items 0 first some ∙ ap Some (sym c.index.ensures) in
-    c.on.ensures ∙ sym (root_serves index c.args.port first zones item c.args.name.now) ∙ index_picks index blocks c.args.port c.args.name.now is
+    let on = rw c.as_slice.ensures at c.service_on.ensures in
+    on ∙ sym (root_serves index c.args.port first zones item c.args.name.now) ∙ index_picks index blocks c.args.port c.args.name.now is

@@ -2,7 +2,8 @@ use Rattle.std.proofs.Common.{◌<◌, ◌∙◌, List, Some, ap, arith, length,
 use Rattle.std.specs.Prelude.{slice_set}
 use Rattle.std.proofs.lemmas.Option.{slice_get-get_or}
 use Rattle.plugin_api.specs.declared.services.Service.{Service}
-use Rattle.plugin_api.proofs.Indexing.{named_within, new_zone, there}
+use Rattle.name_table.specs.NumberLaws.{named_within}
+use Rattle.plugin_api.proofs.Indexing.{new_zone, there}
 use Rattle.plugin_api.proofs.index.BlockIndex.with_key.Goals as goal
 
 pub index_mut-requires : goal.index_mut-requires
@@ -15,7 +16,7 @@ pub returns-in_default : goal.returns-in_default
 returns-in_default c =
     let none = rw c.labels.ensures at c.in_default.ensures.none in
     let zones = rw c.in_ok-copy.ensures at c.in_ok-push-2.ensures.ok in
-    let services = rw c.in_ok-of.ensures at c.in_ok-push.ensures.items in
+    let services = rw c.in_ok-one_service.ensures at c.in_ok-push.ensures.items in
     new_zone c.self.inside.zones _ c.self.inside.services.items _ c.args.self c.args.key.now c.args.block c.self.view_is none c.self.invariant.0 zones services
 
 pub returns : goal.returns

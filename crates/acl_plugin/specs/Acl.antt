@@ -37,8 +37,8 @@ acl_fault d zones =
     option_or (fault_at d.line (unless (is_some (zones_or zones d.args)) why.Zone))
     (body_fault d.line d.body)
 
--- reading a directive of a block with these zones gives its plan, or its first fault. Want of memory
--- is always allowed.
+-- reading a directive of a block with these zones gives its plan, or its first fault. Want of
+-- memory is always allowed.
 abbrev pub ReadsAcl : Directive → List (List (List ℕ)) → Result PlanData DirectiveFault → Type 0
 ReadsAcl d zones (Ok plan) =
     (acl_fault d zones ≡ None) × (plan ≡ record { directive = d; zones = zones })
@@ -68,7 +68,8 @@ first_action q (policy ∷ policies) =
 -- the action of a plan, where the name is in its zones
 abbrev pub plan_action : Query → PlanData → Option Action
 plan_action q plan =
-    if is_in q.name (plan_zones plan) then first_action q (policies_of plan.directive.body) else None
+    if is_in q.name (plan_zones plan) then first_action q (policies_of plan.directive.body)
+    else None
 
 -- `allow` ends all policies
 abbrev pub said : Action → AclSay

@@ -1,5 +1,5 @@
--- The line of a policy: `allow`, `block`, `filter` or `drop`, and then any number of `type` with types
--- or `*`, and of `net` with nets or `*`. This server's own rule, in the manner of CoreDNS.
+-- The line of a policy: `allow`, `block`, `filter` or `drop`, and then any number of `type` with
+-- types or `*`, and of `net` with nets or `*`. This server's own rule, in the manner of CoreDNS.
 use Rattle.std.specs.Prelude.{ℕ, Bool, true, false, not, ◌&&◌, ◌||◌, List, [], ◌∷◌, ◌++◌, codes}
 use Rattle.std.specs.Prelude.{Option, Some, None, is_some, unwrap_or, if◌then◌else◌}
 use Rattle.std.specs.Option.{option_or}

@@ -10,8 +10,8 @@ use std::alloc::Global;
 use std::marker::Model;
 use zone_words::{is_in, read_zones};
 
-/// What `acl` says of a query: it goes on, is answered REFUSED, is answered NOERROR without records,
-/// or gets no answer.
+/// What `acl` says of a query: it goes on, is answered REFUSED, is answered NOERROR without
+/// records, or gets no answer.
 #[derive(Clone, Copy, Debug, PartialEq, Eq)]
 pub enum AclSay {
     GoOn,

@@ -6,7 +6,7 @@ use Rattle.std.specs.Prelude.{IfSome, unwrap_or}
 use Rattle.std.proofs.lemmas.Grind.{flat_map-append}
 use Rattle.std.proofs.lemmas.List.Concat.{flat_map-cons}
 use Rattle.dns_data.specs.declared.limit.TheConstants as limits
-use Rattle.command_line.specs.declared.command.TheConstants as defaults
+use Rattle.command_line.specs.declared.bounds.TheConstants as defaults
 use Rattle.command_line.specs.declared.given.Given.{Given}
 use Rattle.command_line.specs.declared.choice.Choice.TheVariants as read
 use Rattle.command_line.specs.Command.{Heads, IsChosen, IsServe, ServeData, ServesInRange}

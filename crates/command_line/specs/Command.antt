@@ -5,7 +5,7 @@ use Rattle.std.specs.Prelude.{slice_index}
 use Rattle.std.specs.List.{flat_map}
 use Rattle.dns_data.specs.declared.limit.TheConstants as limits
 use Rattle.numbers.specs.Number.{number_of}
-use Rattle.command_line.specs.declared.command.TheConstants as defaults
+use Rattle.command_line.specs.declared.bounds.TheConstants as defaults
 use Rattle.command_line.specs.declared.command.Command.{Command}
 use Rattle.command_line.specs.declared.command.Command.TheVariants as asked
 use Rattle.command_line.specs.declared.command.Serve.{Serve}

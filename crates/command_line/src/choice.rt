@@ -3,9 +3,9 @@ ghost use Rattle.command_line.specs.Command.{IsHead, IsUpTo, IsValue, Heads};
 ghost use Rattle.command_line.specs.Command.{Choice as OptionChoice};
 ghost use Rattle.command_line.specs.Options.{choice_data};
 
-use crate::command::WORKERS;
+use crate::bounds::WORKERS;
 use dns_data::{Text, limit};
-use numbers::read_number;
+use numbers::read_digits;
 
 /// An option with its value.
 #[derive(Clone, Copy)]
@@ -75,7 +75,7 @@ fn text_behind<'a>(text: &'a str, first: &str) -> Option<&'a str>
 pub(crate) fn read_most(text: &str, most: u64) -> Option<u64>
     ensures { MatchOption result ((n : ℕ) → IsUpTo most text.now n → ⊥) (IsUpTo most text.now) }
 {
-    let number = read_number(text.as_bytes(), 10)?;
+    let number = read_digits(text.as_bytes(), 10)?;
     if number < 1 {
         return None;
     }

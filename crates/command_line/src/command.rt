@@ -2,21 +2,10 @@ ghost use Rattle.std.specs.Prelude.{◌≤◌, ℕ, IfSome, MatchOption};
 ghost use Rattle.command_line.specs.Command.{CommandData, ServeData, IsCommand, IsServe, IsLoad};
 ghost use Rattle.command_line.specs.Command.{command_data, serve_data, IsInRange, ServesInRange};
 
+use crate::bounds::{DEFAULT_PORT, DEFAULT_WORKERS, LOAD};
 use crate::choice::{read_choice, read_most};
 use crate::given::Given;
 use dns_data::{Text, limit};
-
-/// The port of keys that name none (RFC 1035, section 4.2).
-pub const DEFAULT_PORT: u16 = 53;
-
-/// Workers for each port and transport, where the words don't say.
-pub const DEFAULT_WORKERS: u64 = 1;
-
-/// Workers for each port and transport, at most.
-pub const WORKERS: u64 = 16;
-
-/// Queries of a load, at most.
-pub const LOAD: u64 = 100_000;
 
 /// What the words of the command line ask for.
 #[derive(Clone, Copy, Debug)]

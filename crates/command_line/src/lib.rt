@@ -1,8 +1,10 @@
 //! The words of the command line: what the program is asked to do.
 #![tactic(auto)]
 
+mod bounds;
 mod choice;
 mod command;
 mod given;
 
-pub use command::{Command, DEFAULT_PORT, DEFAULT_WORKERS, LOAD, Serve, WORKERS, read_command};
+pub use bounds::{DEFAULT_PORT, DEFAULT_WORKERS, LOAD, WORKERS};
+pub use command::{Command, Serve, read_command};

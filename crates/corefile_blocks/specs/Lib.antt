@@ -6,7 +6,9 @@ pub mod Blocks
 pub mod Readable
 pub mod Reader
 pub mod Ports
+pub mod Texts
 -- what public clauses cite
 pub use Rattle.corefile_blocks.specs.Blocks.{ReadsBlocks, blocks_of, wants_of}
 pub use Rattle.corefile_blocks.specs.Ports.{ArePorts, key_ports}
 pub use Rattle.corefile_blocks.specs.Readable.{IsReadable}
+pub use Rattle.corefile_blocks.specs.Texts.{why_text}

@@ -1,3 +1,6 @@
+ghost use Rattle.std.specs.Prelude.{◌≡◌};
+ghost use Rattle.corefile_blocks.specs.Texts.{why_text};
+
 use corefile_words::WordsFault;
 use dns_data::{Limit, NoMemory};
 
@@ -26,6 +29,27 @@ pub enum BlockWhy {
     ImportArgs,
     /// A snippet's name that is empty, or was defined before.
     SnippetName,
+}
+
+impl BlockWhy {
+    /// The word for it, as an operator sees it.
+    pub fn text(self) -> &'static str
+        ensures { result.now ≡ why_text self }
+    {
+        match self {
+            BlockWhy::NoKey => "nokey",
+            BlockWhy::Scheme => "scheme",
+            BlockWhy::Port => "port",
+            BlockWhy::Zone => "zone",
+            BlockWhy::Cidr => "cidr",
+            BlockWhy::DeepBrace => "deepbrace",
+            BlockWhy::OpenBlock => "openblock",
+            BlockWhy::StrayBrace => "straybrace",
+            BlockWhy::Outside => "outside",
+            BlockWhy::ImportArgs => "importargs",
+            BlockWhy::SnippetName => "snippetname",
+        }
+    }
 }
 
 /// Why a bundle has no blocks. Each line is one of the Corefile itself, and counts from 1: what an

@@ -4,13 +4,12 @@ ghost use Rattle.std.specs.List.{All};
 ghost use Rattle.corefile_words.specs.{words_of};
 ghost use Rattle.dns_data.specs.declared.limit.TheConstants as limits;
 ghost use Rattle.corefile_blocks.specs.Blocks.{at_line, file_of, import, import_name, import_words};
-ghost use Rattle.corefile_blocks.specs.Blocks.{snippet_of};
 ghost use Rattle.corefile_blocks.specs.Readable.{HasShortBytes, IsReadable};
 ghost use Rattle.corefile_blocks.specs.Reader.{AreTexts, Follows, reading_of};
 
 use crate::parts::import_name;
 use crate::reader::Reader;
-use crate::shared::{LineList, SharedLines, Snippet};
+use crate::shared::{LineList, SharedLines, Snippet, snippet_of};
 use crate::stack::{Taken, put};
 use crate::{Bundle, CorefileFault, WordsFault};
 use corefile_words::read_words;
@@ -100,18 +99,6 @@ fn at_line(line: u32, fault: WordsFault) -> Result<WordsFault, NoMemory>
         WordsFault::QuoteTail { line: _ } => Ok(WordsFault::QuoteTail { line }),
         WordsFault::NoMemory => Err(NoMemory),
     }
-}
-
-/// The lines of a name.
-pub(crate) fn snippet_of<'a>(snippets: &'a [Snippet], name: &[u8]) -> Option<&'a Snippet>
-    ensures { option_map (λ snippet. snippet.now) result ≡ snippet_of name.now snippets.now }
-{
-    for snippet in snippets {
-        if name == snippet.name.as_slice() {
-            return Some(snippet);
-        }
-    }
-    None
 }
 
 /// The bytes of the file of a name, where it isn't missing.

@@ -9,11 +9,10 @@ ghost use Rattle.corefile_blocks.specs.Readable.{IsReadable};
 ghost use Rattle.corefile_blocks.specs.Reader.{AreTexts, Does, Follows, reading_of};
 
 use crate::forms::{form_at, opened, snippet_name};
-use crate::import::snippet_of;
 use crate::keys::header_keys;
 use crate::parts::{directive, directive_count, push_body_line, push_directive, texts};
 use crate::place::{LineForm, Place};
-use crate::shared::{LineList, SharedLines, Snippet};
+use crate::shared::{LineList, SharedLines, Snippet, snippet_of};
 use crate::stack::{Frame, Taken};
 use crate::wanted::add_files;
 use crate::{BlockWhy, Bundle, CorefileFault};

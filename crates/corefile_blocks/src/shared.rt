@@ -1,5 +1,6 @@
 ghost use Rattle.std.specs.Prelude.{◌≡◌, [], ◌∷◌, ◌++◌, ◌+◌, ◌<◌, ◌^◌, IfOk, OnSome, OnOk};
 ghost use Rattle.std.specs.Prelude.{option_map, slice_get};
+ghost use Rattle.corefile_blocks.specs.Blocks.{snippet_of};
 
 use corefile_words::{WordLine, WordLines};
 use dns_data::{Bytes, NoMemory};
@@ -104,4 +105,16 @@ impl SharedLines {
 pub(crate) struct Snippet {
     pub name: Bytes,
     pub lines: SharedLines,
+}
+
+/// The lines of a name.
+pub(crate) fn snippet_of<'a>(snippets: &'a [Snippet], name: &[u8]) -> Option<&'a Snippet>
+    ensures { option_map (λ snippet. snippet.now) result ≡ snippet_of name.now snippets.now }
+{
+    for snippet in snippets {
+        if name == snippet.name.as_slice() {
+            return Some(snippet);
+        }
+    }
+    None
 }

@@ -43,6 +43,18 @@ no_answer = record {
   additional = [];
 }
 
+-- an RCODE without flags and records
+abbrev pub nothing : ℕ → AnswerData
+nothing rcode = record {
+  rcode = rcode;
+  aa = false;
+  ra = false;
+  tc = false;
+  answer = [];
+  authority = [];
+  additional = [];
+}
+
 pub record AreCodes (opcode rcode : ℕ) : Type 0 where
   pub opcode_fits : opcode < 16
   pub rcode_fits : rcode < 16

@@ -1,5 +1,7 @@
 //! How long and how many: limits of the wire format, and of this server. A name in `.._END` is the
 //! first number that is too large.
+ghost use Rattle.std.specs.Prelude.{◌≡◌};
+ghost use Rattle.dns_data.specs.Limits.{limit_text};
 
 pub use dns_names::limit::{LABEL_BYTES, NAME_BYTES};
 
@@ -99,4 +101,24 @@ pub enum Limit {
     ZoneRecords,
     /// Upstreams of one directive: `UPSTREAMS`.
     Upstreams,
+}
+
+impl Limit {
+    /// Of what there are too many, as an operator sees it.
+    pub fn text(self) -> &'static str
+        ensures { result.now ≡ limit_text self }
+    {
+        match self {
+            Limit::Workers => "workers",
+            Limit::Blocks => "blocks",
+            Limit::Directives => "directives",
+            Limit::Lines => "lines",
+            Limit::Patterns => "patterns",
+            Limit::FileBytes => "file bytes",
+            Limit::BundleBytes => "bundle bytes",
+            Limit::Files => "files",
+            Limit::ZoneRecords => "zone records",
+            Limit::Upstreams => "upstreams",
+        }
+    }
 }

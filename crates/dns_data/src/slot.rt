@@ -1,6 +1,7 @@
 //! Answers in the room of earlier ones.
-ghost use Rattle.std.specs.Prelude.{◌≡◌, IfOk, OnOk};
-ghost use Rattle.dns_data.specs.Message.{no_answer};
+ghost use Rattle.std.specs.Prelude.{◌≡◌, ◌<◌, IfOk, OnOk};
+ghost use Rattle.dns_data.specs.Message.{no_answer, nothing};
+ghost use Rattle.dns_data.specs.declared.limit.TheConstants as limits;
 
 use crate::{Answer, NoMemory, RecordRoom, rcode};
 use std::alloc::Global;
@@ -66,6 +67,16 @@ impl Slot {
         self.answer.clear();
         self.authority.clear();
         self.additional.clear();
+    }
+
+    /// Becomes an RCODE without records. Nothing has been written since it was cleared.
+    #[inline]
+    pub fn set_code(&mut self, rcode: u8)
+        requires small { rcode < limits.CODE_END }
+        requires clear { self.old ≡ no_answer }
+        ensures { self.new ≡ nothing rcode }
+    {
+        self.rcode = rcode;
     }
 
     /// Becomes a copy of an answer.

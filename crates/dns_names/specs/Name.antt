@@ -59,6 +59,10 @@ pub record IsWithin (name zone : List (List ℕ)) : Type 0 where
 abbrev pub same_labels : List (List ℕ) → List (List ℕ) → Bool
 same_labels a b = pointwise (pointwise nat_eq) a b
 
--- the same as a test
+-- whether two names are the same, ASCII case aside (RFC 4343)
+abbrev pub is_same : List (List ℕ) → List (List ℕ) → Bool
+is_same a b = same_labels (lowered a) (lowered b)
+
+-- whether the name is the zone, or lies below it
 unfoldable pub is_within : List (List ℕ) → List (List ℕ) → Bool
-is_within name zone = same_labels (lowered (drop (length name - length zone) name)) (lowered zone)
+is_within name zone = is_same (drop (length name - length zone) name) zone

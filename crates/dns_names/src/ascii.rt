@@ -1,10 +1,10 @@
 ghost use Rattle.std.specs.Prelude.{◌≡◌, ◌↔◌, map, IsTrue, length};
 ghost use Rattle.std.specs.Char.{to_ascii_lowercase};
 
-use equal_bytes::are_equal;
+use dns_lists::are_equal;
 
-/// Whether the bytes are the same, ASCII case aside (RFC 4343). Mostly they are equal, or have other
-/// lengths.
+/// Whether the bytes are the same, ASCII case aside (RFC 4343). Mostly they are equal, or have
+/// other lengths.
 #[inline]
 pub fn same_letters(a: &[u8], b: &[u8]) -> bool
     ensures { IsTrue result ↔ (map to_ascii_lowercase a.now ≡ map to_ascii_lowercase b.now) }

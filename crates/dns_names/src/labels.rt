@@ -22,6 +22,15 @@ impl<'a> Model for Labels<'a> {
     ghost invariant = { λ s. IsWire s.rest.now };
 }
 
+impl Name {
+    /// Its labels from the first on.
+    pub fn labels(&self) -> Labels<'_>
+        ensures { result ≡ self.now }
+    {
+        Labels::of(self)
+    }
+}
+
 impl<'a> Labels<'a> {
     /// All labels of a name.
     pub fn of(name: &'a Name) -> Labels<'a>

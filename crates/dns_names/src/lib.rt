@@ -13,4 +13,4 @@ mod reverse;
 pub use ascii::same_letters;
 pub use labels::Labels;
 pub use name::Name;
-pub use name_read::NameFault;
+pub use name_read::{NameFault, byte_at};

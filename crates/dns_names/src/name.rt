@@ -2,10 +2,9 @@ ghost use Rattle.std.specs.Prelude.{◌≡◌, ℕ, ◌+◌, ◌<◌, ◌≤◌,
 ghost use Rattle.std.specs.Prelude.{slice_index, take, OnOk, OnErr, IfOk, IsTrue, IsFalse, ◌↔◌};
 ghost use Rattle.std.specs.Prelude.{drop};
 ghost use Rattle.dns_names.specs.Name.{IsLabel, IsName, IsWire, IsWithin, wire_length, spelled};
-ghost use Rattle.dns_names.specs.Name.{labels_of, lowered, same_labels};
+ghost use Rattle.dns_names.specs.Name.{is_same, is_within, labels_of, lowered, same_labels};
 ghost use Rattle.dns_names.specs.declared.limit.TheConstants as limits;
 
-use crate::Labels;
 use crate::ascii::same_letters;
 use dns_lists::{Copies, NoMemory, Wire};
 use std::alloc::Global;
@@ -75,13 +74,6 @@ impl Name {
         ensures proper { IsName self.now }
     {
         self.wire.as_slice()
-    }
-
-    /// Its labels from the first on.
-    pub fn labels(&self) -> Labels<'_>
-        ensures { result ≡ self.now }
-    {
-        Labels::of(self)
     }
 
     /// Adds a label at the end, next to the root.
@@ -211,14 +203,16 @@ impl Name {
 
     /// Whether the names are equal, ASCII case aside (RFC 4343).
     pub fn same(&self, other: &Name) -> bool
-        ensures { IsTrue result ↔ (lowered self.now ≡ lowered other.now) }
+        ensures test { result ≡ is_same self.now other.now }
+        ensures same { IsTrue result ↔ (lowered self.now ≡ lowered other.now) }
     {
         same_letters(self.wire.as_slice(), other.wire.as_slice())
     }
 
     /// Whether the zone is a suffix of the name on whole labels, ASCII case aside.
     pub fn is_within(&self, zone: &Name) -> bool
-        ensures { IsTrue result ↔ IsWithin self.now zone.now }
+        ensures test { result ≡ is_within self.now zone.now }
+        ensures within { IsTrue result ↔ IsWithin self.now zone.now }
     {
         let mut rest = self.wire.as_slice();
         while zone.wire.len() < rest.len() {

@@ -180,8 +180,9 @@ fn has_room(name: &Name, label: &[u8]) -> bool
     0 < label.len() && label.len() <= LABEL_BYTES && name.wire_len() + label.len() < NAME_BYTES
 }
 
-// The byte of a label at the head of a text, and how many bytes behind the first spell it.
-fn byte_at(first: u8, behind: &[u8]) -> Option<(u8, usize)>
+/// The byte at the head of a text, which may be escaped (RFC 1035, section 5.1), and how many bytes
+/// behind the first spell it.
+pub fn byte_at(first: u8, behind: &[u8]) -> Option<(u8, usize)>
     ensures value { result ≡ byte_at first behind.now }
     ensures inside { IfSome result (λ found. found.1 ≤ length behind.now) }
 {

@@ -1,4 +1,4 @@
-ghost use Rattle.std.specs.Prelude.{◌≡◌, ◌<◌, ℕ, List, [], ◌∷◌, ◌++◌, slice_index, map, Some};
+ghost use Rattle.std.specs.Prelude.{◌≡◌, ℕ, List, [], ◌∷◌, ◌++◌, map, Some};
 ghost use Rattle.std.specs.Prelude.{IfOk, IsTrue, OnOk};
 ghost use Rattle.std.specs.Char.{to_ascii_lowercase};
 ghost use Rattle.std.specs.List.{flat_map};
@@ -7,7 +7,7 @@ ghost use Rattle.dns_names.specs.Name.{lowered};
 ghost use Rattle.dns_names.specs.NameText.{byte_text, is_special, label_text, name_text, name_of};
 
 use crate::{Labels, Name};
-use dns_lists::{NoMemory, Text};
+use dns_lists::{NoMemory, Text, are_bytes};
 use std::alloc::Global;
 
 impl Name {
@@ -106,11 +106,6 @@ fn put_labels(text: &mut Vec<u8>, mut labels: Labels<'_>) -> Result<(), NoMemory
     }
     Ok(())
 }
-
-// Tells the caller what the type says of each item.
-fn are_bytes(items: &[u8])
-    ensures { (k : ℕ) → slice_index items.now k < 256 }
-{}
 
 fn put_label(text: &mut Vec<u8>, label: &[u8]) -> Result<(), NoMemory>
     ensures { OnOk result (text.new.items ≡ text.old.items ++ label_text label.now) }

@@ -4,7 +4,7 @@ ghost use Rattle.dns_wire.specs.Known.{AreKnown, IsKnown};
 
 use crate::WireFault;
 use crate::known::KnownNames;
-use crate::name::{end_of_labels, joined, target_at};
+use crate::sequence::{end_of_labels, joined, target_at};
 use dns_data::{Copies, Name, NoMemory};
 use std::alloc::Global;
 

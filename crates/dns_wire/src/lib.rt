@@ -16,6 +16,7 @@ mod rdata;
 mod record;
 mod reply;
 mod section;
+mod sequence;
 
 pub use asked::{Asked, AskedBeside, read_asked, read_asked_into};
 pub use fault::{Head, QueryFault, WireFault};

@@ -6,7 +6,7 @@ use crate::clock::moment;
 use crate::crowd::{Crowd, Turn};
 use crate::descriptors::first_kept_now;
 use dns_data::Buffer;
-use edge_sockets::{Client, Sender, peer_of};
+use edge_sockets::{Client, PATIENCE, Sender, peer_of};
 use mio::net::TcpListener;
 use mio::{Events, Interest, Poll, Token};
 use std::alloc::Global;
@@ -22,9 +22,6 @@ const PIECE: usize = 16_384;
 
 // How many events the system tells at once, and how many connections are taken in behind one wait.
 const EVENTS: usize = 256;
-
-// For how long a receive waits, in milliseconds.
-const PATIENCE: u64 = 1_000;
 
 // How many turns there may be before the system is asked again.
 const TURNS: usize = 64;
@@ -126,7 +123,7 @@ impl TcpEnd {
     fn wait(&mut self, clock: &impl Clock) -> io::Result<bool> {
         let time = self.patience();
         self.poll.poll(&mut self.events, Some(time))?;
-        let mut came = time < Duration::from_millis(PATIENCE);
+        let mut came = time < Duration::from_millis(u64::from(PATIENCE));
         for event in &self.events {
             came = true;
             if event.token() == LISTENER {
@@ -152,7 +149,7 @@ impl TcpEnd {
         if self.failed {
             return Duration::from_millis(100);
         }
-        Duration::from_millis(PATIENCE)
+        Duration::from_millis(u64::from(PATIENCE))
     }
 
     // Takes the connections in that wait. Where that fails it is tried again a little later.

@@ -5,7 +5,8 @@ use crate::arrival::Arrival;
 use crate::clock::moment;
 use dns_data::{Addr, Buffer, NoMemory};
 use edge_sockets::{
-    Client, Sender, Unreceived, host_addresses, open_udp_at, poke, receive, reply_to, share_port,
+    Client, PATIENCE, Sender, Unreceived, host_addresses, open_udp_at, poke, receive, reply_to,
+    share_port,
 };
 use libc::net as c;
 use libc::types::pollfd;
@@ -22,9 +23,6 @@ const LARGEST: usize = 65_535;
 // The time after which the host's addresses are looked at again, in milliseconds, and how many
 // datagrams may come before the clock is.
 const BETWEEN: u64 = 10_000;
-
-// For how long a receive waits, in milliseconds.
-const PATIENCE: i32 = 1_000;
 
 const ROW: u32 = 64;
 
@@ -252,7 +250,7 @@ fn socket_at<'a>(first: &'a UdpSocket, others: &'a [UdpSocket], at: usize) -> &'
 
 // The next socket behind this one that has a datagram, once one has. Nothing behind a second.
 fn next_ready(asked: &mut [pollfd], at: usize) -> Result<usize, Unreceived> {
-    let polled = c::poll(asked, PATIENCE);
+    let polled = c::poll(asked, i32::from(PATIENCE));
     if polled < 0 {
         return Err(Unreceived::Failed);
     }

@@ -1,5 +1,5 @@
--- The words of `file`: the name of a zone file, and the zones that are read from it. This server's own
--- rule, in the manner of CoreDNS.
+-- The words of `file`: the name of a zone file, and the zones that are read from it. This server's
+-- own rule, in the manner of CoreDNS.
 use Rattle.std.specs.Prelude.{◌≡◌, ℕ, ◌+◌, Bool, List, [], ◌∷◌, Option, Some, None, is_some}
 use Rattle.std.specs.Prelude.{unwrap_or, Result, Ok, Err, if◌then◌else◌}
 use Rattle.std.specs.List.{list_any}
@@ -13,7 +13,7 @@ use Rattle.plugin_api.specs.declared.fault.DirectiveWhy.{DirectiveWhy}
 use Rattle.plugin_api.specs.declared.fault.DirectiveWhy.TheVariants as why
 use Rattle.zone_file.specs.declared.fault.ZoneFault.{ZoneFault}
 use Rattle.zone_file.specs.declared.fault.ZoneFault.TheVariants as zone_fault
-use Rattle.zone_lookup.specs.Zone.{is_same}
+use Rattle.dns_data.specs.{is_same}
 use Rattle.file_plugin.specs.declared.fault.FileFault.{FileFault}
 use Rattle.file_plugin.specs.declared.fault.FileFault.TheVariants as fault
 use Rattle.file_plugin.specs.Zones.{FileData, file_zones, origins_of, origins_or, zones_from}

@@ -1,5 +1,5 @@
--- The zones of `file` directives, and which of them answers (RFC 1034, section 4.3.2). The choice is
--- this server's own rule, in the manner of CoreDNS.
+-- The zones of `file` directives, and which of them answers (RFC 1034, section 4.3.2). The choice
+-- is this server's own rule, in the manner of CoreDNS.
 use Rattle.std.specs.Prelude.{◌≡◌, ℕ, nat_lt, List, [], ◌∷◌, ◌++◌, length}
 use Rattle.std.specs.Prelude.{Option, Some, None, unwrap_or, Result, Ok, Err, if◌then◌else◌}
 use Rattle.dns_data.specs.{is_within}

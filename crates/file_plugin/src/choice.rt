@@ -11,7 +11,6 @@ use dns_write::Tail;
 use std::alloc::Global;
 use zone_lookup::{ZoneStore, answer};
 use zone_tree::TreeZone;
-use zone_words::covers;
 
 /// What `file` says of a query: it is answered by what stands in the slot, or by that with the
 /// records of a tail in place of its authority and additional; or it goes on.
@@ -82,7 +81,7 @@ fn longer_for<'a>(
     ensures { option_map (λ zone. zone.now) result
         ≡ longer_for name.now (option_map (λ zone. zone.now) before.entry) zone.now }
 {
-    if covers(zone.origin(), name) {
+    if name.is_within(zone.origin()) {
         return Some(longer_of(before, zone));
     }
     before

@@ -1,20 +1,20 @@
 ghost use Rattle.std.specs.Prelude.{◌≡◌, ◌<◌, ◌^◌, length, option_map, IfSome};
 ghost use Rattle.std.specs.List.{list_any};
-ghost use Rattle.zone_lookup.specs.Zone.{is_same};
-ghost use Rattle.file_plugin.specs.Reading.{ReadsFile, has_zone};
+ghost use Rattle.dns_data.specs.{is_same};
+ghost use Rattle.file_plugin.specs.Reading.{ReadsFile, has_zone, some_has};
 ghost use Rattle.file_plugin.specs.Zones.{file_zones};
 
 use crate::fault::FileFault;
-use crate::reading::{body_why, read_text, read_words, some_has};
+use crate::reading::{body_why, read_text, read_words};
 use dns_data::{Bytes, Copies, Directive, Name, Names, Seq};
 use plugin_api::DirectiveWhy;
 use std::alloc::Global;
 use std::marker::Model;
-use zone_lookup::{ZoneStore, same};
+use zone_lookup::ZoneStore;
 use zone_tree::TreeZone;
 
-/// A directive `file`, with its zones, read once. Contracts see the directive, the zones of its block,
-/// and the bytes of its file.
+/// A directive `file`, with its zones, read once. Contracts see the directive, the zones of its
+/// block, and the bytes of its file.
 #[derive(Debug, Drop)]
 pub struct FilePlan {
     directive: Directive,
@@ -37,8 +37,8 @@ impl Model for FilePlan {
 }
 
 impl FilePlan {
-    /// Reads a directive of a block with these zones, behind the plans `before` of its block, or says
-    /// what is wrong with it. `file` is what its file has, where that isn't missing.
+    /// Reads a directive of a block with these zones, behind the plans `before` of its block, or
+    /// says what is wrong with it. `file` is what its file has, where that isn't missing.
     #[tactic(auto, unfolding(crate::specs::Reading::file_fault))]
     pub fn read(
         alloc: Global,
@@ -96,7 +96,30 @@ fn has_origin(zones: &[TreeZone], origin: &Name) -> bool
     ensures { result ≡ list_any (λ zone. is_same zone.origin origin.now) zones.now }
 {
     for zone in zones {
-        if same(zone.origin(), origin) {
+        if zone.origin().same(origin) {
+            return true;
+        }
+    }
+    false
+}
+
+// Whether a plan before has a zone of one of these origins.
+fn some_has(before: &[FilePlan], origins: &[Name]) -> bool
+    ensures { result ≡ some_has before.now origins.now }
+{
+    for origin in origins {
+        if one_has(before, origin) {
+            return true;
+        }
+    }
+    false
+}
+
+fn one_has(before: &[FilePlan], origin: &Name) -> bool
+    ensures { result ≡ list_any (has_zone origin.now) before.now }
+{
+    for plan in before {
+        if plan.has_zone(origin) {
             return true;
         }
     }

@@ -1,12 +1,9 @@
 ghost use Rattle.std.specs.Prelude.{◌≡◌, ◌<◌, ◌^◌, [], length, IfOk};
-ghost use Rattle.std.specs.List.{list_any};
 ghost use Rattle.zone_file.specs.Zones.{Agrees};
-ghost use Rattle.file_plugin.specs.Reading.{ReadsText, ReadsWords, body_why, has_zone, some_has};
-ghost use Rattle.file_plugin.specs.Reading.{told_at};
+ghost use Rattle.file_plugin.specs.Reading.{ReadsText, ReadsWords, body_why, told_at};
 ghost use Rattle.file_plugin.specs.Zones.{zones_from};
 
 use crate::fault::FileFault;
-use crate::plan::FilePlan;
 use dns_data::{Limit, Line, Name, Names, NoMemory, Seq, Text, limit};
 use plugin_api::DirectiveWhy;
 use std::alloc::Global;
@@ -39,29 +36,6 @@ pub(crate) fn body_why(lines: &[Line]) -> Option<DirectiveWhy>
         return None;
     }
     Some(DirectiveWhy::Args)
-}
-
-/// Whether a plan before has a zone of one of these origins.
-pub(crate) fn some_has(before: &[FilePlan], origins: &[Name]) -> bool
-    ensures { result ≡ some_has before.now origins.now }
-{
-    for origin in origins {
-        if one_has(before, origin) {
-            return true;
-        }
-    }
-    false
-}
-
-fn one_has(before: &[FilePlan], origin: &Name) -> bool
-    ensures { result ≡ list_any (has_zone origin.now) before.now }
-{
-    for plan in before {
-        if plan.has_zone(origin) {
-            return true;
-        }
-    }
-    false
 }
 
 /// The zones of these origins, each read from the text in turn, or the first refusal at the line of

@@ -1,28 +1,15 @@
 -- An index of what is listed: what it has after a number more.
-use Rattle.std.proofs.Common.{◌≡◌, ◌<◌, ◌⊎◌, ℕ, zero, suc, Bool, true, false, cond, List, [], ◌∷◌, ◌++◌, length, take, Option, Some, None, refl, sym, ap, subst, ◌∙◌, arith, inl, inr, eqb, eqb-true, eq-eqb, filter, option_map}
+use Rattle.std.proofs.Common.{◌≡◌, ℕ, zero, suc, Bool, true, false, cond, List, [], ◌∷◌, ◌++◌, length, take, Option, Some, None, refl, sym, ap, subst, ◌∙◌, arith, inl, inr, eqb, eqb-true, eq-eqb, filter, option_map}
 use Rattle.std.specs.Prelude.{slice_get, slice_set}
 use Rattle.std.proofs.lemmas.List.{length-append, take_all, append-nil}
 use Rattle.std.proofs.lemmas.List.Elements.{filter-append}
 use Rattle.std.proofs.lemmas.Option.{slice_get_within}
-use Rattle.dns_names.specs.Name.{lowered, same_labels}
+use Rattle.dns_names.specs.Name.{is_same, lowered, same_labels}
+use Rattle.dns_names.specs.WithinLaws.{same_is}
+use Rattle.name_table.specs.NumberLaws.{front, last, named_by, named_within, push_cases, set_other, set_same}
 use Rattle.name_table.specs.Table.{IsMissing, IsNamed, IsNumberOf}
-use Rattle.plugin_api.specs.KeyLaws.{same_is}
-use Rattle.plugin_api.specs.Picking.{is_same}
 use Rattle.hosts_plugin.specs.declared.listing.Listing.{Listing}
 use Rattle.hosts_plugin.specs.Index.{Adds, IndexData, IsEmpty, IsFound, IsIndexOf, before, has_some, kept, picked}
-
--- the name that a number names
-record Named (o : Option (List (List ℕ))) (small : List (List ℕ)) : Type 0 where
-  pub name : List (List ℕ)
-  pub is : o ≡ Some name
-  pub same : lowered name ≡ small
-
-named_by : (o : Option (List (List ℕ))) (small : List (List ℕ)) → option_map lowered o ≡ Some small → Named o small
-named_by None small e = absurd cc
-named_by (Some name) small e = record { name = name; is = refl; same = cc }
-
-pub named_within : (names : List (List (List ℕ))) (key : List (List ℕ)) (i : ℕ) → IsNamed names i key → i < length names
-named_within names key i n = let there = named_by (slice_get names i) (lowered key) n in slice_get_within names i there.name there.is
 
 named_at : (names : List (List (List ℕ))) (i : ℕ) (name key : List (List ℕ)) → slice_get names i ≡ Some name → lowered name ≡ lowered key → IsNamed names i key
 named_at names i name key e same = ap (option_map lowered) e ∙ ap Some same
@@ -69,37 +56,6 @@ set_length : {X : Type 0} (xs : List X) (i : ℕ) (x : X) → length (slice_set 
 set_length [] i x = refl
 set_length (y ∷ xs) zero x = refl
 set_length (y ∷ xs) (suc i) x = ap suc (set_length xs i x)
-
-set_same : {X : Type 0} (xs : List X) (i : ℕ) (x : X) → i < length xs → slice_get (slice_set xs i x) i ≡ Some x
-set_same [] i x l = absurd (omega arith)
-set_same (y ∷ xs) zero x l = refl
-set_same (y ∷ xs) (suc i) x l = set_same xs i x (omega arith)
-
-set_other : {X : Type 0} (xs : List X) (i j : ℕ) (x : X) → (i ≡ j → ⊥) → slice_get (slice_set xs i x) j ≡ slice_get xs j
-set_other [] i j x n = refl
-set_other (y ∷ xs) zero zero x n = absurd (n refl)
-set_other (y ∷ xs) zero (suc j) x n = refl
-set_other (y ∷ xs) (suc i) zero x n = refl
-set_other (y ∷ xs) (suc i) (suc j) x n = set_other xs i j x (λ e. n (ap suc e))
-
-front : {X : Type 0} (xs : List X) (x : X) (i : ℕ) → i < length xs → slice_get (xs ++ x ∷ []) i ≡ slice_get xs i
-front [] x i l = absurd (omega arith)
-front (y ∷ xs) x zero l = refl
-front (y ∷ xs) x (suc i) l = front xs x i (omega arith)
-
-last : {X : Type 0} (xs : List X) (x : X) → slice_get (xs ++ x ∷ []) (length xs) ≡ Some x
-last [] x = refl
-last (y ∷ xs) x = last xs x
-
--- an item of a list with one more is an earlier one, or the last
-push_cases : {X : Type 0} (xs : List X) (x : X) (i : ℕ) (y : X) → slice_get (xs ++ x ∷ []) i ≡ Some y → (slice_get xs i ≡ Some y) ⊎ ((i ≡ length xs) × (x ≡ y))
-push_cases [] x zero y e = inr (refl, cc)
-push_cases [] x (suc i) y e = absurd cc
-push_cases (z ∷ xs) x zero y e = inl e
-push_cases (z ∷ xs) x (suc i) y e = elim (push_cases xs x i y e) [
-  | inl h ↦ inl h
-  | inr h ↦ inr (ap suc h.0, h.1)
-]
 
 -- the parts of what an index has, by its names and sets
 abbrev Each : List (List (List ℕ)) → List (List ℕ) → (Listing → List (List ℕ)) → List Listing → ℕ → Type 0

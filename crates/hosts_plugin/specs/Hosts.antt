@@ -14,8 +14,8 @@ use Rattle.dns_data.specs.declared.kind.TheConstants as kinds
 use Rattle.dns_data.specs.declared.query.Query.{Query}
 use Rattle.dns_data.specs.declared.rcode.TheConstants as rcodes
 use Rattle.dns_data.specs.declared.record.Rdata.TheVariants as rdata
-use Rattle.option_words.specs.{fallthrough_of}
-use Rattle.plugin_api.specs.Picking.{is_same}
+use Rattle.plugin_api.specs.{fallthrough_of}
+use Rattle.dns_data.specs.{is_same}
 use Rattle.zone_words.specs.{is_in, zones_or}
 use Rattle.hosts_plugin.specs.declared.say.HostsSay.{HostsSay}
 use Rattle.hosts_plugin.specs.declared.say.HostsSay.TheVariants as say

@@ -3,7 +3,7 @@ use Rattle.std.specs.Prelude.{◌≡◌, ◌⊎◌, ℕ, Bool, true, false, List
 use Rattle.std.specs.Prelude.{Option, Some, None, slice_get, slice_set}
 use Rattle.std.specs.List.{filter}
 use Rattle.name_table.specs.Table.{IsMissing, IsNumberOf}
-use Rattle.plugin_api.specs.Picking.{is_same}
+use Rattle.dns_data.specs.{is_same}
 use Rattle.hosts_plugin.specs.declared.listing.Listing.{Listing}
 
 -- names, no two of which are the same, and the numbers of each

@@ -1,7 +1,7 @@
 -- What is made of a directive and its file, once.
 use Rattle.std.specs.Prelude.{◌≡◌, ℕ, ◌<◌, ◌^◌, Bool, List, [], length, map}
 use Rattle.dns_data.specs.{RecordData, reverse_of}
-use Rattle.option_words.specs.{fallthrough_of}
+use Rattle.plugin_api.specs.{fallthrough_of}
 use Rattle.hosts_plugin.specs.declared.listing.Listing.{Listing}
 use Rattle.hosts_plugin.specs.Hosts.{HostsData, plan_listings, plan_zones, pointer_record}
 use Rattle.hosts_plugin.specs.Index.{IndexData, IsIndexOf}

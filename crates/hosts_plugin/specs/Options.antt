@@ -6,7 +6,7 @@ use Rattle.std.specs.Prelude.{if◌then◌else◌}
 use Rattle.dns_data.specs.declared.directive.Line.{Line}
 use Rattle.dns_data.specs.declared.limit.TheConstants as limits
 use Rattle.numbers.specs.{number_of}
-use Rattle.option_words.specs.{option_in}
+use Rattle.plugin_api.specs.{option_in}
 
 -- a number that is a TTL: from 1 to 2^31 - 1
 abbrev pub if_ttl : ℕ → Option ℕ

@@ -7,8 +7,7 @@ use Rattle.std.specs.Option.{option_or}
 use Rattle.dns_data.specs.{addr_of}
 use Rattle.dns_data.specs.declared.directive.Directive.{Directive}
 use Rattle.dns_data.specs.declared.directive.Line.{Line}
-use Rattle.option_words.specs.{empty_why, fallthrough_why, once, unless}
-use Rattle.plugin_api.specs.{fault_at, is_word}
+use Rattle.plugin_api.specs.{empty_why, fallthrough_why, fault_at, is_word, once, unless}
 use Rattle.plugin_api.specs.declared.fault.DirectiveFault.{DirectiveFault}
 use Rattle.plugin_api.specs.declared.fault.DirectiveFault.TheVariants as fault
 use Rattle.plugin_api.specs.declared.fault.DirectiveWhy.{DirectiveWhy}

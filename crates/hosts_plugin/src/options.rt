@@ -3,8 +3,8 @@ ghost use Rattle.hosts_plugin.specs.Options.{has_no_reverse, ttl_by, ttl_in, ttl
 ghost use Rattle.hosts_plugin.specs.Reading.{opened, seen_behind, seen_with};
 
 use dns_data::{Line, Text, limit};
-use numbers::read_number;
-use option_words::option_in;
+use numbers::read_digits;
+use plugin_api::option_in;
 
 /// What a line of the body is, by its first word.
 #[derive(Clone, Copy, Debug, PartialEq, Eq)]
@@ -87,7 +87,7 @@ pub(crate) fn read_ttl(word: &Text) -> Option<u32>
     ensures value { result ≡ ttl_in word.now }
     ensures small { IfSome result (λ ttl. ttl < 2 ^ 31) }
 {
-    let number = read_number(word.as_str().as_bytes(), 10)?;
+    let number = read_digits(word.as_str().as_bytes(), 10)?;
     if 0 < number && number < u64::from(limit::TTL_END) {
         return Some(number as u32);
     }

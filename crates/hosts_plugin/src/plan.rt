@@ -10,8 +10,7 @@ use crate::listing::{Listing, add_inline};
 use crate::options::{has_no_reverse, ttl_of};
 use crate::reading::{lines_fault, zones_behind};
 use dns_data::{Bytes, Copies, Directive, Line, Names, NoMemory, Record, Seq};
-use option_words::fallthrough_of;
-use plugin_api::{DirectiveFault, DirectiveWhy};
+use plugin_api::{DirectiveFault, DirectiveWhy, fallthrough_of};
 use std::alloc::Global;
 use std::marker::Model;
 

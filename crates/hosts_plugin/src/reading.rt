@@ -6,8 +6,7 @@ ghost use Rattle.hosts_plugin.specs.Hosts.{zones_behind};
 use crate::listing::read_name;
 use crate::options::{Opens, Seen, opened, read_ttl, seen_behind};
 use dns_data::{Addr, Copies, Line, Names, NoMemory, Text};
-use option_words::{empty_why, fallthrough_why, once};
-use plugin_api::{DirectiveFault, DirectiveWhy};
+use plugin_api::{DirectiveFault, DirectiveWhy, empty_why, fallthrough_why, once};
 use std::alloc::Global;
 use zone_words::read_zones;
 

@@ -10,13 +10,14 @@ use Rattle.std.proofs.lemmas.Bool.{cases_lt}
 use Rattle.dns_names.specs.Name.{IsName, spelled, lowered}
 use Rattle.dns_names.specs.NameLaws.{same_case}
 use Rattle.name_table.specs.Hash.{small, word_at, mixed, words_to, bytes_to, sum_of, hash_of, place_of}
+use Rattle.name_table.specs.NumberLaws.{last, push_cases}
 use Rattle.name_table.specs.Table.{AreMarked, Holds, IsNamed, IsNumberOf, IsLongest, IsTable, IsKept, IsEntryOf, NoneAmong, IsMissing, PassedTo, entry_of}
 use Rattle.std.specs.Int.Bits.{bit_or}
 use Rattle.std.proofs.lemmas.Nat.{or_block}
 use Rattle.std.proofs.lemmas.Bool.{agree_below_at}
 use Rattle.std.proofs.Common.{eqb, eqb-true, true, false, rules, length-take, length-drop, length-append}
 use Rattle.name_table.specs.declared.hash.TheConstants.{SMALL}
-use Rattle.name_table.specs.declared.bucket.Entry.{Entry}
+use Rattle.name_table.specs.declared.entry.Entry.{Entry}
 
 pub not_there : (names : List (List (List ℕ))) (i : ℕ) (key : List (List ℕ)) → length names ≤ i → IsNamed names i key → ⊥
 not_there names i key past n = let none = slice_get_past names i past in absurd cc
@@ -117,17 +118,6 @@ front : {X : Type 0} (xs ys : List X) (i : ℕ) (x : X) → slice_get xs i ≡ S
 front [] ys i x e = absurd cc
 front (z ∷ xs) ys zero x e = e
 front (z ∷ xs) ys (suc i) x e = front xs ys i x e
-
-last : {X : Type 0} (xs : List X) (x : X) → slice_get (xs ++ x ∷ []) (length xs) ≡ Some x
-last [] x = refl
-last (z ∷ xs) x = last xs x
-
--- an item of a longer list is an old one, or the new one
-either : {X : Type 0} (xs : List X) (x y : X) (i : ℕ) → slice_get (xs ++ x ∷ []) i ≡ Some y → (slice_get xs i ≡ Some y) ⊎ ((i ≡ length xs) × (x ≡ y))
-either [] x y zero e = inr (refl, cc)
-either [] x y (suc i) e = absurd cc
-either (z ∷ xs) x y zero e = inl e
-either (z ∷ xs) x y (suc i) e = elim (either xs x y i e) [ inl old ↦ inl old | inr new ↦ inr (omega (arith, new.0), new.1) ]
 
 set_here : {X : Type 0} (xs : List X) (i : ℕ) (x y : X) → slice_get (slice_set xs i x) i ≡ Some y → x ≡ y
 set_here [] i x y e = absurd cc
@@ -378,7 +368,7 @@ set_mark (mark ∷ lengths) (suc at) zero e = e
 set_mark (mark ∷ lengths) (suc at) (suc other) e = set_mark lengths at other e
 
 pub mark_push : (names : List (List (List ℕ))) (name : List (List ℕ)) (lengths : List Bool) (at : ℕ) → AreMarked names lengths → at ≡ length (spelled name) → at < length lengths → AreMarked (names ++ name ∷ []) (set lengths at true)
-mark_push names name lengths at marked is inside i other stands = elim (either names name other i stands) [
+mark_push names name lengths at marked is inside i other stands = elim (push_cases names name i other stands) [
   | inl old ↦ set_mark lengths at (length (spelled other)) (marked i other old)
   | inr new ↦
       let same : length (spelled other) ≡ at = ap (λ (n : List (List ℕ)). length (spelled n)) (sym new.1) ∙ sym is in

@@ -1,4 +1,5 @@
 pub mod Hash
+pub mod NumberLaws
 pub mod Table
 -- what public clauses cite
 pub use Rattle.name_table.specs.Table.{IsLongest, IsMissing, IsNamed, IsNumberOf}

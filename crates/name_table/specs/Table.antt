@@ -4,7 +4,7 @@ use Rattle.std.specs.Prelude.{Some, slice_get, slice_index_or}
 use Rattle.std.specs.Option.{option_map}
 use Rattle.dns_names.specs.Name.{IsName, spelled, lowered}
 use Rattle.name_table.specs.Hash.{hash_of, place_of}
-use Rattle.name_table.specs.declared.bucket.Entry.{Entry}
+use Rattle.name_table.specs.declared.entry.Entry.{Entry}
 use Rattle.name_table.specs.declared.table.Longest.{Longest}
 
 -- the number is a name's that is this one, ASCII case aside

@@ -2,7 +2,7 @@
 //! has.
 #![tactic(auto)]
 
-mod bucket;
+mod entry;
 mod hash;
 mod table;
 

@@ -5,9 +5,9 @@ ghost use Rattle.name_table.specs.Hash.{hash_of};
 ghost use Rattle.name_table.specs.Table.{Holds, IsEntryOf, IsNamed, IsNumberOf, IsMissing};
 ghost use Rattle.name_table.specs.Table.{IsLongest, entry_of};
 
-use crate::bucket::{Bucket, Entry};
+use crate::entry::Entry;
 use crate::hash::{hash_of, place_of};
-use dns_data::{Labels, Name, NoMemory, same_letters};
+use dns_data::{Labels, Name, NoMemory, Seq, same_letters};
 use std::alloc::Global;
 use std::marker::Model;
 
@@ -19,7 +19,8 @@ const LENGTHS: usize = 256;
 #[derive(Debug, Drop)]
 pub struct NameTable {
     names: Vec<Name>,
-    buckets: Vec<Bucket>,
+    // In each the entries of names whose hashes fall together.
+    buckets: Vec<Seq<Entry>>,
     /// For each number of bytes in wire format, whether a name has so many.
     lengths: [bool; LENGTHS],
 }
@@ -52,7 +53,7 @@ impl NameTable {
         let mut buckets = Vec::with_capacity(alloc, count)?;
         for made in 0..count {
             let _ = made;
-            buckets.push(Bucket::new(alloc))?;
+            buckets.push(Seq::new(alloc))?;
         }
         Ok(NameTable {
             names: Vec::new(alloc),

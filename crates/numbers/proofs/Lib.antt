@@ -1,2 +1,3 @@
+pub mod LargeNumbers
 mod Numbers
 pub mod Spans

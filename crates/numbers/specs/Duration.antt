@@ -49,8 +49,8 @@ span_of text =
 abbrev pub if_day : ℕ → Option ℕ
 if_day millis = if nat_le millis day then Some millis else None
 
--- the sum of the spans of a text behind those that were read, each sum at most 24 hours. No text has
--- more spans than bytes.
+-- the sum of the spans of a text behind those that were read, each sum at most 24 hours. No text
+-- has more spans than bytes.
 abbrev pub spans_from : ℕ → ℕ → List ℕ → Option ℕ
 spans_from most sum [] = Some sum
 spans_from zero sum (byte ∷ text) = None

@@ -4,14 +4,14 @@ ghost use Rattle.std.specs.Char.{is_ascii_digit};
 ghost use Rattle.numbers.specs.Duration.{day, digits_in_front, duration_of, if_day, in_unit};
 ghost use Rattle.numbers.specs.Duration.{minutes, seconds_of, span_data, span_of, spans_from};
 
-use crate::read_number;
+use crate::read_digits;
 
 // 24 hours in milliseconds.
 const DAY: u64 = 86_400_000;
 
 /// The duration that a word spells, in milliseconds: digits alone are seconds, and else each number
-/// has its unit behind it, `h`, `m`, `s` or `ms`, as in `1m30s`. A number has one to ten digits, and
-/// the sum is 24 hours at most.
+/// has its unit behind it, `h`, `m`, `s` or `ms`, as in `1m30s`. A number has one to ten digits,
+/// and the sum is 24 hours at most.
 #[tactic(auto, unfolding(crate::specs::Duration::duration_of))]
 pub fn read_duration(text: &[u8]) -> Option<u64>
     ensures value { result ≡ duration_of text.now }
@@ -38,7 +38,7 @@ fn read_seconds(text: &[u8]) -> Option<u64>
     ensures value { result ≡ seconds_of text.now }
     ensures most { IfSome result (λ millis. millis ≤ day) }
 {
-    let number = read_number(text, 10)?;
+    let number = read_digits(text, 10)?;
     if_day(number, 1_000)
 }
 
@@ -81,7 +81,7 @@ fn read_span(text: &[u8]) -> Option<(u64, &[u8])>
     ensures shorter { IfSome result (λ span. length span.1.now < length text.now) }
 {
     let digits = digits_in_front(text);
-    let number = read_number(&text[..digits], 10)?;
+    let number = read_digits(&text[..digits], 10)?;
     in_unit(number, &text[digits..])
 }
 

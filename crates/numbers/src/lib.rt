@@ -1,8 +1,12 @@
-//! Numbers as decimal digits, on the command line and in a Corefile, and durations.
+//! Decimal numbers in texts, read and printed, and durations.
 #![tactic(auto)]
 
+mod below;
+mod digits;
 mod duration;
-mod reading;
+mod printing;
 
+pub use below::read_below;
+pub use digits::read_digits;
 pub use duration::read_duration;
-pub use reading::read_number;
+pub use printing::put_decimal;

@@ -12,7 +12,8 @@ use Rattle.regex_syntax.specs.Brackets.{Nested}
 use Rattle.regex_syntax.specs.Verdict.{default_config}
 use Rattle.regex.specs.Writes.{group_of}
 
--- the parts that the groups of a match span, group 0 the whole match, and the number of a group's name
+-- the parts that the groups of a match span, group 0 the whole match, and the number of a group's
+-- name
 pub record Finding : Type 0 where
   pub span : ℕ → Option (ℕ × ℕ)
   pub number : List ℕ → Option ℕ

@@ -158,13 +158,6 @@ impl Pattern {
     {
         &self.inner.regex
     }
-
-    /// The `Regex` itself, which the checker no longer takes across threads.
-    pub fn into_regex(self) -> Regex
-        ensures { result ≡ self }
-    {
-        self.inner.regex
-    }
 }
 
 impl fmt::Debug for Pattern {

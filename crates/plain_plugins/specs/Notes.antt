@@ -5,27 +5,12 @@ use Rattle.dns_data.specs.{addr_text, name_text}
 use Rattle.dns_data.specs.declared.message.Transport.{Transport}
 use Rattle.dns_data.specs.declared.message.Transport.TheVariants as transport
 use Rattle.dns_data.specs.declared.query.Query.{Query}
+use Rattle.plugin_api.specs.{cause_text, code_text}
 use Rattle.plugin_api.specs.declared.verdict.Code.{Code}
-use Rattle.plugin_api.specs.declared.verdict.Code.TheVariants as code
 use Rattle.plugin_api.specs.declared.verdict.Cause.{Cause}
-use Rattle.plugin_api.specs.declared.verdict.Cause.TheVariants as cause
 use Rattle.type_names.specs.{kind_text, rcode_text}
 use Rattle.plain_plugins.specs.declared.lines.LogOutcome.{LogOutcome}
 use Rattle.plain_plugins.specs.declared.lines.LogOutcome.TheVariants as outcome
-
-abbrev pub code_text : Code → List ℕ
-code_text code.FormErr = codes "FORMERR"
-code_text code.ServFail = codes "SERVFAIL"
-code_text code.NotImp = codes "NOTIMP"
-code_text code.Refused = codes "REFUSED"
-
-abbrev pub cause_text : Cause → List ℕ
-cause_text cause.EndOfChain = codes "end-of-chain"
-cause_text cause.NoMatch = codes "template-no-match"
-cause_text cause.NotRecord = codes "template-record"
-cause_text cause.UnknownHost = codes "hosts-unknown"
-cause_text cause.AllUpstreams = codes "forward-failed"
-cause_text cause.ExtraCode = codes "extra"
 
 abbrev pub transport_text : Transport → List ℕ
 transport_text transport.Udp = codes " udp "

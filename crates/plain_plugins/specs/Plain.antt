@@ -53,8 +53,8 @@ plain_why rank zones d = option_or (words_why rank zones d.args) (no_body_why d.
 unfoldable pub plain_fault : Rank → Directive → List (List (List ℕ)) → Option DirectiveFault
 plain_fault rank d zones = fault_at d.line (plain_why rank zones d)
 
--- reading a directive of a block with these zones gives its plan, or its first fault. Want of memory
--- is always allowed.
+-- reading a directive of a block with these zones gives its plan, or its first fault. Want of
+-- memory is always allowed.
 abbrev pub ReadsPlain : Rank → Directive → List (List (List ℕ)) → Result PlanData DirectiveFault
     → Type 0
 ReadsPlain rank d zones (Ok plan) =

@@ -1,5 +1,5 @@
--- The words of `reload`: how often the files are looked at, and how much that varies. This server's own
--- rule, in the manner of CoreDNS.
+-- The words of `reload`: how often the files are looked at, and how much that varies. This server's
+-- own rule, in the manner of CoreDNS.
 use Rattle.std.specs.Prelude.{ℕ, ◌/◌, max, min, List, [], ◌∷◌, Option, Some, None, is_some}
 use Rattle.std.specs.Prelude.{unwrap_or, if◌then◌else◌}
 use Rattle.std.specs.Option.{option_or}

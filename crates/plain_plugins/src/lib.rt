@@ -1,5 +1,5 @@
-//! The plugins whose rules are a few lines: `any`, `errors`, `log`, `reload`, `whoami`, and the names
-//! that do nothing.
+//! The plugins whose rules are a few lines: `any`, `errors`, `log`, `reload`, `whoami`, and the
+//! names that do nothing.
 #![tactic(auto)]
 
 mod any;

@@ -1,10 +1,10 @@
-ghost use Rattle.std.specs.Prelude.{◌≡◌, ◌++◌, codes, string_bytes, IfOk, OnOk};
+ghost use Rattle.std.specs.Prelude.{◌≡◌, ◌++◌, IfOk, OnOk};
 ghost use Rattle.std.specs.Fmt.{decimal};
-ghost use Rattle.plain_plugins.specs.Notes.{asked_text, cause_text, code_text, error_line};
-ghost use Rattle.plain_plugins.specs.Notes.{log_line};
-ghost use Rattle.plain_plugins.specs.Notes.{outcome_text, transport_text};
+ghost use Rattle.plain_plugins.specs.Notes.{asked_text, error_line, log_line, outcome_text};
+ghost use Rattle.plain_plugins.specs.Notes.{transport_text};
 
 use dns_data::{NoMemory, Query, Text, Transport};
+use numbers::put_decimal;
 use plugin_api::{Cause, Code};
 use std::alloc::Global;
 use type_names::{kind_text, rcode_text};
@@ -24,10 +24,10 @@ pub fn error_line(alloc: Global, query: &Query, code: Code, cause: Cause) -> Res
     ensures { IfOk result (λ line. line ≡ error_line query.now code cause) }
 {
     let mut line = Text::from_str(alloc, "error ")?;
-    line.append(code_text(code))?;
+    line.append(code.text())?;
     line.append(" ")?;
     put_asked(alloc, &mut line, query)?;
-    line.append(cause_text(cause))?;
+    line.append(cause.text())?;
     Ok(line)
 }
 
@@ -76,41 +76,8 @@ fn decimal(alloc: Global, number: u16) -> Result<Text, NoMemory>
     ensures { IfOk result (λ text. text ≡ decimal number) }
 {
     let mut text = String::with_capacity(alloc, 5)?;
-    put_number(&mut text, number)?;
+    put_decimal(&mut text, number)?;
     Ok(Text::of(text))
-}
-
-fn put_number(text: &mut String, number: u16) -> Result<(), NoMemory>
-    ensures { OnOk result (string_bytes text.new ≡ string_bytes text.old ++ decimal number) }
-{
-    match write!(text, "{number}") {
-        Ok(()) => Ok(()),
-        Err(_) => Err(NoMemory),
-    }
-}
-
-fn code_text(code: Code) -> &'static str
-    ensures { result.now ≡ code_text code }
-{
-    match code {
-        Code::FormErr => "FORMERR",
-        Code::ServFail => "SERVFAIL",
-        Code::NotImp => "NOTIMP",
-        Code::Refused => "REFUSED",
-    }
-}
-
-fn cause_text(cause: Cause) -> &'static str
-    ensures { result.now ≡ cause_text cause }
-{
-    match cause {
-        Cause::EndOfChain => "end-of-chain",
-        Cause::NoMatch => "template-no-match",
-        Cause::NotRecord => "template-record",
-        Cause::UnknownHost => "hosts-unknown",
-        Cause::AllUpstreams => "forward-failed",
-        Cause::ExtraCode => "extra",
-    }
 }
 
 fn transport_text(by: Transport) -> &'static str

@@ -13,7 +13,7 @@ use Rattle.record_text.specs.Strings.{string_of, tag_of}
 use Rattle.record_text.specs.Ttls.{ttl_of}
 use Rattle.record_text.specs.Words.{WordData}
 use Rattle.type_names.specs.Kinds.{kind_of_text}
-use Rattle.type_names.specs.Numbers.{number_below}
+use Rattle.numbers.specs.{number_below}
 
 -- where a record's text stands, and the origin there
 pub record PlaceData : Type 0 where

@@ -13,7 +13,7 @@ use Rattle.record_text.specs.Fields.{PlaceData, ended, name_in, string_in, tag_i
 use Rattle.record_text.specs.Fields.{u16_in, u32_in, u8_in, v4_in, v6_in}
 use Rattle.record_text.specs.Strings.{hex_of}
 use Rattle.record_text.specs.Words.{WordData}
-use Rattle.type_names.specs.Numbers.{number_below}
+use Rattle.numbers.specs.{number_below}
 
 -- an address
 abbrev pub a_row : List WordData → Option Rdata

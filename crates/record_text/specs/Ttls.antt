@@ -5,7 +5,7 @@ use Rattle.std.specs.Prelude.{option_map, option_and_then, if◌then◌else◌}
 use Rattle.std.specs.Char.{is_ascii_digit}
 use Rattle.std.specs.Option.{option_or, unwrap_or}
 use Rattle.dns_data.specs.declared.limit.TheConstants as limits
-use Rattle.type_names.specs.Numbers.{number_below}
+use Rattle.numbers.specs.{number_below}
 
 -- the seconds of a unit
 abbrev pub unit_of : ℕ → Option ℕ

@@ -8,9 +8,10 @@ ghost use Rattle.record_text.specs.Fields.{tag_in, ttl_in, u16_in, u32_in, u8_in
 use crate::string::{read_string, read_tag};
 use crate::{Place, RecordFault, Word, read_name, read_ttl};
 use dns_data::{Addr, Bytes, Name, Rdata};
+use numbers::read_below;
 use std::alloc::Global;
 use std::marker::Model;
-use type_names::{read_kind, read_number};
+use type_names::read_kind;
 
 /// The words of a record that are left to be read. Contracts see their list.
 #[derive(Drop)]
@@ -60,7 +61,7 @@ impl<'w, 'a> Fields<'w, 'a> {
         let Some(word) = self.next() else {
             return Err(RecordFault::Bad);
         };
-        match read_number(word.text, 256) {
+        match read_below(word.text, 256) {
             Some(number) => Ok(number as u8),
             None => Err(RecordFault::Bad),
         }
@@ -72,7 +73,7 @@ impl<'w, 'a> Fields<'w, 'a> {
         let Some(word) = self.next() else {
             return Err(RecordFault::Bad);
         };
-        match read_number(word.text, 65536) {
+        match read_below(word.text, 65536) {
             Some(number) => Ok(number as u16),
             None => Err(RecordFault::Bad),
         }
@@ -84,7 +85,7 @@ impl<'w, 'a> Fields<'w, 'a> {
         let Some(word) = self.next() else {
             return Err(RecordFault::Bad);
         };
-        match read_number(word.text, 4294967296) {
+        match read_below(word.text, 4294967296) {
             Some(number) => Ok(number as u32),
             None => Err(RecordFault::Bad),
         }

@@ -2,7 +2,6 @@
 //! are made of.
 #![tactic(auto)]
 
-mod escape;
 mod fault;
 mod fields;
 mod form;

@@ -12,8 +12,8 @@ use crate::string::read_string;
 use crate::{Place, RecordFault, Word};
 use dns_data::limit::RDATA_BYTES;
 use dns_data::{Rdata, Soa, Strings, kind};
+use numbers::read_below;
 use std::alloc::Global;
-use type_names::read_number;
 
 /// The data of a type that words spell.
 #[tactic(auto, unfolding(crate::specs::Rows::data_of, dns_data::specs::Record::is_known_type))]
@@ -198,7 +198,7 @@ fn read_bytes(alloc: Global, kind: u16, words: &[Word<'_>]) -> Result<Rdata, Rec
     let Some((size, digits)) = words.split_first() else {
         return Err(RecordFault::Bad);
     };
-    let Some(size) = read_number(size.text, 65536) else {
+    let Some(size) = read_below(size.text, 65536) else {
         return Err(RecordFault::Bad);
     };
     let bytes = read_hex(alloc, digits)?;

@@ -6,9 +6,8 @@ ghost use Rattle.record_text.specs.Fields.{Answers};
 ghost use Rattle.record_text.specs.Strings.{is_tag, string_of, tag_of};
 
 use crate::RecordFault;
-use crate::escape::byte_at;
-use dns_data::Bytes;
 use dns_data::limit::STRING_BYTES;
+use dns_data::{Bytes, byte_at};
 use std::alloc::Global;
 
 /// The character-string that a text spells.

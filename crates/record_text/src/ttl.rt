@@ -3,7 +3,7 @@ ghost use Rattle.dns_data.specs.declared.limit.TheConstants as limits;
 ghost use Rattle.record_text.specs.Ttls.{in_seconds, ttl_of, units_of};
 
 use dns_data::limit::TTL_END;
-use type_names::read_number;
+use numbers::read_below;
 
 /// The TTL that a text spells: seconds, or one or more numbers with their units (`1h30m`).
 #[tactic(auto, unfolding(crate::specs::Ttls::ttl_of))]
@@ -11,7 +11,7 @@ pub fn read_ttl(text: &[u8]) -> Option<u32>
     ensures value { result ≡ ttl_of text.now }
     ensures below { IfSome result (λ ttl. ttl < limits.TTL_END) }
 {
-    match read_number(text, u64::from(TTL_END)) {
+    match read_below(text, u64::from(TTL_END)) {
         Some(seconds) => Some(seconds as u32),
         None => read_units(text),
     }

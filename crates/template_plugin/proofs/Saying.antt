@@ -16,7 +16,7 @@ use Rattle.plugin_api.specs.{PlanData}
 use Rattle.record_text.specs.{record_spelt}
 use Rattle.regex.specs.declared.string.regex.Regex.{Regex}
 use Rattle.type_names.specs.{kind_text}
-use Rattle.template_plugin.specs.declared.part.Sections.{Sections}
+use Rattle.template_plugin.specs.declared.record_parts.Sections.{Sections}
 use Rattle.template_plugin.specs.declared.piece.Piece.{Piece}
 use Rattle.template_plugin.specs.declared.piece.Piece.TheVariants as piece
 use Rattle.template_plugin.specs.declared.piece.Place.{Place}

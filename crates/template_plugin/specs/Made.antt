@@ -5,17 +5,16 @@ use Rattle.dns_data.specs.{addr_text, name_text}
 use Rattle.dns_data.specs.Message.{AnswerData, no_answer}
 use Rattle.dns_data.specs.declared.directive.Line.{Line}
 use Rattle.dns_data.specs.declared.query.Query.{Query}
-use Rattle.option_words.specs.{fallthrough_of}
+use Rattle.plugin_api.specs.{PlanData, fallthrough_of}
 use Rattle.pattern.specs.Searches.{IsPartOf, scratch_group}
 use Rattle.pattern.specs.Texts.{Finding, whole_span}
 use Rattle.pattern.specs.declared.scratch.Scratch.{Scratch}
-use Rattle.plugin_api.specs.{PlanData}
 use Rattle.regex.specs.declared.string.regex.Regex.{Regex}
 use Rattle.type_names.specs.{kind_text}
 use Rattle.template_plugin.specs.declared.filling.Filling.{Filling}
-use Rattle.template_plugin.specs.declared.part.Sections.{Sections}
-use Rattle.template_plugin.specs.declared.say.TemplateSay.{TemplateSay}
-use Rattle.template_plugin.specs.declared.say.TemplateSay.TheVariants as say
+use Rattle.template_plugin.specs.declared.record_parts.Sections.{Sections}
+use Rattle.template_plugin.specs.declared.answering.TemplateSay.{TemplateSay}
+use Rattle.template_plugin.specs.declared.answering.TemplateSay.TheVariants as say
 use Rattle.template_plugin.specs.Judging.{AreOf}
 use Rattle.template_plugin.specs.Parts.{FillingData, numbers_of, sections_of}
 use Rattle.template_plugin.specs.Template.{Said, first_found, found_by, found_said, longest_zone}

@@ -14,7 +14,7 @@ use Rattle.regex.specs.declared.string.regex.Regex.{Regex}
 use Rattle.type_names.specs.{kind_text}
 use Rattle.template_plugin.specs.declared.part.Part.{Part}
 use Rattle.template_plugin.specs.declared.part.Part.TheVariants as part
-use Rattle.template_plugin.specs.declared.part.Sections.{Sections}
+use Rattle.template_plugin.specs.declared.record_parts.Sections.{Sections}
 use Rattle.template_plugin.specs.declared.piece.Piece.{Piece}
 use Rattle.template_plugin.specs.declared.piece.Piece.TheVariants as piece
 use Rattle.template_plugin.specs.declared.piece.Place.{Place}

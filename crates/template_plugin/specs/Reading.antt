@@ -5,9 +5,8 @@ use Rattle.std.specs.Prelude.{ℕ, ◌+◌, Bool, true, false, ◌||◌, List, [
 use Rattle.std.specs.Prelude.{codes, Option, Some, None, is_some, if◌then◌else◌}
 use Rattle.std.specs.Option.{option_or}
 use Rattle.dns_data.specs.declared.directive.Line.{Line}
-use Rattle.option_words.specs.{empty_why, fallthrough_why, once, unless}
+use Rattle.plugin_api.specs.{PlanData, empty_why, fallthrough_why, fault_at, is_word, once, unless}
 use Rattle.pattern_judging.specs.{Judgement, pattern_fault}
-use Rattle.plugin_api.specs.{PlanData, fault_at, is_word}
 use Rattle.plugin_api.specs.declared.fault.DirectiveFault.{DirectiveFault}
 use Rattle.plugin_api.specs.declared.fault.DirectiveFault.TheVariants as fault
 use Rattle.plugin_api.specs.declared.fault.DirectiveWhy.{DirectiveWhy}

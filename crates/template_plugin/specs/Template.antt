@@ -10,9 +10,8 @@ use Rattle.dns_data.specs.{RecordData, addr_text, is_within, lowered, name_text}
 use Rattle.dns_data.specs.Message.{AnswerData}
 use Rattle.dns_data.specs.declared.kind.TheConstants as kinds
 use Rattle.dns_data.specs.declared.query.Query.{Query}
-use Rattle.option_words.specs.{fallthrough_of}
+use Rattle.plugin_api.specs.{PlanData, fallthrough_of}
 use Rattle.pattern.specs.Texts.{Finding, finding_of, whole_text}
-use Rattle.plugin_api.specs.{PlanData}
 use Rattle.record_text.specs.{record_spelt}
 use Rattle.type_names.specs.{kind_text}
 use Rattle.zone_words.specs.{is_in}

@@ -1,4 +1,4 @@
-ghost use Rattle.std.specs.Prelude.{◌≡◌, ◌<◌, ◌≤◌, ℕ, [], drop, false, length, slice_index, IfOk};
+ghost use Rattle.std.specs.Prelude.{◌≡◌, ◌<◌, ◌≤◌, ℕ, [], drop, false, length, IfOk};
 ghost use Rattle.std.specs.Prelude.{OnOk};
 ghost use Rattle.dns_data.specs.Message.{no_answer};
 ghost use Rattle.record_text.specs.{record_spelt};
@@ -9,12 +9,21 @@ ghost use Rattle.template_plugin.specs.Parts.{records_by, whole, with_one};
 ghost use Rattle.template_plugin.specs.Template.{default_ttl, said_of, searched};
 
 use crate::filling::{Filling, fill_in};
-use crate::part::{Part, Sections};
-use crate::record_parts::{DEFAULT_TTL, RecordParts};
-use crate::say::TemplateSay;
-use dns_data::{Bytes, Name, NoMemory, RecordRoom, Slot};
+use crate::part::Part;
+use crate::record_parts::{DEFAULT_TTL, RecordParts, Sections};
+use dns_data::{Bytes, Name, NoMemory, RecordRoom, Slot, are_bytes};
 use record_text::{AddressHead, RecordFault, is_simple, read_address, read_record};
 use std::alloc::Global;
+
+/// What `template` says of a query: it is answered, it goes on, or it ends with SERVFAIL, since no
+/// pattern matches, or a text makes no record.
+#[derive(Clone, Copy, Debug, PartialEq, Eq)]
+pub enum TemplateSay {
+    Reply,
+    Next,
+    NoMatch,
+    NotRecord,
+}
 
 /// Answers with the records of texts, where each makes one. `text` is room for one of them.
 pub(crate) fn answer(
@@ -156,11 +165,6 @@ fn behind(text: &[u8], size: usize) -> &[u8]
 {
     &text[size..]
 }
-
-// Tells the caller what the type says of each item.
-fn are_bytes(items: &[u8])
-    ensures { (k : ℕ) → slice_index items.now k < 256 }
-{}
 
 // Adds the record of a text that is read as a whole.
 fn push_read(

@@ -7,10 +7,10 @@ ghost use Rattle.template_plugin.specs.Parts.{compiled_texts, named_part, number
 ghost use Rattle.template_plugin.specs.Made.{pattern_sections};
 ghost use Rattle.template_plugin.specs.Words.{all_words};
 
-use crate::part::{Part, Sections};
+use crate::part::Part;
 use crate::piece::{Piece, Place};
 use crate::piece_read::read_pieces;
-use crate::record_parts::RecordParts;
+use crate::record_parts::{RecordParts, Sections};
 use crate::words::words_after;
 use dns_data::{Bytes, Line, NoMemory, Seq, Text};
 use pattern::Pattern;

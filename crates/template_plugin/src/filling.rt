@@ -9,7 +9,6 @@ use dns_data::{Bytes, Name, Names, NoMemory, Query};
 use pattern::Scratch;
 use std::alloc::Global;
 use type_names::kind_text;
-use zone_words::covers;
 
 /// What texts are filled in with.
 #[derive(Drop)]
@@ -88,7 +87,7 @@ fn longest<'a>(name: &Name, first: &'a Name, zones: &'a [Name]) -> &'a Name
 fn longer<'a>(name: &Name, zone: &'a Name, other: &'a Name) -> &'a Name
     ensures { result.now ≡ longer name.now zone.now other.now }
 {
-    if covers(zone, name) && other.label_count() < zone.label_count() {
+    if name.is_within(zone) && other.label_count() < zone.label_count() {
         zone
     } else {
         other

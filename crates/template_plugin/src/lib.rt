@@ -16,9 +16,10 @@ mod say;
 mod searching;
 mod words;
 
+pub use answering::TemplateSay;
 pub use options::{Earlier, Opens, Seen};
-pub use part::{Part, Sections};
+pub use part::Part;
 pub use piece::{Piece, Place};
 pub use plan::TemplatePlan;
-pub use record_parts::RecordParts;
-pub use say::{TemplateRoom, TemplateSay, decide};
+pub use record_parts::{RecordParts, Sections};
+pub use say::{TemplateRoom, decide};

@@ -7,10 +7,9 @@ ghost use Rattle.template_plugin.specs.Reading.{behind_line, option_why};
 use crate::options::{Earlier, Opens, Seen, is_match, opened, seen_with};
 use crate::reading::{rcode_why, text_why};
 use dns_data::{Limit, Line, NoMemory, Seq, Text, limit};
-use option_words::{fallthrough_why, once};
 use outside::{Made, PatternMaker};
 use pattern::Pattern;
-use plugin_api::{DirectiveFault, DirectiveWhy};
+use plugin_api::{DirectiveFault, DirectiveWhy, fallthrough_why, once};
 use std::alloc::Global;
 
 /// Makes the patterns of lines, or tells the first fault.

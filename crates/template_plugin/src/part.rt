@@ -1,5 +1,4 @@
-use crate::record_parts::RecordParts;
-use dns_data::{Bytes, Seq};
+use dns_data::Bytes;
 
 /// A piece of a text as it is filled in, with groups by their numbers.
 #[derive(Debug, Drop)]
@@ -10,12 +9,4 @@ pub enum Part {
     Type,
     Remote,
     Group(usize),
-}
-
-/// The texts of the three sections of an answer.
-#[derive(Debug, Drop)]
-pub struct Sections {
-    pub answer: Seq<RecordParts>,
-    pub authority: Seq<RecordParts>,
-    pub additional: Seq<RecordParts>,
 }

@@ -7,7 +7,7 @@ ghost use Rattle.template_plugin.specs.Pieces.{trimmed, twice_at, word_of, word_
 
 use crate::piece::{Piece, Place};
 use dns_data::{Bytes, NoMemory, Seq};
-use numbers::read_number;
+use numbers::read_digits;
 use std::alloc::Global;
 
 /// The pieces of a text; None where what stands behind a `{{` is no place.
@@ -145,7 +145,7 @@ fn number_place(digits: &[u8], rest: &[u8]) -> Option<Place>
     if !rest.is_empty() {
         return None;
     }
-    let number = read_number(digits, 10)?;
+    let number = read_digits(digits, 10)?;
     Some(Place::Number(number))
 }
 

@@ -5,8 +5,7 @@ ghost use Rattle.plugin_api.specs.{is_word};
 
 use crate::piece_read::read_pieces;
 use dns_data::{Names, NoMemory, Text};
-use option_words::empty_why;
-use plugin_api::DirectiveWhy;
+use plugin_api::{DirectiveWhy, empty_why};
 use std::alloc::Global;
 use type_names::{read_kind, read_rcode};
 use zone_words::read_zones;

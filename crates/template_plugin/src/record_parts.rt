@@ -17,6 +17,14 @@ pub struct RecordParts {
     head: Option<AddressHead>,
 }
 
+/// The texts of the three sections of an answer.
+#[derive(Debug, Drop)]
+pub struct Sections {
+    pub answer: Seq<RecordParts>,
+    pub authority: Seq<RecordParts>,
+    pub additional: Seq<RecordParts>,
+}
+
 impl Model for RecordParts {
     ghost use Rattle.std.specs.Prelude.{List, IfSome};
     ghost use Rattle.template_plugin.specs.declared.part.Part.{Part};

@@ -5,7 +5,7 @@ ghost use Rattle.template_plugin.specs.Template.{first_found, found_said, next, 
 ghost use Rattle.template_plugin.specs.Template.{template_say, unmatched};
 ghost use Rattle.template_plugin.specs.Words.{patterns_of};
 
-use crate::answering::answer;
+use crate::answering::{TemplateSay, answer};
 use crate::filling::Filling;
 use crate::plan::TemplatePlan;
 use crate::searching::find_first;
@@ -13,16 +13,6 @@ use dns_data::{Bytes, NoMemory, Query, Slot, Text};
 use pattern::Scratch;
 use std::alloc::Global;
 use zone_words::is_in;
-
-/// What `template` says of a query: it is answered, it goes on, or it ends with SERVFAIL, since no
-/// pattern matches, or a text makes no record.
-#[derive(Clone, Copy, Debug, PartialEq, Eq)]
-pub enum TemplateSay {
-    Reply,
-    Next,
-    NoMatch,
-    NotRecord,
-}
 
 /// A worker's room for searches and for texts. It keeps nothing that the next query reads.
 #[derive(Drop)]
@@ -84,11 +74,11 @@ impl TemplatePlan {
         ensures { IfOk result (λ say. Says say (own_say self.now query.now) slot.new) }
     {
         query.name.write_lower(alloc, &mut room.name)?;
-        let name = room.name.as_str();
-        let (scratch, text) = (&mut room.scratch, &mut room.text);
         if 0 < self.patterns.len() {
-            return self.say_by_pattern(alloc, query, name, scratch, text, slot);
+            return self.say_by_pattern(alloc, query, room, slot);
         }
+        let name = room.name.as_str();
+        let text = &mut room.text;
         let filling = Filling {
             query,
             zones: &self.zones,
@@ -98,21 +88,22 @@ impl TemplatePlan {
         answer(alloc, &self.whole, &filling, self.rcode, text, slot)
     }
 
-    // What it says by the first of its patterns that is found in the name's text.
+    // What it says by the first of its patterns that is found in the name's text, which the room
+    // has.
     fn say_by_pattern(
         &self,
         alloc: Global,
         query: &Query,
-        name: &str,
-        scratch: &mut Scratch,
-        text: &mut Bytes,
+        room: &mut TemplateRoom,
         slot: &mut Slot,
     ) -> Result<TemplateSay, NoMemory>
-        requires name { name.now ≡ searched query.now.name }
+        requires name { room.old.name ≡ searched query.now.name }
         requires clear { slot.old ≡ no_answer }
         ensures { IfOk result (λ say. Says say (found_said self.now query.now next
-            (first_found (patterns_of self.now.directive.body) name.now)) slot.new) }
+            (first_found (patterns_of self.now.directive.body) room.old.name)) slot.new) }
     {
+        let name = room.name.as_str();
+        let (scratch, text) = (&mut room.scratch, &mut room.text);
         let Some(number) = find_first(self.patterns.as_slice(), name, scratch)? else {
             return Ok(self.unmatched(query));
         };

@@ -1,2 +1,1 @@
-pub mod DecimalNumbers
 pub mod PrintedKinds

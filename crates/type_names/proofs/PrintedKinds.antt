@@ -8,7 +8,7 @@ use Rattle.std.proofs.lemmas.Fmt.{decimal_nonempty, digits_decimal, digits_value
 use Rattle.std.proofs.lemmas.Str.Parse.{IsNumeralModel, numerals_by_value, tells_all_ascii_digits}
 use Rattle.std.proofs.Math.Dec.{ltb}
 use Rattle.std.proofs.lemmas.Bool.{le-ltb, lt-ltb, eqb-true}
-use Rattle.type_names.specs.Numbers.{number_below}
+use Rattle.numbers.specs.Below.{number_below}
 use Rattle.type_names.specs.Kinds.{kind_of_text, kind_text, named, names, printed}
 
 abbrev ReadsRow : List ℕ × ℕ → Type 0

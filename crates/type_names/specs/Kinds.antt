@@ -7,7 +7,7 @@ use Rattle.std.specs.Option.{option_or}
 use Rattle.std.specs.Fmt.{decimal}
 use Rattle.std.specs.Str.{str_eq_ignore_ascii_case}
 use Rattle.dns_data.specs.declared.kind.TheConstants as kinds
-use Rattle.type_names.specs.Numbers.{number_below}
+use Rattle.numbers.specs.{number_below}
 
 -- the types that have a name; OPT has none, since no record of a zone has this type
 abbrev pub names : List (List ℕ × ℕ)

@@ -1,11 +1,9 @@
-ghost use Rattle.std.specs.Prelude.{Some, ◌≡◌, ◌++◌, codes, string_bytes, option_map, IfOk, OnOk};
-ghost use Rattle.std.specs.Fmt.{decimal};
+ghost use Rattle.std.specs.Prelude.{Some, ◌≡◌, option_map, IfOk};
 ghost use Rattle.type_names.specs.Kinds.{kind_of_text, kind_text, name_of, named, numbered};
 
-use crate::read_number;
 use dns_data::{NoMemory, Text, kind};
+use numbers::{put_decimal, read_below};
 use std::alloc::Global;
-use std::fmt::Write;
 
 /// The type that a text names: a type's name in any letters, or `TYPE` and a number. OPT has no
 /// name.
@@ -70,7 +68,7 @@ fn numbered(text: &[u8]) -> Option<u16>
     if !text[..4].eq_ignore_ascii_case(b"TYPE") {
         return None;
     }
-    Some(read_number(&text[4..], 65536)? as u16)
+    Some(read_below(&text[4..], 65536)? as u16)
 }
 
 /// A type, printed: its name where it has one, else `TYPE` and its number.
@@ -88,19 +86,12 @@ fn printed(alloc: Global, kind: u16) -> Result<Text, NoMemory>
     let mut text = String::with_capacity(alloc, 9)?;
     match name_of(kind) {
         Some(name) => text.push_str(name)?,
-        None => put_number(&mut text, kind)?,
+        None => {
+            text.push_str("TYPE")?;
+            put_decimal(&mut text, kind)?;
+        }
     }
     Ok(Text::of(text))
-}
-
-fn put_number(text: &mut String, kind: u16) -> Result<(), NoMemory>
-    ensures { OnOk result (
-        string_bytes text.new ≡ string_bytes text.old ++ (codes "TYPE" ++ decimal kind)) }
-{
-    match write!(text, "TYPE{kind}") {
-        Ok(()) => Ok(()),
-        Err(_) => Err(NoMemory),
-    }
 }
 
 fn name_of(kind: u16) -> Option<&'static str>

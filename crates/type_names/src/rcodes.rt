@@ -1,10 +1,9 @@
-ghost use Rattle.std.specs.Prelude.{◌≡◌, ◌++◌, codes, string_bytes, option_map, IfOk, OnOk};
-ghost use Rattle.std.specs.Fmt.{decimal};
+ghost use Rattle.std.specs.Prelude.{◌≡◌, option_map, IfOk};
 ghost use Rattle.type_names.specs.Rcodes.{name_of, rcode_of_text, rcode_text};
 
 use dns_data::{NoMemory, Text, rcode};
+use numbers::put_decimal;
 use std::alloc::Global;
-use std::fmt::Write;
 
 /// The RCODE of a name in capitals.
 #[tactic(auto, unfolding(crate::specs::Rcodes::rcode_of_text))]
@@ -40,19 +39,12 @@ pub fn rcode_text(alloc: Global, rcode: u8) -> Result<Text, NoMemory>
     let mut text = String::with_capacity(alloc, 8)?;
     match name_of(rcode) {
         Some(name) => text.push_str(name)?,
-        None => put_number(&mut text, rcode)?,
+        None => {
+            text.push_str("RCODE")?;
+            put_decimal(&mut text, rcode.into())?;
+        }
     }
     Ok(Text::of(text))
-}
-
-fn put_number(text: &mut String, rcode: u8) -> Result<(), NoMemory>
-    ensures { OnOk result (
-        string_bytes text.new ≡ string_bytes text.old ++ (codes "RCODE" ++ decimal rcode)) }
-{
-    match write!(text, "RCODE{rcode}") {
-        Ok(()) => Ok(()),
-        Err(_) => Err(NoMemory),
-    }
 }
 
 fn name_of(rcode: u8) -> Option<&'static str>

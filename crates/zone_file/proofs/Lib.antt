@@ -1,5 +1,4 @@
 pub mod ScannedLines
 pub mod EntryLines
 pub mod KeptSets
-pub mod ZoneNames
 pub mod ZoneSteps

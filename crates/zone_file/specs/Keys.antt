@@ -64,8 +64,8 @@ abbrev pub is_cname : RecordData → Bool
 is_cname r = kind_of r.rdata == kinds.CNAME
 
 -- whether two records are the same, TTL and class aside
-abbrev pub is_same : RecordData → RecordData → Bool
-is_same r other = pointwise nat_eq (record_key other) (record_key r)
+abbrev pub is_same_record : RecordData → RecordData → Bool
+is_same_record r other = pointwise nat_eq (record_key other) (record_key r)
 
 -- whether one of two records of one owner is a CNAME, and the other one isn't
 abbrev pub mixes : RecordData → RecordData → Bool

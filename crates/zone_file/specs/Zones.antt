@@ -2,13 +2,13 @@
 use Rattle.std.specs.Prelude.{◌<◌, ◌^◌, IfSome}
 use Rattle.std.specs.Prelude.{◌≡◌, ℕ, ◌-◌, ◌==◌, nat_eq, nat_lt, Bool, false, ◌&&◌, ◌||◌, not, List}
 use Rattle.std.specs.Prelude.{[], ◌∷◌}
-use Rattle.std.specs.Prelude.{◌++◌, length, drop, codes, Option, Some, None, option_map}
+use Rattle.std.specs.Prelude.{◌++◌, length, codes, Option, Some, None, option_map}
 use Rattle.std.specs.Prelude.{option_and_then, Result, Ok, Err}
 use Rattle.std.specs.Prelude.{if◌then◌else◌}
 use Rattle.std.specs.Cmp.Lexicographic.{pointwise}
 use Rattle.std.specs.List.{list_any}
 use Rattle.std.specs.Option.{option_or, unwrap_or}
-use Rattle.dns_names.specs.Name.{lowered, same_labels}
+use Rattle.dns_names.specs.Name.{is_same, is_within}
 use Rattle.dns_data.specs.Record.{RecordData, kind_of}
 use Rattle.dns_data.specs.declared.kind.TheConstants as kinds
 use Rattle.dns_data.specs.declared.limit.TheConstants as limits
@@ -29,7 +29,7 @@ use Rattle.zone_file.specs.declared.state.Reading.{Reading}
 use Rattle.zone_file.specs.declared.state.Statement.{Statement}
 use Rattle.zone_file.specs.declared.state.Statement.TheVariants as statement
 use Rattle.zone_file.specs.Entries.{EntryData, entries_of}
-use Rattle.zone_file.specs.Keys.{is_same, mixes}
+use Rattle.zone_file.specs.Keys.{is_same_record, mixes}
 
 -- what comes of a value, where there was no refusal
 abbrev pub and_then : {A B : Type 0} → (A → Result B ZoneFault) → Result A ZoneFault
@@ -143,20 +143,12 @@ abbrev pub syntax : ℕ → RecordFault → ZoneFault
 syntax line record_fault.Bad = fault.Bad line why.Syntax
 syntax line record_fault.NoMemory = fault.NoMemory
 
--- whether a name is another one, ASCII case aside
-abbrev pub is_name_of : List (List ℕ) → List (List ℕ) → Bool
-is_name_of name other = same_labels (lowered name) (lowered other)
-
--- whether a name lies within a zone
-abbrev pub is_under : List (List ℕ) → List (List ℕ) → Bool
-is_under name zone = is_name_of (drop (length name - length zone) name) zone
-
 abbrev pub is_soa : RecordData → Bool
 is_soa r = kind_of r.rdata == kinds.SOA
 
 -- whether an SOA may not stand there: it isn't at the origin, or another one is
 abbrev pub is_second_soa : List (List ℕ) → RecordData → List RecordData → Bool
-is_second_soa zone r kept = is_soa r && (not (is_name_of r.owner zone) || list_any is_soa kept)
+is_second_soa zone r kept = is_soa r && (not (is_same r.owner zone) || list_any is_soa kept)
 
 -- whether a zone has as many records as it may have
 abbrev pub is_full : List RecordData → Bool
@@ -175,8 +167,8 @@ with_new zone line r kept =
 abbrev pub with_record : List (List ℕ) → ℕ → RecordData → List RecordData
     → Result (List RecordData) ZoneFault
 with_record zone line r kept =
-    if not (is_under r.owner zone) then Ok kept
-    else if list_any (is_same r) kept then Ok kept
+    if not (is_within r.owner zone) then Ok kept
+    else if list_any (is_same_record r) kept then Ok kept
     else with_new zone line r kept
 
 abbrev pub kept_by : List (List ℕ) → ℕ → List RecordData → Statement

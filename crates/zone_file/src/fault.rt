@@ -1,3 +1,6 @@
+ghost use Rattle.std.specs.Prelude.{◌≡◌};
+ghost use Rattle.zone_file.specs.Texts.{zone_text};
+
 use dns_data::NoMemory;
 
 /// Why a line of a zone file is refused.
@@ -13,6 +16,21 @@ pub enum ZoneWhy {
     TwoSoa,
     /// A CNAME record beside a record of another type.
     CnameMix,
+}
+
+impl ZoneWhy {
+    /// The word for it, as an operator sees it.
+    pub fn text(self) -> &'static str
+        ensures { result.now ≡ zone_text self }
+    {
+        match self {
+            ZoneWhy::Control => "control",
+            ZoneWhy::Syntax => "syntax",
+            ZoneWhy::NoSoa => "nosoa",
+            ZoneWhy::TwoSoa => "twosoa",
+            ZoneWhy::CnameMix => "cnamemix",
+        }
+    }
 }
 
 /// Why a text is no zone.

@@ -1,8 +1,8 @@
 ghost use Rattle.std.specs.Prelude.{◌≡◌, ◌∷◌, ◌++◌, ◌||◌, [], IfOk};
 ghost use Rattle.std.specs.List.{list_any};
-ghost use Rattle.zone_file.specs.Zones.{Agrees, is_full, is_name_of, is_second_soa};
-ghost use Rattle.zone_file.specs.Zones.{is_soa, is_under, with_new, with_record};
-ghost use Rattle.zone_file.specs.Keys.{is_cname, is_same, mixes, record_key};
+ghost use Rattle.zone_file.specs.Zones.{Agrees, is_full, is_second_soa};
+ghost use Rattle.zone_file.specs.Zones.{is_soa, with_new, with_record};
+ghost use Rattle.zone_file.specs.Keys.{is_cname, is_same_record, mixes, record_key};
 
 use crate::key::{record_key, side_key};
 use crate::{ZoneFault, ZoneWhy};
@@ -64,7 +64,7 @@ impl Kept {
     pub fn add(self, alloc: Global, zone: &Name, line: u32, read: Record) -> Result<Kept, ZoneFault>
         ensures { Agrees (with_record zone.now line read self) result }
     {
-        if !is_under(&read.owner, zone) {
+        if !read.owner.is_within(zone) {
             return Ok(self);
         }
         let key = record_key(alloc, &read)?;
@@ -105,7 +105,7 @@ impl Kept {
     // Whether a record that has this key is there.
     fn has(&self, key: &Vec<u8>, read: &Record) -> bool
         requires { key.now.items ≡ record_key read.now }
-        ensures { result ≡ list_any (is_same read.now) self.now }
+        ensures { result ≡ list_any (is_same_record read.now) self.now }
     {
         self.keys.contains(key)
     }
@@ -114,7 +114,7 @@ impl Kept {
     fn has_soa_before(&self, zone: &Name, read: &Record) -> bool
         ensures { result ≡ is_second_soa zone.now read.now self.now }
     {
-        is_soa(read) && (!is_name_of(&read.owner, zone) || self.has_soa)
+        is_soa(read) && (!read.owner.same(zone) || self.has_soa)
     }
 
     fn is_full(&self) -> bool
@@ -173,16 +173,4 @@ fn either(a: bool, b: bool) -> bool
     ensures { result ≡ (a || b) }
 {
     a || b
-}
-
-fn is_name_of(name: &Name, other: &Name) -> bool
-    ensures { result ≡ is_name_of name.now other.now }
-{
-    name.same(other)
-}
-
-fn is_under(name: &Name, zone: &Name) -> bool
-    ensures { result ≡ is_under name.now zone.now }
-{
-    name.is_within(zone)
 }

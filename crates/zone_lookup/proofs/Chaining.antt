@@ -1,42 +1,20 @@
 -- Runs of CNAME records, and the tests of names.
-use Rattle.std.proofs.Common.{◌≡◌, ◌↔◌, Bor, ℕ, zero, suc, ◌+◌, ◌-◌, ◌<◌, ◌≤◌, Bool, true, false, IsTrue, nat_eq, List, [], ◌∷◌, ◌++◌, length, drop, get_or, Option, Some, None, refl, sym, ap, subst, ◌∙◌, arith, map, length-append, append_assoc, rules}
+use Rattle.std.proofs.Common.{◌≡◌, Bor, ℕ, zero, suc, ◌+◌, ◌-◌, ◌<◌, Bool, true, false, nat_eq, List, [], ◌∷◌, ◌++◌, length, drop, get_or, Option, Some, None, refl, sym, ap, subst, ◌∙◌, arith, length-append, append_assoc, rules}
 use Rattle.std.specs.Prelude.{not}
-use Rattle.std.proofs.lemmas.List.{length-map, drop_more}
-use Rattle.std.proofs.lemmas.Bool.Decides.{same_from_decides, Decides-eqb}
-use Rattle.std.proofs.lemmas.Slice.Eq.{slice_eq-Decides}
-use Rattle.std.specs.Char.{to_ascii_lowercase}
-use Rattle.dns_names.specs.Name.{lowered, IsWithin}
+use Rattle.std.proofs.lemmas.List.{drop_more}
 use Rattle.dns_data.specs.Record.{RecordData}
 use Rattle.dns_data.specs.declared.zone.Zone.{Zone}
 use Rattle.zone_lookup.specs.declared.find.Find.{Find}
 use Rattle.zone_lookup.specs.declared.answering.End.{End}
 use Rattle.dns_data.specs.Message.{AnswerData, no_answer}
 use Rattle.dns_data.specs.declared.kind.TheConstants as kinds
-use Rattle.zone_lookup.specs.Zone.{is_under, has_items, cut_of, set_at}
+use Rattle.zone_lookup.specs.Zone.{has_items, cut_of, set_at}
 use Rattle.dns_write.specs.Tails.{with_tail}
 use Rattle.dns_write.specs.declared.tail.Tail.{Tail}
 use Rattle.zone_lookup.specs.declared.find.Reached.TheVariants as reached
 use Rattle.zone_lookup.specs.declared.find.Step.TheVariants as step
 use Rattle.zone_lookup.specs.Ready.{StandsBehind}
 use Rattle.zone_lookup.specs.ZoneAnswer.{Finds, Chain, Ends, found, chain, is_followed, with_hosts, with_addresses, host_of, referral, positive, additional, the_answer, rcode_of, authority, own_answer, whole_chain, answer_under, zone_answer, sought, with_answer, asks_servers, with_authority, Refers, RefersAt, Steps, StepsAt}
-
-length_drop : {X : Type 0} (n : ℕ) (xs : List X) → n ≤ length xs → length (drop n xs) + n ≡ length xs
-length_drop zero xs h = omega arith
-length_drop (suc n) [] h = absurd (omega arith)
-length_drop (suc n) (x ∷ xs) h = omega (arith, length_drop n xs (omega arith))
-
-within_is : (name top : List (List ℕ)) → IsWithin name top → lowered (drop (length name - length top) name) ≡ lowered top
-within_is name top w =
-    let long : length (lowered (drop w.above name)) ≡ length (lowered top) = ap length w.same in
-    let above : w.above ≡ length name - length top =
-    omega (arith, long, length-map (drop w.above name) (λ (label : List ℕ). map to_ascii_lowercase label), length-map top (λ (label : List ℕ). map to_ascii_lowercase label), length_drop w.above name w.inside, w.inside) in
-    subst (λ (n : ℕ). lowered (drop n name) ≡ lowered top) above w.same
-
-pub decides_under : (name top : List (List ℕ)) (b : Bool) → (IsTrue b ↔ IsWithin name top) → b ≡ is_under name top
-unfolding is_under
-decides_under name top b e =
-    let both : IsTrue b ↔ (lowered (drop (length name - length top) name) ≡ lowered top) = (λ t. within_is name top (e.0 t), λ h. e.1 (record { above = length name - length top; inside = omega arith; same = h })) in
-    same_from_decides _ _ both (slice_eq-Decides (λ a b. slice_eq-Decides Decides-eqb a b _ refl) (lowered (drop (length name - length top) name)) (lowered top) _ refl)
 
 no_more : (old new rs : List RecordData) → new ≡ old ++ rs → nat_eq (length new) (length old) ≡ not (has_items rs)
 no_more old new [] e =

@@ -8,7 +8,8 @@ use Rattle.dns_data.specs.declared.kind.TheConstants as kinds
 use Rattle.dns_data.specs.declared.record.Rdata.{Rdata}
 use Rattle.dns_data.specs.declared.record.Rdata.TheVariants as rdata
 use Rattle.dns_write.specs.Tails.{TailData}
-use Rattle.zone_lookup.specs.Zone.{is_of, is_same, set_at}
+use Rattle.dns_names.specs.Name.{is_same}
+use Rattle.zone_lookup.specs.Zone.{is_of, set_at}
 use Rattle.zone_lookup.specs.ZoneAnswer.{asks_servers, authority, denying, host_of, with_addresses, with_hosts}
 use Rattle.zone_lookup.specs.Ready.{IsDenial, IsReady, StandsBehind}
 use Rattle.zone_lookup.proofs.PlainList.{set_of}

@@ -3,26 +3,18 @@
 use Rattle.std.specs.Cmp.Lexicographic.{pointwise}
 use Rattle.std.specs.Prelude.{nat_eq, ℕ, ◌+◌, ◌-◌, nat_lt, nat_le, ◌==◌}
 use Rattle.std.specs.Prelude.{Bool, true, false, cond, not, ◌&&◌, Option, Some, None}
-use Rattle.std.specs.Prelude.{◌≡◌, List, [], ◌∷◌, ◌++◌, length, drop}
+use Rattle.std.specs.Prelude.{◌≡◌, List, [], ◌∷◌, ◌++◌, length}
 use Rattle.std.specs.List.{filter, list_any}
 use Rattle.std.specs.Option.{option_or}
-use Rattle.dns_names.specs.Name.{wire_length, lowered, same_labels}
+use Rattle.dns_names.specs.Name.{is_same, is_within, wire_length}
 use Rattle.dns_data.specs.Record.{RecordData, kind_of}
 use Rattle.dns_data.specs.declared.zone.Zone.{Zone}
 use Rattle.dns_data.specs.declared.kind.TheConstants as kinds
 use Rattle.dns_names.specs.declared.limit.TheConstants as limits
 
--- two names are the same, ASCII case aside (RFC 4343)
-abbrev pub is_same : List (List ℕ) → List (List ℕ) → Bool
-is_same a b = same_labels (lowered a) (lowered b)
-
--- the name is the other one, or lies below it
-unfoldable pub is_under : List (List ℕ) → List (List ℕ) → Bool
-is_under name top = is_same (drop (length name - length top) name) top
-
 -- a record's owner is the name, or lies below it
 unfoldable pub exists_in : Zone → List (List ℕ) → Bool
-exists_in zone name = list_any (λ r. is_under r.owner name) zone.records
+exists_in zone name = list_any (λ r. is_within r.owner name) zone.records
 
 -- the record's owner is the name
 unfoldable pub is_at : List (List ℕ) → RecordData → Bool

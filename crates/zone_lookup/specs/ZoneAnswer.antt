@@ -3,6 +3,7 @@ use Rattle.std.specs.Prelude.{◌≡◌, ℕ, zero, suc, min, ◌==◌, List, []
 use Rattle.std.specs.Prelude.{Bool, true, false, cond, not, ◌&&◌, ◌||◌}
 use Rattle.std.specs.Prelude.{is_none, Option, Some, None}
 use Rattle.std.specs.List.{list_any}
+use Rattle.dns_names.specs.Name.{is_same, is_within}
 use Rattle.dns_data.specs.Record.{RecordData}
 use Rattle.dns_data.specs.Message.{AnswerData}
 use Rattle.dns_data.specs.declared.zone.Zone.{Zone}
@@ -17,7 +18,7 @@ use Rattle.zone_lookup.specs.declared.find.Step.TheVariants as step
 use Rattle.zone_lookup.specs.declared.find.Reached.{Reached}
 use Rattle.zone_lookup.specs.declared.find.Reached.TheVariants as reached
 use Rattle.zone_lookup.specs.declared.answering.End.{End}
-use Rattle.zone_lookup.specs.Zone.{is_same, is_under, is_of, exists_in, set_at, has_at, has_items}
+use Rattle.zone_lookup.specs.Zone.{is_of, exists_in, set_at, has_at, has_items}
 use Rattle.zone_lookup.specs.Zone.{cut_of, wildcard}
 
 -- what one name gives: whether neither it nor a wildcard for it exists, records, and the name that
@@ -132,7 +133,7 @@ behind records c = record {
 
 -- a target in the zone and under no cut is followed
 unfoldable pub is_followed : Zone → List (List ℕ) → Bool
-is_followed zone name = is_under name zone.origin && is_none (cut_of zone name)
+is_followed zone name = is_within name zone.origin && is_none (cut_of zone name)
 
 -- past the last step that is followed
 abbrev pub ended : Found → Option (List (List ℕ)) → Chain

@@ -4,14 +4,13 @@ ghost use Rattle.dns_data.specs.Message.{no_answer};
 ghost use Rattle.dns_data.specs.declared.kind.TheConstants as kinds;
 ghost use Rattle.dns_data.specs.declared.rcode.TheConstants as rcodes;
 ghost use Rattle.zone_lookup.specs.Ready.{ended_by, StandsBehind};
-ghost use Rattle.zone_lookup.specs.Zone.{is_same};
+ghost use Rattle.dns_data.specs.{is_same};
 ghost use Rattle.zone_lookup.specs.ZoneAnswer.{chain, is_followed, authority, rcode_of};
 ghost use Rattle.zone_lookup.specs.ZoneAnswer.{own_answer, zone_answer, whole_chain, found};
 ghost use Rattle.zone_lookup.specs.ZoneAnswer.{Ends, Finds, with_answer, with_authority};
 
 use crate::ZoneStore;
 use crate::find::{Find, Reached};
-use crate::names::{is_under, same};
 use dns_data::{Name, NoMemory, Record, RecordRoom, Slot, kind, rcode};
 use dns_write::Tail;
 use std::alloc::Global;
@@ -215,7 +214,7 @@ fn cut_off() -> End
 fn is_followed<Z: ZoneStore>(alloc: Global, zone: &Z, name: &Name) -> Result<bool, NoMemory>
     ensures { IfOk result (λ is. is ≡ is_followed (Z.zone zone.now) name.now) }
 {
-    if !is_under(name, zone.origin()) {
+    if !name.is_within(zone.origin()) {
         return Ok(false);
     }
     Ok(zone.cut(alloc, name)?.is_none())
@@ -259,5 +258,5 @@ fn push_authority<Z: ZoneStore>(
 fn is_question(origin: &Name, name: &Name, kind: u16) -> bool
     ensures { result ≡ (is_same name.now origin.now && kind == kinds.NS) }
 {
-    kind == kind::NS && same(name, origin)
+    kind == kind::NS && name.same(origin)
 }

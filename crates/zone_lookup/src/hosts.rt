@@ -1,4 +1,4 @@
-ghost use Rattle.std.specs.Prelude.{◌≡◌, ◌||◌};
+ghost use Rattle.std.specs.Prelude.{◌≡◌};
 ghost use Rattle.std.specs.List.{list_any};
 ghost use Rattle.std.specs.Option.{option_map};
 ghost use Rattle.zone_lookup.specs.Zone.{is_of};
@@ -16,12 +16,6 @@ pub fn host_of(entry: &Record) -> Option<&Name>
         Rdata::Ns(name) | Rdata::Mx(_, name) | Rdata::Srv(_, _, _, name) => Some(name),
         _ => None,
     }
-}
-
-pub fn either(a: bool, b: bool) -> bool
-    ensures { result ≡ (a || b) }
-{
-    a || b
 }
 
 /// Whether a record of a type stands among records at a name.

@@ -13,6 +13,6 @@ pub use find::{
     Find, Reached, Step, is_aliased_kind, nothing, push_one_denying, push_owned, target_from,
 };
 pub use hosts::host_of;
-pub use names::{is_of, is_star, same, type_of};
+pub use names::{is_of, is_star, type_of};
 pub use plain::PlainZone;
 pub use store::ZoneStore;

@@ -1,22 +1,8 @@
 ghost use Rattle.std.specs.Prelude.{◌≡◌};
 ghost use Rattle.dns_data.specs.{kind_of};
-ghost use Rattle.zone_lookup.specs.Zone.{is_same, is_under, is_at, is_of, is_star};
+ghost use Rattle.zone_lookup.specs.Zone.{is_at, is_of, is_star};
 
 use dns_data::{Name, Record};
-
-/// Whether two names are the same, ASCII case aside.
-pub fn same(a: &Name, b: &Name) -> bool
-    ensures { result ≡ is_same a.now b.now }
-{
-    a.same(b)
-}
-
-/// Whether a name is the other one or lies below it.
-pub fn is_under(name: &Name, top: &Name) -> bool
-    ensures { result ≡ is_under name.now top.now }
-{
-    name.is_within(top)
-}
 
 /// Whether a label is `*`.
 pub fn is_star(label: &[u8]) -> bool
@@ -37,7 +23,7 @@ pub fn type_of(entry: &Record) -> u16
 pub fn is_at(entry: &Record, name: &Name) -> bool
     ensures { result ≡ is_at name.now entry.now }
 {
-    same(&entry.owner, name)
+    entry.owner.same(name)
 }
 
 /// Whether a record's owner is the name, and its type the one that is asked for.
@@ -45,5 +31,5 @@ pub fn is_at(entry: &Record, name: &Name) -> bool
 pub fn is_of(entry: &Record, name: &Name, kind: u16) -> bool
     ensures { result ≡ is_of name.now kind entry.now }
 {
-    entry.rdata.kind() == kind && same(&entry.owner, name)
+    entry.rdata.kind() == kind && entry.owner.same(name)
 }

@@ -1,10 +1,11 @@
 ghost use Rattle.std.specs.Prelude.{◌≡◌, ◌++◌, ◌≤◌, [], length, insert, cond, OnOk, OnErr};
 ghost use Rattle.std.specs.List.{filter, list_any};
-ghost use Rattle.zone_lookup.specs.Zone.{is_under, is_at, is_of, placed, by_type, Begins};
+ghost use Rattle.dns_data.specs.{is_within};
+ghost use Rattle.zone_lookup.specs.Zone.{is_at, is_of, placed, by_type, Begins};
 
 use crate::ZoneStore;
 use crate::hosts::stands_in;
-use crate::names::{is_at, is_of, is_under, type_of};
+use crate::names::{is_at, is_of, type_of};
 use dns_data::{Copies, Name, NoMemory, Record, RecordRoom, Zone, kind};
 use std::alloc::Global;
 
@@ -59,10 +60,10 @@ impl ZoneStore for PlainZone {
 
 // Whether an owner is the name or lies below it.
 fn lies_above(records: &[Record], name: &Name) -> bool
-    ensures { result ≡ list_any (λ r. is_under r.owner name.now) records.now }
+    ensures { result ≡ list_any (λ r. is_within r.owner name.now) records.now }
 {
     for record in records {
-        if is_under(&record.owner, name) {
+        if record.owner.is_within(name) {
             return true;
         }
     }

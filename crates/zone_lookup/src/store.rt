@@ -13,7 +13,7 @@ use crate::find::{
     Find, Reached, Step, cut_or, is_aliased_kind, nothing, push_denying, push_owned, star_below,
     target_from,
 };
-use crate::hosts::{either, host_of, stands_in};
+use crate::hosts::{host_of, stands_in};
 use crate::names::is_star;
 use dns_data::{Copies, Name, NoMemory, Record, RecordRoom, Slot, kind};
 use dns_write::Tail;
@@ -197,7 +197,7 @@ pub trait ZoneStore {
     {
         let answered = stands_in(answer, name, kind);
         let there = stands_in(out.as_slice(), name, kind);
-        if either(answered, there) {
+        if answered || there {
             return Ok(());
         }
         self.copy_set(alloc, name, kind, out)

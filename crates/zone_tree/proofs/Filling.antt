@@ -6,14 +6,14 @@ use Rattle.std.proofs.lemmas.List.{length-set, take_more, take_all, append-nil}
 use Rattle.std.proofs.lemmas.List.Elements.{filter-append}
 use Rattle.std.proofs.lemmas.Option.{slice_get-get_or}
 use Rattle.std.proofs.lemmas.Bool.{cases_Bool, cond-true, cond-false}
-use Rattle.std.proofs.lemmas.Bool.Decides.{Decides-eqb, nat_tests}
+use Rattle.std.proofs.lemmas.Bool.Decides.{nat_tests}
 use Rattle.std.proofs.Common.{eqb-true}
-use Rattle.std.proofs.lemmas.Slice.Eq.{slice_eq-Decides}
-use Rattle.dns_names.specs.Name.{lowered, same_labels}
+use Rattle.dns_names.specs.Name.{is_same, is_within, lowered, same_labels}
 use Rattle.dns_data.specs.Record.{RecordData, kind_of}
 use Rattle.dns_data.specs.declared.zone.Zone.{Zone}
 use Rattle.name_table.specs.Table.{IsMissing, IsNamed, IsNumberOf}
-use Rattle.zone_lookup.specs.Zone.{is_same, is_under, is_at, is_of, by_type, exists_in, set_at, has_at}
+use Rattle.dns_names.specs.WithinLaws.{same_is}
+use Rattle.zone_lookup.specs.Zone.{is_at, is_of, by_type, exists_in, set_at, has_at}
 use Rattle.zone_lookup.specs.ZoneAnswer.{found_at, is_alias, alias_found, set_found, Finds, owned_by, target_of, with_owner}
 use Rattle.zone_lookup.specs.declared.find.Find.{Find}
 use Rattle.zone_lookup.proofs.PlainList.{has_any, has_of}
@@ -24,10 +24,10 @@ use Rattle.zone_tree.proofs.Shapes.{named_as, named_from, inside, set_either, un
 use Rattle.std.proofs.lemmas.List.{drop_at}
 
 pub same_from : (a b : List (List ℕ)) → lowered a ≡ lowered b → is_same a b ≡ true
-same_from a b e = (slice_eq-Decides (λ x y. slice_eq-Decides Decides-eqb x y _ refl) (lowered a) (lowered b) _ refl).1 e
+same_from a b e = (same_is a b).1 e
 
 pub same_to : (a b : List (List ℕ)) → is_same a b ≡ true → lowered a ≡ lowered b
-same_to a b e = (slice_eq-Decides (λ x y. slice_eq-Decides Decides-eqb x y _ refl) (lowered a) (lowered b) _ refl).0 e
+same_to a b e = (same_is a b).0 e
 
 at_true : (name : List (List ℕ)) (r : RecordData) → lowered r.owner ≡ lowered name → is_at name r ≡ true
 unfolding is_at
@@ -129,11 +129,11 @@ or_parts false b e = (refl, e)
 no_true : (b : Bool) → b ≡ true → b ≡ false → ⊥
 no_true b t f = cc
 
-nothing_at : (records : List RecordData) (name : List (List ℕ)) → list_any (λ r. is_under r.owner name) records ≡ false → filter (is_at name) records ≡ []
+nothing_at : (records : List RecordData) (name : List (List ℕ)) → list_any (λ r. is_within r.owner name) records ≡ false → filter (is_at name) records ≡ []
 nothing_at [] name e = refl
 nothing_at (r ∷ rs) name e =
-    let parts = or_parts (is_under r.owner name) (list_any (λ (x : RecordData). is_under x.owner name) rs) e in
-    skip (is_at name r) r (filter (is_at name) rs) (λ t. no_true (is_under r.owner name) (under_true r.owner name 0 (omega arith) (at_to name r t)) parts.0) ∙ nothing_at rs name parts.1
+    let parts = or_parts (is_within r.owner name) (list_any (λ (x : RecordData). is_within x.owner name) rs) e in
+    skip (is_at name r) r (filter (is_at name) rs) (λ t. no_true (is_within r.owner name) (under_true r.owner name 0 (omega arith) (at_to name r t)) parts.0) ∙ nothing_at rs name parts.1
 
 -- a name without a number has no records
 pub none_at : (names : List (List (List ℕ))) (zone : Zone) (name : List (List ℕ)) → AreNames names zone.records → IsMissing names name → filter (is_at name) zone.records ≡ []

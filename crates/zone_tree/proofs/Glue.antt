@@ -6,13 +6,13 @@ use Rattle.std.specs.List.{filter, list_any}
 use Rattle.std.proofs.lemmas.Bool.{cond-true, cond-false}
 use Rattle.std.proofs.lemmas.List.{append-nil, drop_at, take_all}
 use Rattle.std.proofs.lemmas.List.Folds.{list_any-append}
-use Rattle.dns_names.specs.Name.{lowered, same_labels}
+use Rattle.dns_names.specs.Name.{is_same, lowered, same_labels}
 use Rattle.dns_data.specs.Record.{RecordData, kind_of}
 use Rattle.dns_data.specs.Message.{AnswerData, no_answer}
 use Rattle.dns_data.specs.declared.zone.Zone.{Zone}
 use Rattle.std.proofs.lemmas.Option.{slice_get-get_or}
 use Rattle.name_table.specs.Table.{IsMissing, IsNamed}
-use Rattle.zone_lookup.specs.Zone.{is_of, is_same, set_at, Begins}
+use Rattle.zone_lookup.specs.Zone.{is_of, set_at, Begins}
 use Rattle.dns_write.specs.Tails.{TailData}
 use Rattle.zone_lookup.specs.Ready.{IsDenial, IsReady}
 use Rattle.zone_lookup.specs.ZoneAnswer.{denying, host_of, referral, sought, Refers, with_addresses, with_hosts, with_set}

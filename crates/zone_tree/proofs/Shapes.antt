@@ -11,11 +11,12 @@ use Rattle.std.proofs.lemmas.Bool.{agree_below_at, cases_Bool, cases_lt}
 use Rattle.std.proofs.lemmas.Bool.Decides.{Decides-eqb}
 use Rattle.std.proofs.lemmas.Slice.Eq.{slice_eq-Decides}
 use Rattle.std.specs.Prelude.{nat_lt}
-use Rattle.dns_names.specs.Name.{lowered, wire_length}
+use Rattle.dns_names.specs.Name.{is_same, is_within, lowered, wire_length}
 use Rattle.dns_names.specs.declared.limit.TheConstants as limits
 use Rattle.dns_data.specs.Record.{RecordData}
 use Rattle.name_table.specs.Table.{IsMissing, IsNamed, IsNumberOf}
-use Rattle.zone_lookup.specs.Zone.{is_same, is_star, is_under}
+use Rattle.dns_names.specs.WithinLaws.{same_is}
+use Rattle.zone_lookup.specs.Zone.{is_star}
 use Rattle.zone_tree.specs.declared.node.Node.{Node}
 use Rattle.zone_tree.specs.Tree.{star_at, IsAbove, starts_wild, starred, IsStarOf, IsNodeOf, IsShape, IsNew, Adding, Grows, HasAll, exists_among, AreNames}
 
@@ -316,16 +317,16 @@ above_from names number [] n lt = tt
 above_from names number (label ∷ rest) n lt = (n, lt)
 
 -- whether an owner is at or below a name
-pub under_true : (owner key : List (List ℕ)) (above : ℕ) → above ≤ length owner → lowered (drop above owner) ≡ lowered key → is_under owner key ≡ true
-unfolding is_under
+pub under_true : (owner key : List (List ℕ)) (above : ℕ) → above ≤ length owner → lowered (drop above owner) ≡ lowered key → is_within owner key ≡ true
+unfolding is_within
 under_true owner key above h same =
     let long = length_case (drop above owner) key same in
     let place : above ≡ length owner - length key = omega (arith, long, length-drop above owner, h) in
-    subst (λ (n : ℕ). is_same (drop n owner) key ≡ true) place ((slice_eq-Decides (λ a b. slice_eq-Decides Decides-eqb a b _ refl) (lowered (drop above owner)) (lowered key) _ refl).1 same)
+    subst (λ (n : ℕ). is_same (drop n owner) key ≡ true) place ((same_is (drop above owner) key).1 same)
 
-under_is : (owner key : List (List ℕ)) → is_under owner key ≡ true → lowered (drop (length owner - length key) owner) ≡ lowered key
-unfolding is_under
-under_is owner key h = (slice_eq-Decides (λ a b. slice_eq-Decides Decides-eqb a b _ refl) (lowered (drop (length owner - length key) owner)) (lowered key) _ refl).0 h
+under_is : (owner key : List (List ℕ)) → is_within owner key ≡ true → lowered (drop (length owner - length key) owner) ≡ lowered key
+unfolding is_within
+under_is owner key h = (same_is (drop (length owner - length key) owner) key).0 h
 
 -- all names above one that is there are there
 pub closed : (names : List (List (List ℕ))) (nodes : List Node) (key : List (List ℕ)) (i m : ℕ) → IsShape names nodes → IsNamed names i key → m ≤ length key → HasNumber names (drop m key)
@@ -338,7 +339,7 @@ closed names nodes (label ∷ rest) i (suc m) shape n h =
 -- once the whole owner is there, so are the names above it
 pub has_all : (names : List (List (List ℕ))) (nodes : List Node) (owner : List (List ℕ)) (number : ℕ) → IsShape names nodes → IsNumberOf names owner number → HasAll names owner
 has_all names nodes owner number shape n key missing =
-    elim (cases_Bool (is_under owner key)) [
+    elim (cases_Bool (is_within owner key)) [
       | inl yes_under ↦
           let there = closed names nodes owner number (length owner - length key) shape n.is (omega arith) in
           absurd (missing there.number (named_case names there.number (drop (length owner - length key) owner) key (under_is owner key yes_under) there.is))
@@ -414,10 +415,10 @@ next_starts names owner name above less number a e is = record {
 }
 
 -- the names of one record more
-any_last : (records : List RecordData) (r : RecordData) (key : List (List ℕ)) → exists_among (records ++ r ∷ []) key ≡ (exists_among records key || is_under r.owner key)
+any_last : (records : List RecordData) (r : RecordData) (key : List (List ℕ)) → exists_among (records ++ r ∷ []) key ≡ (exists_among records key || is_within r.owner key)
 unfolding exists_among
-any_last [] r key = or_false (is_under r.owner key)
-any_last (x ∷ records) r key = ap (λ (b : Bool). is_under x.owner key || b) (any_last records r key) ∙ sym (or_assoc (is_under x.owner key) (list_any (λ (y : RecordData). is_under y.owner key) records) (is_under r.owner key))
+any_last [] r key = or_false (is_within r.owner key)
+any_last (x ∷ records) r key = ap (λ (b : Bool). is_within x.owner key || b) (any_last records r key) ∙ sym (or_assoc (is_within x.owner key) (list_any (λ (y : RecordData). is_within y.owner key) records) (is_within r.owner key))
 
 pub names_more : (before after : List (List (List ℕ))) (records : List RecordData) (i : ℕ) (r : RecordData) → Grows before after r.owner → HasAll after r.owner → AreNames before (take i records) → i < length records → r ≡ get_or records i r
     → AreNames after (take (i + 1) records)
@@ -425,7 +426,7 @@ names_more before after records i r g all names lt here =
     let more : take (i + 1) records ≡ take i records ++ r ∷ [] = take_more records i r lt ∙ ap (λ (x : RecordData). take i records ++ x ∷ []) (sym here) in
     rw more (record {
       stands = λ j key n. any_last (take i records) r key ∙ elim (g.only j key n) [
-        | inl old ↦ ap (λ (b : Bool). b || is_under r.owner key) (names.stands j key old)
+        | inl old ↦ ap (λ (b : Bool). b || is_within r.owner key) (names.stands j key old)
         | inr under ↦ ap (λ (b : Bool). exists_among (take i records) key || b) under ∙ or_true (exists_among (take i records) key)
       ];
       missing = λ key m. any_last (take i records) r key ∙ (λ j. names.missing key (λ k n. m k (g.keeps k key n)) j || all key m j);

@@ -2,12 +2,12 @@
 use Rattle.std.specs.Prelude.{◌≡◌, ◌⊎◌, ℕ, ◌+◌, ◌<◌, ◌≤◌, Bool, true, false, Option, Some, None}
 use Rattle.std.specs.Prelude.{List, [], ◌∷◌, length, drop, take, slice_get}
 use Rattle.std.specs.List.{filter, list_any}
-use Rattle.dns_names.specs.Name.{wire_length}
+use Rattle.dns_names.specs.Name.{is_within, wire_length}
 use Rattle.dns_data.specs.Record.{RecordData}
 use Rattle.dns_names.specs.declared.limit.TheConstants as limits
 use Rattle.dns_data.specs.declared.zone.Zone.{Zone}
 use Rattle.name_table.specs.Table.{IsMissing, IsNamed, IsNumberOf}
-use Rattle.zone_lookup.specs.Zone.{cut_of, is_at, is_star, is_under, set_at}
+use Rattle.zone_lookup.specs.Zone.{cut_of, is_at, is_star, set_at}
 use Rattle.zone_lookup.specs.ZoneAnswer.{with_hosts}
 use Rattle.dns_data.specs.declared.kind.TheConstants as kinds
 use Rattle.zone_tree.specs.declared.node.Node.{Node}
@@ -74,15 +74,15 @@ pub record Adding (names : List (List (List ℕ))) (owner : List (List ℕ)) (ab
 pub record Grows (before after : List (List (List ℕ))) (owner : List (List ℕ)) : Type 0 where
   pub keeps : (i : ℕ) (key : List (List ℕ)) → IsNamed before i key → IsNamed after i key
   pub only : (i : ℕ) (key : List (List ℕ)) → IsNamed after i key
-      → IsNamed before i key ⊎ (is_under owner key ≡ true)
+      → IsNamed before i key ⊎ (is_within owner key ≡ true)
 
 -- an owner's names are there
 abbrev pub HasAll : List (List (List ℕ)) → List (List ℕ) → Type 0
-HasAll names owner = (key : List (List ℕ)) → IsMissing names key → is_under owner key ≡ false
+HasAll names owner = (key : List (List ℕ)) → IsMissing names key → is_within owner key ≡ false
 
 -- a name at or below which a record stands
 unfoldable pub exists_among : List RecordData → List (List ℕ) → Bool
-exists_among records name = list_any (λ r. is_under r.owner name) records
+exists_among records name = list_any (λ r. is_within r.owner name) records
 
 -- the names are those that exist
 pub record AreNames (names : List (List (List ℕ))) (records : List RecordData) : Type 0 where

@@ -13,7 +13,7 @@ use crate::sets::{copy_kind, is_kind, record_at};
 use dns_data::{Name, NoMemory, Record, RecordRoom, Zone, kind};
 use name_table::NameTable;
 use std::alloc::Global;
-use zone_lookup::{host_of, is_of, same, type_of};
+use zone_lookup::{host_of, is_of, type_of};
 
 /// The hosts of a longer NS set are searched for each time, so that a zone's numbers stay in
 /// proportion to its records. So are those of a host with more records.
@@ -256,7 +256,7 @@ pub fn has_like(others: &[Record], entry: &Record) -> bool
 fn is_like(other: &Record, entry: &Record) -> bool
     ensures { result ≡ is_of entry.now.owner (kind_of entry.now.rdata) other.now }
 {
-    if !same(&other.owner, &entry.owner) {
+    if !other.owner.same(&entry.owner) {
         return false;
     }
     let kind = type_of(entry);

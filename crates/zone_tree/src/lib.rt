@@ -11,5 +11,6 @@ mod sets;
 mod shape;
 mod store;
 mod tree;
+mod zone;
 
-pub use tree::TreeZone;
+pub use zone::TreeZone;

@@ -53,8 +53,8 @@ pub fn referrals_of(alloc: Global, tree: &Tree) -> Result<Vec<Option<Box<Tail>>>
     Ok(made)
 }
 
-// The NS of a cut and the addresses of their hosts, where these are few and their names have no more
-// labels than so many.
+// The NS of a cut and the addresses of their hosts, where these are few and their names have no
+// more labels than so many.
 fn referral_at(
     alloc: Global,
     tree: &Tree,

@@ -1,7 +1,7 @@
 use crate::hosts::{copy_apart, copy_numbers};
 use crate::ready::meets;
 use crate::sets::{copy_asked, copy_denying, copy_kind, has_asked};
-use crate::tree::TreeZone;
+use crate::zone::TreeZone;
 use dns_data::{Name, NoMemory, Record, RecordRoom, Slot, kind};
 use dns_write::Tail;
 use std::alloc::Global;

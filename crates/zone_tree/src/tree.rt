@@ -4,14 +4,11 @@ ghost use Rattle.zone_tree.specs.Tree.{IsNumbered, IsTree};
 use crate::cuts::cuts_of;
 use crate::hosts::hosts_of;
 use crate::node::{Node, Numbers};
-use crate::ready::{denial_of, referrals_of, servers_of};
 use crate::sets::sets_of;
 use crate::shape::add_owners;
 use dns_data::{Name, NoMemory, Zone};
-use dns_write::Tail;
 use name_table::NameTable;
 use std::alloc::Global;
-use std::marker::Model;
 
 /// A zone, and what was found out of each of its names. Their numbers are their places in `nodes`,
 /// `sets`, `cuts` and `hosts`.
@@ -31,50 +28,9 @@ pub struct Tree {
     pub hosts: Vec<Option<Numbers>>,
 }
 
-/// A zone as a tree of its names, and the sections that many of its answers end in. Contracts see
-/// the zone.
-#[derive(Debug, Drop)]
-pub struct TreeZone {
-    pub(crate) tree: Tree,
-    /// The origin's NS and the addresses of its hosts, where these are known.
-    pub(crate) servers: Option<Tail>,
-    /// The SOA of a denial, where there is one.
-    pub(crate) denial: Option<Tail>,
-    /// By number, the NS of a cut and the addresses of their hosts, as far as they stand ready.
-    pub(crate) referrals: Vec<Option<Box<Tail>>>,
-}
-
-impl Model for TreeZone {
-    ghost use Rattle.dns_data.specs.declared.zone.Zone.{Zone};
-    ghost use Rattle.zone_tree.specs.Ready.{AreReady};
-
-    ghost Value = { Zone };
-
-    ghost view = { λ t. t.tree.zone };
-
-    ghost invariant = { λ t. AreReady t.tree t.servers t.denial t.referrals.items };
-}
-
-impl TreeZone {
-    /// The tree of a zone, in three passes over its records.
-    pub fn new(alloc: Global, zone: Zone) -> Result<TreeZone, NoMemory>
-        ensures { IfOk result (λ made. made ≡ zone) }
-    {
-        let tree = Tree::new(alloc, zone)?;
-        let servers = servers_of(alloc, &tree)?;
-        let denial = denial_of(alloc, &tree)?;
-        let referrals = referrals_of(alloc, &tree)?;
-        Ok(TreeZone {
-            tree,
-            servers,
-            denial,
-            referrals,
-        })
-    }
-}
-
 impl Tree {
-    fn new(alloc: Global, zone: Zone) -> Result<Tree, NoMemory>
+    /// The tree of a zone, in three passes over its records.
+    pub(crate) fn new(alloc: Global, zone: Zone) -> Result<Tree, NoMemory>
         ensures zone { IfOk result (λ tree. tree.zone ≡ zone) }
         ensures whole { IfOk result (λ tree. IsTree tree) }
     {

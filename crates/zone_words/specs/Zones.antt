@@ -1,6 +1,6 @@
--- Zones as words name them: `ZONE`, or `ADDRESS/BITS` for the zone of the names of a net's addresses.
--- This server's own rule; reverse names are those of RFC 1035, section 3.5, and RFC 3596, section
--- 2.5. Byte 47 is `/`.
+-- Zones as words name them: `ZONE`, or `ADDRESS/BITS` for the zone of the names of a net's
+-- addresses. This server's own rule; reverse names are those of RFC 1035, section 3.5, and RFC
+-- 3596, section 2.5. Byte 47 is `/`.
 use Rattle.std.specs.Prelude.{ℕ, ◌-◌, ◌/◌, ◌%◌, ◌==◌, nat_le, Bool, ◌&&◌, List, [], ◌∷◌, ◌++◌}
 use Rattle.std.specs.Prelude.{drop, Option, Some, None, option_map, option_and_then, if◌then◌else◌}
 use Rattle.std.specs.List.{list_any}

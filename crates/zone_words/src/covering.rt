@@ -1,5 +1,4 @@
 ghost use Rattle.std.specs.Prelude.{◌≡◌};
-ghost use Rattle.dns_data.specs.{is_within};
 ghost use Rattle.zone_words.specs.Zones.{is_in};
 
 use dns_data::Name;
@@ -9,17 +8,9 @@ pub fn is_in(name: &Name, zones: &[Name]) -> bool
     ensures { result ≡ is_in name.now zones.now }
 {
     for zone in zones {
-        if covers(zone, name) {
+        if name.is_within(zone) {
             return true;
         }
     }
     false
-}
-
-/// Whether a name is within this zone, ASCII case aside.
-#[inline]
-pub fn covers(zone: &Name, name: &Name) -> bool
-    ensures { result ≡ is_within name.now zone.now }
-{
-    name.is_within(zone)
 }

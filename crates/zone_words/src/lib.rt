@@ -4,5 +4,5 @@
 mod covering;
 mod reading;
 
-pub use covering::{covers, is_in};
+pub use covering::is_in;
 pub use reading::{is_net_word, name_zone, net_zone, read_zone, read_zones};

@@ -1,6 +1,6 @@
 use Rattle.std.proofs.Common.{◌≡◌, drop}
 use Rattle.std.specs.List.{list_any}
-use Rattle.zone_lookup.specs.Zone.{is_same}
+use Rattle.dns_data.specs.{is_same}
 use Rattle.file_plugin.proofs.plan.has_origin.Given as goal
 
 abbrev pub invariant-loop-zone : goal.invariant-loop-zone

@@ -1,6 +1,6 @@
 use Rattle.std.proofs.Common.{sym, ap, ◌∙◌, ◌≡◌}
 use Rattle.std.specs.Prelude.{◌&&◌, ◌==◌}
-use Rattle.zone_lookup.specs.Zone.{is_same}
+use Rattle.dns_names.specs.Name.{is_same}
 use Rattle.zone_lookup.specs.ZoneAnswer.{with_authority}
 use Rattle.zone_lookup.proofs.Chaining.{no_authority, asks}
 use Rattle.zone_lookup.proofs.answering.push_authority.Goals as goal

@@ -1,7 +1,7 @@
 use Rattle.std.proofs.Common.{◌∙◌, ap}
 use Rattle.std.specs.Prelude.{◌&&◌, ◌==◌}
 use Rattle.std.proofs.lemmas.Option.{IfSome_then}
-use Rattle.zone_lookup.specs.Zone.{is_same}
+use Rattle.dns_names.specs.Name.{is_same}
 use Rattle.zone_lookup.proofs.Lending.{denial_behind, servers_behind}
 use Rattle.zone_lookup.proofs.answering.ready.Goals as goal
 

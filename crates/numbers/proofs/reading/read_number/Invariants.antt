@@ -1,5 +1,0 @@
-use Rattle.numbers.proofs.Numbers.{NumberSoFar}
-use Rattle.numbers.proofs.reading.read_number.Given as goal
-
-abbrev pub invariant-loop-byte : goal.invariant-loop-byte
-invariant-loop-byte l = NumberSoFar l.text l.byte-index l.number

@@ -15,3 +15,4 @@ pub mod Layouts
 pub mod Listings
 pub mod Patching
 pub mod Lending
+pub mod Timing

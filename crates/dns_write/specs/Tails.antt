@@ -282,8 +282,8 @@ pub record IsInside (size : ℕ) (s : Spot) : Type 0 where
   pub at : s.at + 2 ≤ size
   pub behind : s.behind ≤ size + 255
 
--- a text stands behind a draft, with these pointers filled in, in a buffer that has these bytes before
--- and behind
+-- a text stands behind a draft, with these pointers filled in, in a buffer that has these bytes
+-- before and behind
 pub record Fills (text : List ℕ) (spots : List Spot) (anchor : ℕ) (old new : Draft) : Type 0 where
   pub front : List ℕ
   pub behind : List ℕ

@@ -8,9 +8,8 @@ ghost use Rattle.dns_write.specs.Tails.{InAnchor, InTail, IsPlaced, laid_behind,
 ghost use Rattle.dns_write.specs.Tails.{laid_fields, laid_record, laid_records, head_bytes};
 ghost use Rattle.dns_write.specs.Tails.{filled_in, place_of, placed_of, spot_of, with_text};
 
-use crate::writer::overwrite;
-use dns_data::{Name, NoMemory, Rdata, Record, Soa};
-use equal_bytes::are_equal;
+use crate::bytes::overwrite;
+use dns_data::{Name, NoMemory, Rdata, Record, Soa, are_equal};
 use std::alloc::Global;
 use std::marker::Model;
 

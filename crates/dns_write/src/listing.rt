@@ -1,8 +1,7 @@
 ghost use Rattle.std.specs.Prelude.{◌≡◌, ℕ, List, IsTrue, IsFalse, OnOk, IfOk};
 ghost use Rattle.dns_write.specs.Tails.{AreListed, AsksRecord, AsksRecords, Lacks};
 
-use dns_data::{Bytes, Name, NoMemory, Rdata, Record, Seq};
-use equal_bytes::are_equal;
+use dns_data::{Bytes, Name, NoMemory, Rdata, Record, Seq, are_equal};
 use std::alloc::Global;
 
 /// Whether a label is one of these, letter for letter.

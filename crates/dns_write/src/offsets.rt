@@ -6,8 +6,7 @@ ghost use Rattle.dns_write.specs.Written.{earliest};
 ghost use Rattle.dns_write.specs.Offsets.{offset_of, IsOffset, suffixes_at, with_offset};
 
 use dns_data::limit::{HEADER_BYTES, POINTER_END};
-use dns_data::{Name, NoMemory};
-use equal_bytes::are_equal;
+use dns_data::{Name, NoMemory, are_equal};
 use std::alloc::Global;
 use std::marker::Model;
 

@@ -5,8 +5,7 @@ ghost use Rattle.dns_write.specs.Tails.{EndsIn, IsInside, IsPlanned};
 
 use crate::layout::{Layout, Spot};
 use crate::listing::list_records;
-use dns_data::{Bytes, Copies, Name, NoMemory, Record, Seq};
-use equal_bytes::are_equal;
+use dns_data::{Bytes, Copies, Name, NoMemory, Record, Seq, are_equal};
 use std::alloc::Global;
 
 /// How records are written behind an answer to a question whose name ends in the anchor: their

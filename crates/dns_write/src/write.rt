@@ -9,8 +9,10 @@ ghost use Rattle.dns_write.specs.Assembled.{message_of, high_byte, low_byte};
 ghost use Rattle.dns_write.specs.Putting.{total, QuestionFits, OptFits, PutWithin, PutLongest};
 ghost use Rattle.dns_write.specs.Putting.{Sectioned};
 ghost use Rattle.dns_write.specs.Tails.{Knows, Lends, PutsAll, lent_to};
+ghost use Rattle.dns_write.specs.Timed.{all_timed, message_at, message_timed, timed};
 
 use crate::tail::Tail;
+use crate::ttls::{Own, Same, Ttls};
 use crate::write_record::put_record;
 use crate::writer::Writer;
 use dns_data::limit::{MESSAGE_BYTES, UDP_BYTES};
@@ -113,7 +115,29 @@ pub fn write_lent<'a>(
     if out.len() < ROOM {
         out.resize(ROOM, 0)?;
     }
-    write_behind(alloc, out, &whole_parts(parts, tail), tail, limit)
+    write_behind(alloc, out, &whole_parts(parts, tail), &Own, tail, limit)
+}
+
+/// Writes a message by its parts as `write_parts` does, each record with this TTL in place of its
+/// own: so an answer that was kept is written from where it stands.
+#[inline]
+pub fn write_aged(
+    alloc: Global,
+    room: Buffer,
+    parts: &MessageParts<'_>,
+    ttl: u32,
+    limit: u32,
+) -> Result<Buffer, NoMemory>
+    requires ttl { ttl < 2 ^ 31 }
+    requires limit { (UDP_BYTES ≤ limit) × (limit ≤ MESSAGE_BYTES) }
+    requires codes { AreCodes parts.now.flags.opcode parts.now.flags.rcode }
+    ensures { IfOk result (Writes (message_at ttl (message_of parts.now)) limit) }
+{
+    let mut out = room.into_room();
+    if out.len() < ROOM {
+        out.resize(ROOM, 0)?;
+    }
+    write_behind(alloc, out, parts, &Same::new(ttl), None, limit)
 }
 
 // The parts of a message with the records of a tail, where there is one.
@@ -144,23 +168,26 @@ fn whole_parts<'a>(parts: &MessageParts<'a>, tail: Option<&'a Tail>) -> MessageP
 // Writes a message in place of whatever bytes there are. It is a function of its own so that the
 // writer is made in one go.
 #[inline(always)]
-fn write_behind(
+fn write_behind<T: Ttls>(
     alloc: Global,
     out: Vec<u8>,
     parts: &MessageParts<'_>,
+    times: &T,
     tail: Option<&Tail>,
     limit: u32,
 ) -> Result<Buffer, NoMemory>
-    requires tail { IfSome tail (λ t. Lends t.now (message_of parts.now)) }
+    requires tail { IfSome tail (λ t. Lends t.now (message_of parts.now)
+        × (message_timed (T.ttl_of times.now) (message_of parts.now) ≡ message_of parts.now)) }
     requires room { 12 ≤ vec_len out }
     requires limit { (UDP_BYTES ≤ limit) × (limit ≤ MESSAGE_BYTES) }
     requires codes { AreCodes parts.now.flags.opcode parts.now.flags.rcode }
-    ensures { IfOk result (Writes (message_of parts.now) limit) }
+    ensures { IfOk result
+        (Writes (message_timed (T.ttl_of times.now) (message_of parts.now)) limit) }
 {
     let mut writer = Writer::over(alloc, out);
     let room_for_records = room_for_records(limit as usize, &parts.opt);
     put_question(&mut writer, parts)?;
-    let kept = put_sections(&mut writer, parts, tail, room_for_records)?;
+    let kept = put_sections(&mut writer, parts, times, tail, room_for_records)?;
     put_opt(&mut writer, &parts.opt)?;
     Ok(writer.into_message(&header_bytes(parts, kept)))
 }
@@ -194,20 +221,22 @@ fn put_question<'a>(writer: &mut Writer<'a>, parts: &MessageParts<'a>) -> Result
 // Puts records of one section after another, until one doesn't fit. Those behind the answer are put
 // as a tail knows how, where there is one.
 #[inline]
-fn put_sections<'a>(
+fn put_sections<'a, T: Ttls>(
     writer: &mut Writer<'a>,
     parts: &MessageParts<'a>,
+    times: &T,
     tail: Option<&Tail>,
     room: usize,
 ) -> Result<Counts, NoMemory>
     requires room { room ≤ 65535 }
     requires fits { size writer.old ≤ room }
     requires known { Knows parts.now.name.now writer.old }
-    requires tail { IfSome tail (λ t. Lends t.now (message_of parts.now)) }
-    ensures { IfOk result
-        (λ kept. Sectioned writer.old writer.new (message_of parts.now) room kept) }
+    requires tail { IfSome tail (λ t. Lends t.now (message_of parts.now)
+        × (message_timed (T.ttl_of times.now) (message_of parts.now) ≡ message_of parts.now)) }
+    ensures { IfOk result (λ kept. Sectioned writer.old writer.new
+        (message_timed (T.ttl_of times.now) (message_of parts.now)) room kept) }
 {
-    let answer = put_records(writer, parts.answer, room)?;
+    let answer = put_records(writer, parts.answer, times, room)?;
     if answer < parts.answer.len() {
         return Ok(Counts {
             answer,
@@ -222,7 +251,7 @@ fn put_sections<'a>(
             additional: parts.additional.len(),
         });
     }
-    let authority = put_records(writer, parts.authority, room)?;
+    let authority = put_records(writer, parts.authority, times, room)?;
     if authority < parts.authority.len() {
         return Ok(Counts {
             answer,
@@ -230,7 +259,7 @@ fn put_sections<'a>(
             additional: 0,
         });
     }
-    let additional = put_records(writer, parts.additional, room)?;
+    let additional = put_records(writer, parts.additional, times, room)?;
     Ok(Counts {
         answer,
         authority,
@@ -252,6 +281,7 @@ fn put_tail(
     requires tail { IfSome tail (λ t. Lends t.now (message_of parts.now)) }
     ensures put { IsTrue result → PutsAll writer.old writer.new
         ((message_of parts.now).authority ++ (message_of parts.now).additional) room }
+    ensures some { IsTrue result → IfNone tail.entry ⊥ }
     ensures none { IsFalse result → writer.new ≡ writer.old }
 {
     match tail {
@@ -263,35 +293,39 @@ fn put_tail(
 // Puts records until one doesn't fit, and gives how many were put. Mostly there are none, which
 // takes no call.
 #[inline(always)]
-fn put_records<'a>(
+fn put_records<'a, T: Ttls>(
     writer: &mut Writer<'a>,
     records: &'a [Record],
+    times: &T,
     room: usize,
 ) -> Result<usize, NoMemory>
     requires room { room ≤ 65535 }
     requires fits { size writer.old ≤ room }
-    ensures { IfOk result (λ count. PutLongest writer.old writer.new records.now room count) }
+    ensures { IfOk result (λ count. PutLongest writer.old writer.new
+        (all_timed (T.ttl_of times.now) records.now) room count) }
 {
     if records.len() == 0 {
         return Ok(0);
     }
-    put_each(writer, records, room)
+    put_each(writer, records, times, room)
 }
 
 // Puts records until one doesn't fit, and gives how many were put.
 #[inline(never)]
-fn put_each<'a>(
+fn put_each<'a, T: Ttls>(
     writer: &mut Writer<'a>,
     records: &'a [Record],
+    times: &T,
     room: usize,
 ) -> Result<usize, NoMemory>
     requires room { room ≤ 65535 }
     requires fits { size writer.old ≤ room }
-    ensures { IfOk result (λ count. PutLongest writer.old writer.new records.now room count) }
+    ensures { IfOk result (λ count. PutLongest writer.old writer.new
+        (all_timed (T.ttl_of times.now) records.now) room count) }
 {
     let mut count = 0;
     for rr in records {
-        if !put_within(writer, rr, room)? {
+        if !put_within(writer, rr, times, room)? {
             return Ok(count);
         }
         count += 1;
@@ -300,13 +334,19 @@ fn put_each<'a>(
 }
 
 // Puts a record where it fits, and takes it back where it doesn't.
-fn put_within<'a>(writer: &mut Writer<'a>, rr: &'a Record, room: usize) -> Result<bool, NoMemory>
+fn put_within<'a, T: Ttls>(
+    writer: &mut Writer<'a>,
+    rr: &'a Record,
+    times: &T,
+    room: usize,
+) -> Result<bool, NoMemory>
     requires { size writer.old ≤ room }
-    ensures text { IfOk result (λ fits. PutWithin writer.old writer.new rr.now room fits) }
-    ensures proper { IsProper rr.now }
+    ensures text { IfOk result (λ fits. PutWithin writer.old writer.new
+        (timed (T.ttl_of times.now) rr.now) room fits) }
+    ensures proper { IfOk result (λ _. IsProper (timed (T.ttl_of times.now) rr.now)) }
 {
     let mark = writer.mark();
-    put_record(writer, rr)?;
+    put_record(writer, rr, times)?;
     if writer.len() <= room {
         return Ok(true);
     }

@@ -5,18 +5,26 @@ ghost use Rattle.dns_names.specs.Name.{spelled};
 ghost use Rattle.dns_data.specs.declared.kind.TheConstants as kinds;
 ghost use Rattle.dns_data.specs.declared.record.Rdata.TheVariants as rdata;
 ghost use Rattle.dns_write.specs.Written.{put_u16, put_u32, put_string, put_strings, put_fields};
+ghost use Rattle.dns_write.specs.Timed.{timed};
 ghost use Rattle.dns_write.specs.Written.{put_data, put_record};
 
+use crate::ttls::Ttls;
 use crate::writer::Writer;
 use dns_data::{Bytes, Name, NoMemory, Rdata, Record, Soa, kind};
 
-/// Puts a record, at whatever length.
-pub fn put_record<'a>(writer: &mut Writer<'a>, rr: &'a Record) -> Result<(), NoMemory>
-    ensures text { OnOk result (writer.new ≡ put_record writer.old rr.now) }
-    ensures proper { IsProper rr.now }
+/// Puts a record with a TTL, at whatever length.
+#[tactic(auto, using(crate::proofs::Timing::is_timed))]
+pub fn put_record<'a, T: Ttls>(
+    writer: &mut Writer<'a>,
+    rr: &'a Record,
+    times: &T,
+) -> Result<(), NoMemory>
+    ensures text { OnOk result
+        (writer.new ≡ put_record writer.old (timed (T.ttl_of times.now) rr.now)) }
+    ensures proper { OnOk result (IsProper (timed (T.ttl_of times.now) rr.now)) }
 {
     writer.put_name(&rr.owner)?;
-    let (kind, class, ttl) = (rr.rdata.kind(), rr.class, rr.ttl);
+    let (kind, class, ttl) = (rr.rdata.kind(), rr.class, times.ttl(rr));
     match &rr.rdata {
         Rdata::A(addr) => put_address(writer, kind, class, ttl, *addr),
         Rdata::Aaaa(addr) => {

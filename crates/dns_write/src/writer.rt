@@ -7,6 +7,7 @@ ghost use Rattle.dns_write.specs.Tails.{Fills, IsInside, leads_to, patched};
 ghost use Rattle.std.specs.List.{AllByRecursion};
 ghost use Rattle.std.specs.Prelude.{IsTrue, IsFalse};
 
+use crate::bytes::overwrite;
 use crate::layout::Spot;
 use crate::offsets::Offsets;
 use dns_data::limit::{HEADER_BYTES, POINTER_END};
@@ -249,16 +250,6 @@ impl<'a> Writer<'a> {
         self.put_labels(wire)?;
         self.put_few([0])
     }
-}
-
-/// Puts bytes in place of those that stand from an offset on.
-#[inline(always)]
-pub fn overwrite(out: &mut Vec<u8>, at: usize, bytes: &[u8])
-    requires { at + length bytes.now ≤ vec_len out.old }
-    ensures { out.new.items ≡ take at out.old.items
-        ++ (bytes.now ++ drop (at + length bytes.now) out.old.items) }
-{
-    out[at..at + bytes.len()].copy_from_slice(bytes);
 }
 
 // Fills in the pointers of a tail that begins here, of so many bytes.

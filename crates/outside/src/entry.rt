@@ -1,7 +1,8 @@
 ghost use Rattle.std.specs.Prelude.{◌≡◌, ◌↔◌, IsTrue};
+ghost use Rattle.std.specs.Cmp.Lexicographic.{pointwise};
 ghost use Rattle.outside.specs.Same.{same_entry, same_inner, same_key};
 
-use crate::same::{are_same_inner, is_same_answer, is_same_ask, is_same_query};
+use crate::same::{is_same_answer, is_same_ask, is_same_query};
 use crate::{Outcome, Upstream};
 use dns_data::{Answer, Bytes, Copies, Name, NoMemory, Query, Seq, Transport};
 use std::alloc::Global;
@@ -49,13 +50,16 @@ impl Copies for Key {
     }
 }
 
-/// What the plugins behind a cache took from the outside: a random word, an ask with its outcome,
-/// or a look for a further datagram of the last ask.
+/// What the plugins behind a cache took from the outside: a random word, an ask with its outcome, a
+/// look for a further datagram of the last ask, or a call of a pool of upstreams, which is a draw
+/// with its number and the upstreams that are down, a bit each, or a report of an upstream.
 #[derive(Debug, Drop)]
 pub enum InnerMark {
     Word(u64),
     Asked(Upstream, Transport, Bytes, Outcome),
     More(Outcome),
+    Drawn(u64, u16),
+    Reported(u32, bool),
 }
 
 impl InnerMark {
@@ -77,6 +81,8 @@ impl InnerMark {
                 ) && a.is_same(b)
             }
             (InnerMark::More(a), InnerMark::More(b)) => a.is_same(b),
+            (InnerMark::Drawn(a, c), InnerMark::Drawn(b, d)) => a == b && c == d,
+            (InnerMark::Reported(a, c), InnerMark::Reported(b, d)) => a == b && c == d,
             _ => false,
         }
     }
@@ -90,6 +96,8 @@ impl Copies for InnerMark {
                 InnerMark::Asked(*to, *by, message.copy(alloc)?, outcome.copy(alloc)?)
             }
             InnerMark::More(outcome) => InnerMark::More(outcome.copy(alloc)?),
+            InnerMark::Drawn(number, down) => InnerMark::Drawn(*number, *down),
+            InnerMark::Reported(upstream, agreed) => InnerMark::Reported(*upstream, *agreed),
         })
     }
 }
@@ -154,4 +162,21 @@ impl Copies for Entry {
             inner: self.inner.copy(alloc)?,
         })
     }
+}
+
+// Whether two lists of marks are the same.
+fn are_same_inner(marks: &[InnerMark], others: &[InnerMark]) -> bool
+    ensures { result ≡ pointwise same_inner marks.now others.now }
+{
+    let mut rest = others;
+    for mark in marks {
+        let Some((other, behind)) = rest.split_first() else {
+            return false;
+        };
+        if !mark.is_same(other) {
+            return false;
+        }
+        rest = behind;
+    }
+    rest.is_empty()
 }

@@ -5,8 +5,7 @@ ghost use Rattle.outside.specs.Keys.{key_number, shard_of};
 ghost use Rattle.outside.specs.Same.{same_key};
 
 use crate::Key;
-use dns_data::Name;
-use equal_bytes::are_equal;
+use dns_data::{Name, are_equal};
 use std::hash::{Hash, Hasher};
 
 impl Key {

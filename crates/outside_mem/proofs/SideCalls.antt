@@ -1,5 +1,5 @@
 -- What each call of a side in memory does to its journal and its counts.
-use Rattle.std.proofs.Common.{◌≡◌, ℕ, Bool, true, false, not, cond, List, [], ◌∷◌, Option, Some, None, Result, Ok, Err, IfOk, MatchResult, slice_get, ◌≢◌, refl, sym, ap, ◌∙◌, subst, arith}
+use Rattle.std.proofs.Common.{◌≡◌, ℕ, Bool, true, false, not, cond, List, [], ◌∷◌, Option, Some, None, Result, Ok, Err, IfOk, IfSome, MatchResult, slice_get, length, ◌<◌, ◌^◌, ◌≢◌, refl, sym, ap, ◌∙◌, subst, arith}
 use Rattle.outside.specs.declared.datagram.Datagram.{Datagram}
 use Rattle.outside.specs.declared.datagram.Outcome.{Outcome}
 use Rattle.outside.specs.declared.datagram.Outcome.TheVariants as outcome
@@ -7,6 +7,7 @@ use Rattle.outside.specs.declared.datagram.Received.TheVariants as received
 use Rattle.outside.specs.declared.datagram.Upstream.{Upstream}
 use Rattle.outside.specs.declared.datagram.Wrote.{Wrote}
 use Rattle.outside.specs.declared.datagram.Wrote.TheVariants as wrote
+use Rattle.outside.specs.declared.entry.InnerMark.{InnerMark}
 use Rattle.outside.specs.declared.entry.InnerMark.TheVariants as inner
 use Rattle.outside.specs.declared.mark.Mark.{Mark}
 use Rattle.outside.specs.declared.mark.Mark.TheVariants.{Got, RecvEnd, RecvFailed, Now, Inner, Sent, Noted}
@@ -18,13 +19,13 @@ use Rattle.outside.specs.Script.{is_to_fail, used_up, got_or_end, outcome_or_sil
 use Rattle.outside_mem.specs.Calls.{CallsData, counted}
 use Rattle.outside_mem.specs.Faults.{faults_with, ask_faults_with}
 use Rattle.outside_mem.specs.Feed.{script_of, read_on, outcome_given, IsUnusedFeed, GivesRecv, GivesAsk}
-use Rattle.outside_mem.specs.SideTold.{IsTold, Tells}
+use Rattle.outside_mem.specs.SideTold.{IsPoolMark, IsShown, IsTold, Tells}
 use Rattle.outside_mem.specs.Telling.{TellsMark}
 use Rattle.outside_mem.specs.declared.feed.SideFeed.{SideFeed}
 use Rattle.outside_mem.specs.declared.readings.Readings.{Readings}
 use Rattle.outside_mem.proofs.Counting.{none_fails}
 use Rattle.outside_mem.proofs.Lists.{no_item}
-use Rattle.outside_mem.proofs.SideSteps.{Step, calls_with-fails}
+use Rattle.outside_mem.proofs.SideSteps.{Step, calls_with-fails, tells_more}
 
 -- nothing is told of an unused feed
 nothing_told : (feed : SideFeed) → IsUnusedFeed feed → IsTold feed []
@@ -72,11 +73,19 @@ asked_step to by message gives = record { given = λ marks told. tt; outcomes = 
 pub more_step : {feed new : SideFeed} {result : Outcome} → GivesAsk feed new result → Step feed new (Inner (inner.More result))
 more_step gives = record { given = λ marks told. tt; outcomes = ap (λ (r : Outcome). r ∷ []) (sym gives.given); used = gives.used; one_outcome = omega arith }
 
-pub seen_step : (feed : SideFeed) (what : Seen) → Step feed feed (mark_of what)
-seen_step feed (seen.Pinned serial) = record { given = λ marks told. tt; outcomes = refl; used = refl; one_outcome = omega arith }
-seen_step feed (seen.Unpinned serial) = record { given = λ marks told. tt; outcomes = refl; used = refl; one_outcome = omega arith }
-seen_step feed (seen.Looked key moment entry) = record { given = λ marks told. tt; outcomes = refl; used = refl; one_outcome = omega arith }
-seen_step feed (seen.Put key entry kept) = record { given = λ marks told. tt; outcomes = refl; used = refl; one_outcome = omega arith }
+inner_step : (feed : SideFeed) (mark : InnerMark) → IsPoolMark mark → Step feed feed (Inner mark)
+inner_step feed (inner.Drawn number down) shown = record { given = λ marks told. tt; outcomes = refl; used = refl; one_outcome = omega arith }
+inner_step feed (inner.Reported upstream agreed) shown = record { given = λ marks told. tt; outcomes = refl; used = refl; one_outcome = omega arith }
+inner_step feed (inner.Word word) shown = absurd shown
+inner_step feed (inner.Asked to by message result) shown = absurd shown
+inner_step feed (inner.More result) shown = absurd shown
+
+seen_step : (feed : SideFeed) (what : Seen) → IsShown what → Step feed feed (mark_of what)
+seen_step feed (seen.Inner mark) shown = inner_step feed mark.now shown
+seen_step feed (seen.Pinned serial) shown = record { given = λ marks told. tt; outcomes = refl; used = refl; one_outcome = omega arith }
+seen_step feed (seen.Unpinned serial) shown = record { given = λ marks told. tt; outcomes = refl; used = refl; one_outcome = omega arith }
+seen_step feed (seen.Looked key moment entry) shown = record { given = λ marks told. tt; outcomes = refl; used = refl; one_outcome = omega arith }
+seen_step feed (seen.Put key entry kept) shown = record { given = λ marks told. tt; outcomes = refl; used = refl; one_outcome = omega arith }
 
 -- a call fails only where the script lists it
 no_failure : (test : Bool) (found : Option Datagram) → test ≡ false → RecvFailed ≡ cond test RecvFailed (got_or_end found) → ⊥
@@ -115,3 +124,10 @@ quiet_handed calls faults wrote.Failed is quiet none = let not_failed = ap not (
 pub told_mark : {T E : Type 0} {old new : Option (List T)} (made : Result T E) {mark : T} → MatchResult made (TellsMark old new) (λ _. new ≡ None) → IfOk made (λ m. m ≡ mark) → TellsMark old new mark
 told_mark {old} {new} (Ok m) told is = subst (TellsMark old new) is told
 told_mark {old} {new} (Err e) told is = rw told (record { told = tt })
+
+-- what is shown is told, and where it can't be nothing is told any more
+pub shown_tells : {feed : SideFeed} {old journal : Option (List Mark)} {E : Type 0} (made : Result Mark E) (what : Seen) → Tells feed old
+    → MatchResult made (TellsMark old journal) (λ _. journal ≡ None) → IfOk made (λ m. m ≡ mark_of what) → IfOk made (λ m. IsShown what)
+    → IfSome journal (λ marks. length marks < 2 ^ 64) → Tells feed journal
+shown_tells {feed} {old} {journal} (Ok m) what tells told is shown few = tells_more tells (subst (TellsMark old journal) is told) few (seen_step feed what shown)
+shown_tells (Err e) what tells none is shown few = λ marks some. absurd (let clash = sym none ∙ some in cc)

@@ -6,7 +6,10 @@ use Rattle.std.proofs.Props.{props}
 use Rattle.std.specs.Coded.{Coded-set, coded_ℕ, le_prop, Π_prop, →_prop, Unit-prop}
 use Rattle.outside.specs.declared.datagram.Outcome.{Outcome}
 use Rattle.outside.specs.declared.datagram.Outcome.TheVariants as outcome
+use Rattle.outside.specs.declared.entry.InnerMark.{InnerMark}
 use Rattle.outside.specs.declared.entry.InnerMark.TheVariants as inner
+use Rattle.outside.specs.declared.mark.Seen.{Seen}
+use Rattle.outside.specs.declared.mark.Seen.TheVariants as seen
 use Rattle.outside.specs.declared.mark.Mark.{Mark}
 use Rattle.outside.specs.declared.mark.Mark.TheVariants.{Got, RecvEnd, RecvFailed, Now, Inner, Sent, Noted, Pinned, Unpinned, Looked, Put}
 use Rattle.outside.specs.Script.{SideScriptData, IsGiven, AreGiven, no_ask, one_ask, starved_ask, ask_answer, recvs_in, sends_in, notes_in, nows_in, words_in, outcomes_in, FollowsScript, AnsweredSide}
@@ -43,6 +46,18 @@ pub record IsTold (feed : SideFeed) (marks : List Mark) : Type 0 where
 abbrev pub Tells : SideFeed → Option (List Mark) → Type 0
 Tells feed journal = (marks : List Mark) → journal ≡ Some marks → IsTold feed marks
 
+-- a call of a pool of upstreams
+abbrev pub IsPoolMark : InnerMark → Type 0
+IsPoolMark (inner.Drawn number down) = Unit {0}
+IsPoolMark (inner.Reported upstream agreed) = Unit {0}
+IsPoolMark other = ⊥
+
+-- what a caller may show: pins, looks, puts and calls of pools; other inner marks are told by the
+-- calls themselves
+abbrev pub IsShown : Seen → Type 0
+IsShown (seen.Inner mark) = IsPoolMark mark.now
+IsShown what = Unit {0}
+
 -- a mark is given in one way at most
 IsGiven-prop : (script : SideScriptData) (before : List Mark) (mark : Mark)
     → IsProp (IsGiven script before mark)
@@ -53,6 +68,8 @@ IsGiven-prop script before (Now moment) = Prim.hlevel props
 IsGiven-prop script before (Inner (inner.Word word)) = Prim.hlevel props
 IsGiven-prop script before (Inner (inner.Asked to by message result)) = Unit-prop
 IsGiven-prop script before (Inner (inner.More result)) = Unit-prop
+IsGiven-prop script before (Inner (inner.Drawn number down)) = Unit-prop
+IsGiven-prop script before (Inner (inner.Reported upstream agreed)) = Unit-prop
 IsGiven-prop script before (Sent reply flag) = Prim.hlevel props
 IsGiven-prop script before (Noted line flag) = Prim.hlevel props
 IsGiven-prop script before (Pinned serial) = Unit-prop

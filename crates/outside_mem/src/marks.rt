@@ -3,6 +3,7 @@ ghost use Rattle.outside.specs.declared.entry.InnerMark.TheVariants.{Asked, More
 ghost use Rattle.outside.specs.declared.mark.Mark.TheVariants.{Got, Sent, Noted, Inner};
 ghost use Rattle.outside.specs.declared.mark.WatchMark.TheVariants as watch;
 ghost use Rattle.outside.specs.Marks.{went, mark_of};
+ghost use Rattle.outside_mem.specs.SideTold.{IsShown};
 
 use dns_data::{Bytes, Copies, NoMemory, Text, Transport};
 use outside::{Datagram, InnerMark, Mark, Outcome, ReadOut, Seen, Upstream, WatchMark, Wrote};
@@ -47,7 +48,8 @@ pub(crate) fn more(alloc: Global, outcome: &Outcome) -> Result<Mark, NoMemory>
 }
 
 pub(crate) fn seen(alloc: Global, what: Seen<'_>) -> Result<Mark, NoMemory>
-    ensures { IfOk result (λ mark. mark ≡ mark_of what.entry) }
+    ensures mark { IfOk result (λ mark. mark ≡ mark_of what.entry) }
+    ensures shown { IfOk result (λ _. IsShown what.entry) }
 {
     Ok(match what {
         Seen::Pinned(serial) => Mark::Pinned(serial),
@@ -57,6 +59,14 @@ pub(crate) fn seen(alloc: Global, what: Seen<'_>) -> Result<Mark, NoMemory>
             Mark::Looked(key.copy(alloc)?, moment, Some(entry.copy(alloc)?))
         }
         Seen::Put(key, entry, kept) => Mark::Put(key.copy(alloc)?, entry.copy(alloc)?, kept),
+        Seen::Inner(InnerMark::Drawn(number, down)) => {
+            Mark::Inner(InnerMark::Drawn(*number, *down))
+        }
+        Seen::Inner(InnerMark::Reported(upstream, agreed)) => {
+            Mark::Inner(InnerMark::Reported(*upstream, *agreed))
+        }
+        // The calls tell these themselves. Twice would be a lie, so nothing is told any more.
+        Seen::Inner(_) => return Err(NoMemory),
     })
 }
 

@@ -6,8 +6,7 @@ use Rattle.std.specs.Prelude.{Result, Ok, Err, if◌then◌else◌}
 use Rattle.std.specs.Option.{option_or}
 use Rattle.dns_data.specs.declared.directive.Directive.{Directive}
 use Rattle.dns_data.specs.declared.directive.Line.{Line}
-use Rattle.option_words.specs.{empty_why, once, unless}
-use Rattle.plugin_api.specs.{PlanData, fault_at}
+use Rattle.plugin_api.specs.{PlanData, empty_why, fault_at, once, unless}
 use Rattle.plugin_api.specs.declared.fault.DirectiveFault.{DirectiveFault}
 use Rattle.plugin_api.specs.declared.fault.DirectiveFault.TheVariants as fault
 use Rattle.plugin_api.specs.declared.fault.DirectiveWhy.{DirectiveWhy}

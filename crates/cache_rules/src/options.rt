@@ -5,7 +5,7 @@ ghost use Rattle.cache_rules.specs.Options.{seconds_in, ttl_in, ttl_of, whole_se
 ghost use Rattle.cache_rules.specs.Options.{words_of_zones};
 
 use dns_data::Text;
-use numbers::{read_duration, read_number};
+use numbers::{read_digits, read_duration};
 
 /// What a line of the body is, by its first word.
 #[derive(Clone, Copy, Debug, PartialEq, Eq)]
@@ -95,7 +95,7 @@ fn number_in(word: &Text, least: u32, most: u32) -> Option<u32>
     ensures value { result ≡ number_in least most word.now }
     ensures range { IfSome result (λ number. (least ≤ number) × (number ≤ most)) }
 {
-    within(read_number(word.as_str().as_bytes(), 10)?, least, most)
+    within(read_digits(word.as_str().as_bytes(), 10)?, least, most)
 }
 
 fn within(number: u64, least: u32, most: u32) -> Option<u32>

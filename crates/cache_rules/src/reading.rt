@@ -10,8 +10,7 @@ use crate::options::{
     words_of_zones,
 };
 use dns_data::{Line, Names, NoMemory, Text};
-use option_words::{empty_why, once};
-use plugin_api::{DirectiveFault, DirectiveWhy};
+use plugin_api::{DirectiveFault, DirectiveWhy, empty_why, once};
 use std::alloc::Global;
 use zone_words::read_zones;
 

@@ -57,7 +57,7 @@ fn mark_weight(mark: &InnerMark) -> u64
     ensures { result ≡ until (weight_of mark.now) }
 {
     match mark {
-        InnerMark::Word(_) => 8,
+        InnerMark::Word(_) | InnerMark::Drawn(_, _) | InnerMark::Reported(_, _) => 8,
         InnerMark::Asked(_, _, message, outcome) => {
             (message.len() as u64).saturating_add(got_weight(outcome))
         }

@@ -1,15 +1,16 @@
 -- What a call of a shard's lock tells of the shard's history.
-use Rattle.std.proofs.Common.{◌≡◌, ℕ, List, [], ◌∷◌, ◌++◌, map, Option, Some, flat_map, option_to_list, refl, sym, ap}
+use Rattle.std.proofs.Common.{◌≡◌, ℕ, List, [], ◌∷◌, ◌++◌, map, Option, Some, flat_map, option_to_list, slice_get, refl, sym, ap}
 use Rattle.std.proofs.Common.{◌∙◌, subst, append-nil, append_assoc}
 use Rattle.std.proofs.lemmas.Option.{same_Some}
 use Rattle.std.specs.Arc.{arc_value}
 use Rattle.atomic_table.specs.Seated.{TableId}
 use Rattle.outside.specs.{EntryData}
+use Rattle.outside.specs.Keys.{shard_of}
 use Rattle.outside.specs.declared.entry.Key.{Key}
 use Rattle.outside.specs.declared.mark.Mark.{Mark}
 use Rattle.outside.specs.declared.mark.Mark.TheVariants as mark
 use Rattle.ruled_lock.specs.Histories.{Begins, Leads}
-use Rattle.ruled_lock.specs.Steps.{CanBe}
+use Rattle.ruled_lock.specs.Steps.{CanBe, OwnsApart}
 use Rattle.ruled_lock.specs.Calls.{IsCall, IsMeeting, called_view, own_calls, met_calls}
 use Rattle.cache_shards.specs.declared.calls.ShardCall.{ShardCall}
 use Rattle.cache_shards.specs.declared.calls.ShardCall.TheVariants.{Get, Put}
@@ -20,9 +21,10 @@ use Rattle.cache_shards.specs.Steps.{Steps, IsAllowed, IsEmpty}
 use Rattle.cache_shards.specs.Marks.{marks_of, all_marks}
 use Rattle.cache_shards.specs.Hits.{PutsAreJust, WasPut}
 use Rattle.cache_shards.specs.Calls.{IsJustCall}
-use Rattle.cache_shards.specs.Seats.{told, ShardView, ShardSeat, view_of, own_marks, met_marks, IsSeat, Adds, Meets}
+use Rattle.cache_shards.specs.Seats.{told, ShardView, ShardSeat, view_of, own_marks, met_marks, IsSeat, Adds, AddsAt, IsHit, Meets}
 use Rattle.cache_shards.proofs.ShardLaws.{legal, answered_rest}
-use Rattle.cache_shards.proofs.Hits.{just_along, judge_along, hit_stands, put_just, just_first}
+use Rattle.cache_shards.proofs.Hits.{just_along, judge_along, hit_stands, hit_lives, put_further, put_just, just_first}
+use Rattle.cache_shards.proofs.SeatLists.{get_set}
 
 pub flat_append : {A B : Type 0} (f : A → List B) (xs ys : List A)
     → flat_map f (xs ++ ys) ≡ flat_map f xs ++ flat_map f ys
@@ -102,31 +104,39 @@ module _ {J : Type 0} (just : J → EntryData → Type 0) where
         },
       )
 
--- the entry of a hit was put before in the shard's history, and is just
+-- the entry of a hit was put before in the shard's history, is live and just
 module _ {J : Type 0} (caps : Capacities) (just : EntryData → Type 0) where
-  pub hit_law : (view new : ShardView J) (key : Key) (now : ℕ) (e : EntryData)
-      → (h : Adds caps just view new (mark.Looked key now (Some e) ∷ [])) → WasPut key e h.before × just e
-  hit_law view new key now e h =
+  pub hit_law : (at : ℕ) (views news : List (ShardView J)) (key : Key) (now : ℕ) (e : EntryData) → at ≡ shard_of key
+      → AddsAt caps just at views news (mark.Looked key now (Some e) ∷ [])
+      → IsHit just news key now e
+  hit_law at views news key now e here a =
+      let h = a.adds in
       let m = mark.Looked key now (Some e) in
       let legal_here = subst (λ (l : List Mark). IsLegal caps l) h.seen h.legal in
-      let was : WasPut key e h.before = hit_stands caps h.before key now e (answered_rest caps [] h.before
-      (m ∷ []) legal_here).0 in (
-        was,
-        put_just just h.before key e (just_first just h.before (m ∷ []) (subst (λ
-            (l : List Mark). PutsAreJust just l) h.seen h.puts)) was,
-      )
+      let answered = (answered_rest caps [] h.before (m ∷ []) legal_here).0 in
+      let was : WasPut key e h.before = hit_stands caps h.before key now e answered in
+      record {
+        view = a.new;
+        is = ap (slice_get news) (sym here) ∙ ap (λ (l : List (ShardView J)). slice_get l at) a.is
+            ∙ get_set views at a.view a.new a.was;
+        was = subst (λ (l : List Mark). WasPut key e l) (sym h.seen) (put_further key e h.before (m ∷ []) was);
+        lives = hit_lives caps h.before key now e answered;
+        fair = put_just just h.before key e (just_first just h.before (m ∷ []) (subst (λ
+            (l : List Mark). PutsAreJust just l) h.seen h.puts)) was;
+      }
 
 map_append : {A B : Type 0} (f : A → B) (xs ys : List A) → map f (xs ++ ys) ≡ map f xs ++ map f ys
 map_append f [] ys = refl
 map_append f (x ∷ xs) ys = ap (λ (l : List _). f x ∷ l) (map_append f xs ys)
 
 module _ {J : Type 0} where
-  pub meets : (v w u : ShardView J) → IsMeeting v w u → own_calls u ≡ own_calls v
+  pub meets : (v w u : ShardView J) → OwnsApart u → IsMeeting v w u → own_calls u ≡ own_calls v
       → met_calls u ≡ met_calls v ++ own_calls w ∷ met_calls w → Meets v w u
-  meets v w u h own met = record {
+  meets v w u apart h own met = record {
     own = ap (λ (l : List (Option (ShardCall × ShardReply))). all_marks (told l)) own;
     met = ap (λ (l : List (List (Option (ShardCall × ShardReply)))). map (λ m. all_marks (told m)) l) met
         ∙ map_append (λ m. all_marks (told m)) (met_calls v) (own_calls w ∷ met_calls w);
     parts = (ap (λ (z : ShardView J). z.parts) h.0, ap (λ (z : ShardView J). z.all) h.0);
     begins = (h.1, h.2);
+    apart = apart;
   }

@@ -1,6 +1,6 @@
 -- The entry of a hit was put before, and is just.
 use Rattle.std.proofs.Common.{◌≡◌, ℕ, Bool, true, false, cond, ◌&&◌, List, [], ◌∷◌, ◌++◌, Option, Some, None, refl}
-use Rattle.std.proofs.Common.{sym, ap, ◌∙◌, subst}
+use Rattle.std.proofs.Common.{sym, ap, ◌∙◌, subst, append_assoc, IsTrue}
 use Rattle.std.specs.Option.{option_or}
 use Rattle.std.specs.Arc.{arc_value}
 use Rattle.std.proofs.lemmas.Bool.{and_parts, false≢true}
@@ -31,6 +31,23 @@ live_some now (Some d) e h = by_test (is_live d now) h
     by_test : (b : Bool) → cond b (Some d) None ≡ Some e → Some d ≡ Some e
     by_test true g = g
     by_test false g = cc
+
+live_lives : (now : ℕ) (o : Option EntryData) (e : EntryData) → live_at now o ≡ Some e → IsTrue (is_live e now)
+live_lives now None e h = cc
+live_lives now (Some d) e h = by_test (is_live d now) refl h
+  where
+    by_test : (b : Bool) → is_live d now ≡ b → cond b (Some d) None ≡ Some e → IsTrue (is_live e now)
+    by_test true p g = let one : d ≡ e = cc in subst (λ (z : EntryData). IsTrue (is_live z now)) one (rw p refl)
+    by_test false p g = cc
+
+-- a put stands among more marks too
+pub put_further : (key : Key) (e : EntryData) (before more : List Mark) → WasPut key e before
+    → WasPut key e (before ++ more)
+put_further key e before more was = (
+  was.0,
+  was.1 ++ more,
+  ap (λ (l : List Mark). l ++ more) was.2 ∙ append_assoc was.0 (mark.Put key e true ∷ was.1) more,
+)
 
 module _ (stands_in : Class → Bool) where
   put_here : (key : Key) (m : Mark) (e : EntryData) → put_of stands_in key m ≡ Some e → m ≡ mark.Put key e true
@@ -65,6 +82,24 @@ module _ (stands_in : Class → Bool) where
       by_test : (b : Bool) → cond b (live_at now (last_put stands_in key marks)) None ≡ Some e → WasPut key e marks
       by_test true g = put_stands key marks e (live_some now (last_put stands_in key marks) e g)
       by_test false g = cc
+
+  found_lives : (capacity : ℕ) (key : Key) (now : ℕ) (marks : List Mark) (e : EntryData)
+      → found stands_in capacity key now marks ≡ Some e → IsTrue (is_live e now)
+  found_lives capacity key now marks e h = by_test (is_kept same_key capacity key (uses stands_in marks)) h
+    where
+      by_test : (b : Bool) → cond b (live_at now (last_put stands_in key marks)) None ≡ Some e → IsTrue (is_live e now)
+      by_test true g = live_lives now (last_put stands_in key marks) e g
+      by_test false g = cc
+
+-- the entry of a hit is live
+pub hit_lives : (caps : Capacities) (before : List Mark) (key : Key) (now : ℕ) (e : EntryData)
+    → IsAnswered caps before (mark.Looked key now (Some e)) → IsTrue (is_live e now)
+hit_lives caps before key now e h = by_cases (found is_denial caps.denial key now before) refl (sym h)
+  where
+    by_cases : (o : Option EntryData) → found is_denial caps.denial key now before ≡ o
+        → option_or o (found is_success caps.success key now before) ≡ Some e → IsTrue (is_live e now)
+    by_cases (Some d) g k = found_lives is_denial caps.denial key now before e (g ∙ k)
+    by_cases None g k = found_lives is_success caps.success key now before e k
 
 -- the entry of a hit was put before
 pub hit_stands : (caps : Capacities) (before : List Mark) (key : Key) (now : ℕ) (e : EntryData)

@@ -115,11 +115,11 @@ module _ {J : Type 0} where
   view_at (x ∷ seats) zero s is = ap (λ (z : ShardSeat J). Some (view_of z)) (same_Some x s is)
   view_at (x ∷ seats) (suc at) s is = view_at seats at s is
 
-  view_set : (seats : List (ShardSeat J)) (at : ℕ) (s t : ShardSeat J) → slice_get seats at ≡ Some s
-      → slice_get (views_of (set seats at t)) at ≡ Some (view_of t)
-  view_set [] at s t is = cc
-  view_set (x ∷ seats) zero s t is = refl
-  view_set (x ∷ seats) (suc at) s t is = view_set seats at s t is
+  pub views_set : (seats : List (ShardSeat J)) (at : ℕ) (t : ShardSeat J)
+      → views_of (set seats at t) ≡ set (views_of seats) at (view_of t)
+  views_set [] at t = refl
+  views_set (x ∷ seats) zero t = refl
+  views_set (x ∷ seats) (suc at) t = ap (λ (l : List (ShardView J)). view_of x ∷ l) (views_set seats at t)
 
   map_set : {A : Type 0} (f : ShardView J → A) (seats : List (ShardSeat J)) (at : ℕ) (s t : ShardSeat J)
       → slice_get seats at ≡ Some s → f (view_of t) ≡ f (view_of s)
@@ -150,15 +150,9 @@ module _ {J : Type 0} where
     view = view_of s;
     new = view_of t;
     was = view_at seats at s is;
-    is = view_set seats at s t is;
+    is = views_set seats at t;
     adds = h;
   }
-
-  pub views_set : (seats : List (ShardSeat J)) (at : ℕ) (t : ShardSeat J)
-      → views_of (set seats at t) ≡ set (views_of seats) at (view_of t)
-  views_set [] at t = refl
-  views_set (x ∷ seats) zero t = refl
-  views_set (x ∷ seats) (suc at) t = ap (λ (l : List (ShardView J)). view_of x ∷ l) (views_set seats at t)
 
   pub parts_at : (least : ℕ) (seats : List (ShardSeat J)) (at : ℕ) (s : ShardSeat J)
       → HaveParts least (views_of seats) → slice_get seats at ≡ Some s → least ≤ (view_of s).parts

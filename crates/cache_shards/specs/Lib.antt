@@ -4,5 +4,6 @@ pub mod Steps
 pub mod Marks
 pub mod Hits
 pub mod Calls
+pub mod Planned
 pub mod Merges
 pub mod Seats

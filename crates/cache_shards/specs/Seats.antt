@@ -1,24 +1,28 @@
 -- Seats at the shards of a cache, and what their calls tell.
 use Rattle.std.specs.Prelude.{◌≡◌, ℕ, zero, suc, ◌+◌, ◌≤◌, List, [], ◌∷◌, ◌++◌, map, flat_map, slice_get, slice_set}
-use Rattle.std.specs.Prelude.{Option, Some, option_to_list, length}
+use Rattle.std.specs.Prelude.{Option, Some, option_to_list, length, IsTrue}
+use Rattle.std.specs.Arc.{arc_value}
 use Rattle.std.specs.List.{AllByRecursion}
 use Rattle.atomic_table.specs.Seated.{TableId}
 use Rattle.outside.specs.{EntryData}
+use Rattle.outside.specs.Keys.{shard_of}
 use Rattle.outside.specs.declared.entry.Key.{Key}
 use Rattle.outside.specs.declared.mark.Mark.{Mark}
 use Rattle.outside.specs.declared.mark.Mark.TheVariants as mark
 use Rattle.ruled_lock.specs.declared.rule.View.{View}
 use Rattle.ruled_lock.specs.declared.seat.SeatOf.{SeatOf}
 use Rattle.ruled_lock.specs.Histories.{Begins}
-use Rattle.ruled_lock.specs.Steps.{left_view, right_view}
+use Rattle.ruled_lock.specs.Steps.{OwnsApart, left_view, right_view}
 use Rattle.ruled_lock.specs.Calls.{own_calls, met_calls}
+use Rattle.cache_shards.specs.declared.calls.Looked.{Looked}
+use Rattle.cache_shards.specs.declared.calls.Looked.TheVariants as looked
 use Rattle.cache_shards.specs.declared.calls.ShardCall.{ShardCall}
 use Rattle.cache_shards.specs.declared.calls.ShardReply.{ShardReply}
 use Rattle.cache_shards.specs.declared.shard.Shard.{Shard}
-use Rattle.cache_shards.specs.Answers.{Capacities, Room, IsLegal}
+use Rattle.cache_shards.specs.Answers.{Capacities, Room, IsLegal, is_live}
 use Rattle.cache_shards.specs.Steps.{IsEmpty}
 use Rattle.cache_shards.specs.Marks.{all_marks}
-use Rattle.cache_shards.specs.Hits.{PutsAreJust}
+use Rattle.cache_shards.specs.Hits.{PutsAreJust, WasPut}
 use Rattle.cache_shards.specs.Merges.{Merges}
 
 -- the calls, where each is told
@@ -60,7 +64,8 @@ module _ {J : Type 0} where
   met_marks view = map (λ calls. all_marks (told calls)) (met_calls view)
 
   -- a seat at this lock, whose shard began empty and with this judge
-  pub record IsSeat (capacities : Capacities) (judge : J) (id : TableId) (seat : ShardSeat J) : Type 0 where
+  pub record IsSeat (capacities : Capacities) (judge : J) (id : TableId) (seat : ShardSeat J)
+      : Type 0 where
     pub own : seat.seat.table_id ≡ id
     pub start : Shard J
     pub starts : (view_of seat).start ≡ Some start
@@ -97,9 +102,9 @@ module _ {J : Type 0} where
   abbrev pub logs : List (ShardView J) → List (List Mark)
   logs views = map own_marks views
 
-  -- a call of one shard added these marks there, and nothing else
-  pub record AddsAt (capacities : Capacities) (just : EntryData → Type 0) (at : ℕ) (views news : List (ShardView J))
-      (marks : List Mark) : Type 0 where
+  -- a call of one shard added these marks there, and left the views of the others as they were
+  pub record AddsAt (capacities : Capacities) (just : EntryData → Type 0) (at : ℕ)
+      (views news : List (ShardView J)) (marks : List Mark) : Type 0 where
     pub logs : logs news ≡ added_at at marks (logs views)
     pub met : map met_marks news ≡ map met_marks views
     pub parts : (map (λ v. v.parts) news ≡ map (λ v. v.parts) views)
@@ -107,8 +112,23 @@ module _ {J : Type 0} where
     pub view : ShardView J
     pub new : ShardView J
     pub was : slice_get views at ≡ Some view
-    pub is : slice_get news at ≡ Some new
+    pub is : news ≡ slice_set views at new
     pub adds : Adds capacities just view new marks
+
+  -- The entry of a hit: it was put under this key, and kept, among what the seat has seen of the
+  -- key's shard; it is live, and just.
+  pub record IsHit (just : EntryData → Type 0) (news : List (ShardView J)) (key : Key) (now : ℕ)
+      (entry : EntryData) : Type 0 where
+    pub view : ShardView J
+    pub is : slice_get news (shard_of key) ≡ Some view
+    pub was : WasPut key entry (all_marks view.seen)
+    pub lives : IsTrue (is_live entry now)
+    pub fair : just entry
+
+  -- what a get tells of its entry, where it is a hit
+  abbrev pub IsHitOf : (EntryData → Type 0) → List (ShardView J) → Key → ℕ → Looked → Type 0
+  IsHitOf just news key now (looked.Hit entry) = IsHit just news key now (arc_value entry)
+  IsHitOf just news key now result = Unit {0}
 
   -- each view has so many parts at least
   abbrev pub HaveParts : ℕ → List (ShardView J) → Type 0
@@ -121,16 +141,19 @@ module _ {J : Type 0} where
     pub left : news ≡ slice_set views at (left_view view)
     pub right_is : right ≡ right_view view
 
-  -- a view takes over the parts and logs of another
+  -- a view takes over the parts and logs of another; no mark stands in two of its logs, or twice in
+  -- one
   pub record Meets (view other new : ShardView J) : Type 0 where
     pub own : own_marks new ≡ own_marks view
     pub met : met_marks new ≡ met_marks view ++ own_marks other ∷ met_marks other
     pub parts : (new.parts ≡ view.parts + other.parts) × (new.all ≡ view.all)
     pub begins : Begins view.seen new.seen × Begins other.seen new.seen
+    pub apart : OwnsApart new
 
   -- a view that knows the whole history of its shard: it is legal, what was put into it is just,
   -- and it has each mark of the view's logs once, in the order of each
-  pub record IsWhole (capacities : Capacities) (just : EntryData → Type 0) (view : ShardView J) : Type 0 where
+  pub record IsWhole (capacities : Capacities) (just : EntryData → Type 0) (view : ShardView J)
+      : Type 0 where
     pub legal : IsLegal capacities (all_marks view.seen)
     pub puts : PutsAreJust just (all_marks view.seen)
     pub merges : Merges (own_marks view ∷ met_marks view) (all_marks view.seen)
@@ -144,8 +167,8 @@ module _ {J : Type 0} where
   HaveAll views = (at : ℕ) (v : ShardView J) → slice_get views at ≡ Some v → v.parts ≡ v.all
 
   -- one view takes over another's parts and logs
-  pub record MeetsAt (at : ℕ) (views : List (ShardView J)) (other : ShardView J) (news : List
-      (ShardView J)) : Type 0 where
+  pub record MeetsAt (at : ℕ) (views : List (ShardView J)) (other : ShardView J)
+      (news : List (ShardView J)) : Type 0 where
     pub view : ShardView J
     pub new : ShardView J
     pub was : slice_get views at ≡ Some view

@@ -6,18 +6,20 @@ ghost use Rattle.std.specs.NonZero.{non_zero_usize_get};
 ghost use Rattle.outside.specs.Keys.{shard_of};
 ghost use Rattle.ruled_lock.specs.Steps.{left_view, right_view};
 ghost use Rattle.cache_shards.specs.Answers.{Room, capacities_of};
+ghost use Rattle.cache_shards.specs.Planned.{planned_capacities};
 ghost use Rattle.cache_shards.specs.Marks.{marks_of};
 ghost use Rattle.cache_shards.specs.Seats.{Adds, AddsAt, AreNew, CutsAt};
 ghost use Rattle.cache_shards.specs.Seats.{HasPartsAt, HaveAll, HaveParts, IsSeat, IsSeatOf};
-ghost use Rattle.cache_shards.specs.Seats.{IsNewView, IsWhole, MeetAll, Meets};
+ghost use Rattle.cache_shards.specs.Seats.{IsHitOf, IsNewView, IsWhole, MeetAll, Meets};
 ghost use Rattle.cache_shards.specs.Seats.{MeetsAt, WholeAt, view_of, views_of};
-ghost use Rattle.cache_shards.specs.Calls.{DoesNothingOr, IsHitOf, IsJustCall, looked_marks};
+ghost use Rattle.cache_shards.specs.Calls.{DoesNothingOr, IsJustCall, looked_marks};
 ghost use Rattle.cache_shards.specs.Calls.{put_marks};
 
 use crate::calls::{Kept, Looked, ShardCall, ShardReply};
 use crate::judge::Judge;
 use crate::shard::{Shard, Stores};
 use crate::store::Store;
+use cache_rules::CachePlan;
 use dns_data::{Copies, NoMemory};
 use outside::{Entry, Key};
 use ruled_lock::{LockSeat, Locked};
@@ -40,13 +42,14 @@ pub struct Cache<J: Judge> {
 impl<J: Judge> Model for Cache<J> {
     ghost use Rattle.std.specs.Prelude.{◌≡◌, ◌<◌, map, length};
     ghost use Rattle.std.specs.NonZero.{non_zero_usize_get};
+    ghost use Rattle.cache_shards.specs.Answers.{capacities_of};
     ghost use Rattle.cache_shards.specs.Seats.{CacheData};
 
     ghost Value = { CacheData J };
 
     ghost view = { λ c. record {
       judge = c.judge.value;
-      capacities = record { success = non_zero_usize_get c.success; denial = non_zero_usize_get c.denial };
+      capacities = capacities_of (non_zero_usize_get c.success) (non_zero_usize_get c.denial);
       ids = map (λ l. l.table.shared.table_id) c.locks.items;
     } };
 
@@ -61,9 +64,29 @@ pub struct CacheSeat<J: Judge> {
 }
 
 impl<J: Judge + Drop> Cache<J> {
-    /// An empty cache, whose stores keep so many keys each, and a seat with all parts. The judge
-    /// stands in proofs alone from then on. Hashes begin with the seed, which clients can't know.
+    /// An empty cache with the capacities of a plan, and a seat with all parts. The judge stands in
+    /// proofs alone from then on. Hashes begin with the seed, which clients can't know.
     pub fn new(
+        alloc: Global,
+        plan: &CachePlan,
+        judge: J,
+        parts: u64,
+        seed: Seed,
+    ) -> Result<(Cache<J>, CacheSeat<J>), NoMemory>
+        requires { 0 < parts }
+        ensures own { IfOk result (λ r. IsSeatOf r.0 r.1.seats.items) }
+        ensures cache { IfOk result (λ r. (r.0.judge ≡ judge)
+            × (r.0.capacities ≡ planned_capacities plan.now)) }
+        ensures new { IfOk result (λ r. AreNew parts (views_of r.1.seats.items)) }
+    {
+        let rules = plan.settings();
+        let success = rules.success.shard_room();
+        let denial = rules.denial.shard_room();
+        Cache::with_room(alloc, success, denial, judge, parts, seed)
+    }
+
+    // Each store of each shard keeps so many keys.
+    fn with_room(
         alloc: Global,
         success: NonZeroUsize,
         denial: NonZeroUsize,
@@ -192,7 +215,8 @@ impl<J: Judge> Cache<J> {
             (AddsAt self.now.capacities (J.just self.now.judge) (shard_of key.now)
             (views_of seat.old.seats.items) (views_of seat.new.seats.items)
             (looked_marks key.now now result)) }
-        ensures just { IsHitOf (J.just self.now.judge) result }
+        ensures hit { IsHitOf (J.just self.now.judge) (views_of seat.new.seats.items) key.now now
+            result }
     {
         let Ok(copy) = key.copy(alloc) else {
             return Looked::NoMemory;

@@ -5,6 +5,7 @@ mod counting;
 mod making;
 mod rows;
 mod running;
+mod weights;
 
 use dns_data::NoMemory;
 use rows::{ends, lifetimes, three_in_two};
@@ -12,6 +13,7 @@ use running::{Room, history};
 use std::alloc::Global;
 use std::io;
 use std::sync::Wait;
+use weights::is_kept;
 
 // Answers that counting doesn't give, of histories in stores of one to nine entries.
 fn faults<R: Wait>(rt: &R, alloc: Global, many: u64) -> Result<u64, NoMemory> {
@@ -19,14 +21,17 @@ fn faults<R: Wait>(rt: &R, alloc: Global, many: u64) -> Result<u64, NoMemory> {
         Room {
             success: 1,
             denial: 1,
+            words: ("8", "8"),
         },
         Room {
             success: 2,
             denial: 3,
+            words: ("16", "17"),
         },
         Room {
             success: 9,
             denial: 8,
+            words: ("72", "64"),
         },
     ];
     let mut faults: u64 = 0;
@@ -48,6 +53,12 @@ fn main(rt: HostRuntime) -> io::Result<()> {
     match lifetimes(&rt, rt.alloc()) {
         Ok(row) => println!(rt; "the shortest and the longest lifetime {row}")?,
         Err(_) => println!(rt; "no memory")?,
+    }
+    for weight in [16_384, 16_385] {
+        match is_kept(rt.alloc(), weight) {
+            Ok(kept) => println!(rt; "an entry of {weight} may be kept {kept}")?,
+            Err(_) => println!(rt; "no memory")?,
+        }
     }
     match faults(&rt, rt.alloc(), 100_000) {
         Ok(faults) => println!(rt; "faults of 300000 calls {faults}"),

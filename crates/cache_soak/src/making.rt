@@ -1,8 +1,9 @@
 //! Keys and entries, made by a few numbers.
 ghost use Rattle.std.specs.Prelude.{◌≡◌, ◌<◌, ◌^◌, IfOk};
 
+use cache_rules::CachePlan;
 use cache_shards::Judge;
-use dns_data::{Addr, Answer, Name, NoMemory, Query, Seq, Transport};
+use dns_data::{Addr, Answer, Directive, Line, Name, NoMemory, Query, Seq, Text, Texts, Transport};
 use outside::{Class, Entry, Key};
 use std::alloc::Global;
 
@@ -68,4 +69,30 @@ pub fn key(alloc: Global, text: &[u8], kind: u16) -> Result<Key, NoMemory> {
         dnssec: false,
         cd: false,
     })
+}
+
+/// What a directive says with these capacities, which all shards have together.
+pub fn plan(alloc: Global, success: &str, denial: &str) -> Result<CachePlan, NoMemory> {
+    let mut body = Seq::new(alloc);
+    body.push(line(alloc, "success", success)?)?;
+    body.push(line(alloc, "denial", denial)?)?;
+    let directive = Directive {
+        name: Text::from_str(alloc, "cache")?,
+        args: Seq::new(alloc),
+        body,
+        line: 1,
+    };
+    let mut zones = Seq::new(alloc);
+    zones.push(Name::root(alloc))?;
+    match CachePlan::read(alloc, &directive, &zones) {
+        Ok(plan) => Ok(plan),
+        Err(_) => Err(NoMemory),
+    }
+}
+
+fn line(alloc: Global, option: &str, word: &str) -> Result<Line, NoMemory> {
+    let mut words: Texts = Seq::new(alloc);
+    words.push(Text::from_str(alloc, option)?)?;
+    words.push(Text::from_str(alloc, word)?)?;
+    Ok(Line { words, number: 2 })
 }

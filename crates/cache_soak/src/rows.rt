@@ -2,13 +2,12 @@
 ghost use Rattle.std.specs.Prelude.{◌<◌, ◌^◌};
 ghost use Rattle.cache_shards.specs.Seats.{IsSeatOf};
 
-use crate::making::{Anything, Made, entry, key};
+use crate::making::{Anything, Made, entry, key, plan};
 use cache_shards::{Cache, CacheSeat, Kept, Looked};
 use dns_data::NoMemory;
 use outside::{Class, Key};
 use seeded_hash::Seed;
 use std::alloc::Global;
-use std::num::NonZeroUsize;
 use std::sync::{Arc, Wait};
 
 /// A get: the number of the entry, or none.
@@ -79,12 +78,10 @@ pub struct Ask<'a> {
     pub life: u32,
 }
 
-// Gets of a new cache, whose stores keep so many entries a shard.
-fn row<R: Wait>(rt: &R, alloc: Global, room: usize, asks: &[Ask<'_>]) -> Result<String, NoMemory> {
-    let Some(most) = NonZeroUsize::new(room) else {
-        return Err(NoMemory);
-    };
-    let (cache, mut seat) = Cache::new(alloc, most, most, Anything, 1, Seed::new(5, 7))?;
+// Gets of a new cache, whose stores keep so many entries in all shards together.
+fn row<R: Wait>(rt: &R, alloc: Global, room: &str, asks: &[Ask<'_>]) -> Result<String, NoMemory> {
+    let plan = plan(alloc, room, room)?;
+    let (cache, mut seat) = Cache::new(alloc, &plan, Anything, 1, Seed::new(5, 7))?;
     letters(rt, alloc, &cache, &mut seat, asks)
 }
 
@@ -128,7 +125,7 @@ pub fn ends<R: Wait>(rt: &R, alloc: Global) -> Result<String, NoMemory> {
         at(name, 10_000, 10),
         at(name, 9_000, 10),
     ];
-    row(rt, alloc, 1_248, asks.as_slice())
+    row(rt, alloc, "9984", asks.as_slice())
 }
 
 /// Three names in a shard of two entries.
@@ -144,7 +141,7 @@ pub fn three_in_two<R: Wait>(rt: &R, alloc: Global) -> Result<String, NoMemory> 
         at(a, 0, 60),
         at(i, 0, 60),
     ];
-    row(rt, alloc, 2, asks.as_slice())
+    row(rt, alloc, "16", asks.as_slice())
 }
 
 /// The shortest and the longest lifetime.
@@ -158,5 +155,5 @@ pub fn lifetimes<R: Wait>(rt: &R, alloc: Global) -> Result<String, NoMemory> {
         at(long, 2_147_483_647_004, 1),
         at(long, 2_147_483_647_005, 1),
     ];
-    row(rt, alloc, 1, asks.as_slice())
+    row(rt, alloc, "8", asks.as_slice())
 }

@@ -3,14 +3,13 @@ ghost use Rattle.std.specs.Prelude.{◌<◌, ◌^◌};
 ghost use Rattle.cache_shards.specs.Seats.{IsSeatOf};
 
 use crate::counting::{Use, found};
-use crate::making::{Anything, Made, key};
+use crate::making::{Anything, Made, key, plan};
 use crate::rows::{get, put};
 use cache_shards::{Cache, CacheSeat};
 use dns_data::NoMemory;
 use outside::{Class, Key};
 use seeded_hash::Seed;
 use std::alloc::Global;
-use std::num::NonZeroUsize;
 use std::sync::Wait;
 
 // The uses of both stores of one shard.
@@ -44,11 +43,12 @@ impl Uses {
     }
 }
 
-/// How many entries each store of a shard keeps.
+/// How many entries each store of a shard keeps, and the words for what all shards do.
 #[derive(Clone, Copy)]
 pub struct Room {
     pub success: u32,
     pub denial: u32,
+    pub words: (&'static str, &'static str),
 }
 
 // The uses of two shards.
@@ -191,13 +191,8 @@ fn turns<R: Wait>(
 
 /// How many of so many calls answer otherwise than counting does.
 pub fn history<R: Wait>(rt: &R, alloc: Global, room: Room, many: u64) -> Result<u64, NoMemory> {
-    let Some(success) = NonZeroUsize::new(room.success as usize) else {
-        return Err(NoMemory);
-    };
-    let Some(denial) = NonZeroUsize::new(room.denial as usize) else {
-        return Err(NoMemory);
-    };
-    let (cache, mut seat) = Cache::new(alloc, success, denial, Anything, 1, Seed::new(3, 9))?;
+    let plan = plan(alloc, room.words.0, room.words.1)?;
+    let (cache, mut seat) = Cache::new(alloc, &plan, Anything, 1, Seed::new(3, 9))?;
     let mut counts = Counts {
         even: Uses::new(alloc),
         odd: Uses::new(alloc),

@@ -14,8 +14,8 @@ pub record IsWord (locked : Bool) (calls : ℕ) (words : List ℕ) : Type 0 wher
   pub wide : length words ≡ 1
   pub word : slice_index words 0 ≡ 2 * calls + (if locked then 1 else 0)
 
--- the lock as it stands: what `new` was given, whether it is held and by which seat, the object, and
--- the history
+-- the lock as it stands: what `new` was given, whether it is held and by which seat, the object,
+-- and the history
 pub record Standing (O K R : Type 0) : Type 0 where
   pub first : O
   pub parts : ℕ
@@ -43,11 +43,11 @@ module _ {O K R : Type 0} where
   owned p v = times p v.own + times_in p v.met
 
   -- while it isn't held, the object is at home
-  pub record IsHome (locked : Bool) (now : O) (homes : List (maybe.Option (Option (Kept O K R)))) : Type 0
-    where
-      pub deep : length homes ≡ 1
-      pub home : locked ≡ false
-          → (k : Kept O K R) × (get_elem? homes 0 ≡ some (some (Some k))) × (k.object ≡ now)
+  pub record IsHome (locked : Bool) (now : O) (homes : List (maybe.Option (Option (Kept O K R))))
+      : Type 0 where
+    pub deep : length homes ≡ 1
+    pub home : locked ≡ false
+        → (k : Kept O K R) × (get_elem? homes 0 ≡ some (some (Some k))) × (k.object ≡ now)
 
   -- the parts add up, and each place is owned once
   pub record IsShared (parts calls : ℕ) (views : List (View O K R)) : Type 0 where

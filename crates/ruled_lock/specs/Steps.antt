@@ -85,8 +85,8 @@ module _ {O K R : Type 0} where
   abbrev pub OwnsAll : View O K R → Type 0
   OwnsAll v = v.parts ≡ v.all → (p : ℕ) → owned p v ≡ once_below p (length v.seen)
 
-  -- no place stands in two of the seat's lists, or twice in one; and it has no more parts than there
-  -- are
+  -- no place stands in two of the seat's lists, or twice in one; and it has no more parts than
+  -- there are
   abbrev pub OwnsApart : View O K R → Type 0
   OwnsApart v = ((p : ℕ) → owned p v ≤ 1) × (v.parts ≤ v.all)
 

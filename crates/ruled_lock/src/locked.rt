@@ -103,7 +103,8 @@ impl<O: Object> Locked<O> {
     /// wait for other seats' calls.
     pub fn call<R: Wait>(&self, rt: &R, seat: &mut LockSeat<O>, call: O::Call) -> O::Reply
         requires own { IsAt self.now.table.shared.table_id seat.old }
-        requires allowed { (x : O) → CanBe O.step O.allowed (view_of seat.old) x → O.allowed x call }
+        requires allowed { (x : O) → CanBe O.step O.allowed (view_of seat.old) x
+            → O.allowed x call }
         ensures own { StaysAt seat.old seat.new }
         ensures history { IsCall O.step O.allowed (view_of seat.old) call result
             (view_of seat.new) }
@@ -176,8 +177,8 @@ impl<O: Object> Locked<O> {
         self.table.shared.load::<Looks<O>>(&mut seat.seat, 0);
     }
 
-    /// What a seat with all parts knows: its history is the lock's, and each call of it stands in one
-    /// of its lists, once.
+    /// What a seat with all parts knows: its history is the lock's, and each call of it stands in
+    /// one of its lists, once.
     pub fn whole(&self, seat: &mut LockSeat<O>)
         requires own { IsAt self.now.table.shared.table_id seat.old }
         requires all { (view_of seat.old).parts ≡ (view_of seat.old).all }

@@ -17,5 +17,6 @@ pub trait Object {
         ensures { step self.old call result self.new };
 
     // what is allowed stays allowed
-    ghost stays: { (x : Self) (c : Self.Call) (other : Self.Call) (r : Self.Reply) (y : Self) → allowed x c → step x other r y → allowed y c };
+    ghost stays: { (x : Self) (c : Self.Call) (other : Self.Call) (r : Self.Reply) (y : Self)
+        → allowed x c → step x other r y → allowed y c };
 }

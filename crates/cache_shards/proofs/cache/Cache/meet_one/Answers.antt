@@ -15,4 +15,4 @@ returns-clause-own g c =
 pub returns-clause-meets : goal.returns-clause-meets
 returns-clause-meets g c =
     let e = c.meet.ensures in
-    meets c.args.seat.now.seat.me.0 c.args.other.seat.me.0 c.meet.new.seat.seat.me.0 e.met e.calls.0 e.calls.1
+    meets c.args.seat.now.seat.me.0 c.args.other.seat.me.0 c.meet.new.seat.seat.me.0 e.apart e.met e.calls.0 e.calls.1

@@ -3,7 +3,7 @@ use Rattle.std.specs.Vec.{vec_len, vec_capacity}
 use Rattle.std.specs.NonZero.{non_zero_usize_get}
 use Rattle.cache_shards.specs.Answers.{capacities_of}
 use Rattle.cache_shards.specs.Seats.{AreSeats, AreNew, views_of}
-use Rattle.cache_shards.proofs.cache.Cache.new.Given as goal
+use Rattle.cache_shards.proofs.cache.Cache.with_room.Given as goal
 
 abbrev pub invariant-loop-at : goal.invariant-loop-at
 invariant-loop-at g l = AreSeats (capacities_of (non_zero_usize_get l.fn.success)

@@ -3,7 +3,7 @@ use Rattle.std.specs.NonZero.{non_zero_usize_get}
 use Rattle.cache_shards.specs.Answers.{capacities_of}
 use Rattle.cache_shards.specs.Seats.{IsSeat}
 use Rattle.cache_shards.proofs.SeatLists.{seats_more, new_more}
-use Rattle.cache_shards.proofs.cache.Cache.new.Goals as goal
+use Rattle.cache_shards.proofs.cache.Cache.with_room.Goals as goal
 
 pub loop-at-preserved : goal.loop-at-preserved
 loop-at-preserved g c =

@@ -8,10 +8,9 @@ use Rattle.plugin_api.specs.declared.fault.DirectiveFault.{DirectiveFault}
 use Rattle.plugin_api.specs.declared.fault.DirectiveFault.TheVariants as fault
 use Rattle.plugin_api.specs.declared.fault.DirectiveWhy.TheVariants as why
 use Rattle.type_names.specs.{kind_of_text}
+use Rattle.rewrite_plugin.specs.Shapes.{Matcher, Rule}
 use Rattle.rewrite_plugin.specs.declared.matching.Matching.{Matching}
 use Rattle.rewrite_plugin.specs.declared.rule.Answering.TheVariants as answering
-use Rattle.rewrite_plugin.specs.declared.rule.Matcher.{Matcher}
-use Rattle.rewrite_plugin.specs.declared.rule.Rule.{Rule}
 use Rattle.rewrite_plugin.specs.declared.rule.Rule.TheVariants as rule
 use Rattle.pattern_judging.specs.Tasks.{refusals_behind}
 use Rattle.rewrite_plugin.specs.Words.{Reading, answering_in, answers_in, behind_flow, body_in, end_map, ends_with, first_in, goes_on, in_front, is_empty, last_end, line_in, lines_in, matcher_of, one, reading_of, renaming_by, renaming_in, renaming_of, renaming_to, replacing_in, rule_in, rule_of, seconds_in, sought_in, ttl_by, ttl_of, ttl_to, type_end, type_of, type_to, with_answers, without_body, written}

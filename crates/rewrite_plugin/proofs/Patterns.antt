@@ -10,17 +10,13 @@ use Rattle.plugin_api.specs.declared.fault.DirectiveFault.TheVariants as fault
 use Rattle.plugin_api.specs.declared.fault.DirectiveWhy.{DirectiveWhy}
 use Rattle.plugin_api.specs.declared.fault.DirectiveWhy.TheVariants as why
 use Rattle.type_names.specs.{kind_of_text}
+use Rattle.rewrite_plugin.specs.Shapes.{Answering, Matcher, Renaming, Rule, Written}
 use Rattle.rewrite_plugin.specs.declared.matching.Matching.{Matching}
 use Rattle.rewrite_plugin.specs.declared.matching.Matching.TheVariants as matching
-use Rattle.rewrite_plugin.specs.declared.rule.Answering.{Answering}
 use Rattle.rewrite_plugin.specs.declared.rule.Answering.TheVariants as answering
-use Rattle.rewrite_plugin.specs.declared.rule.Matcher.{Matcher}
-use Rattle.rewrite_plugin.specs.declared.rule.Renaming.{Renaming}
-use Rattle.rewrite_plugin.specs.declared.rule.Rule.{Rule}
 use Rattle.rewrite_plugin.specs.declared.rule.Rule.TheVariants as rule
-use Rattle.rewrite_plugin.specs.declared.rule.Written.{Written}
 use Rattle.rewrite_plugin.specs.declared.words.PatternAt.{PatternAt}
-use Rattle.rewrite_plugin.specs.Made.{answering_patterns, answers_patterns, rule_patterns}
+use Rattle.rewrite_plugin.specs.Made.{answering_patterns, answers_patterns, renaming_patterns, rule_patterns}
 use Rattle.rewrite_plugin.specs.Reading.{texts_of}
 use Rattle.rewrite_plugin.specs.Rules.{matcher_patterns}
 use Rattle.rewrite_plugin.specs.Words.{Reading, answering_in, answers_in, behind_flow, behind_patterns, body_in, end_map, ends_with, first_in, goes_on, in_front, is_empty, last, line_in, lines_in, made_of, matcher_of, one, patterns_by, patterns_if, reading_of, refused, renaming_by, renaming_in, renaming_of, renaming_to, replacing_in, rule_in, rule_of, seconds_in, sought_in, ttl_by, ttl_of, ttl_to, type_in, type_of, type_to, with_answers, without_body, written}
@@ -73,10 +69,6 @@ answers_are line (word ∷ words) value e =
     if_are answers_patterns (is_word word (codes "answer")) (made_of one (answering_in line words)) (refused line why.Args)
     (made_are answers_patterns one (answering_in line words) (λ value e. answering_are line words value e ∙ sym (append-nil (answering_patterns value))))
     (refused_are answers_patterns line why.Args) value e
-
--- the patterns of a rule that renames
-abbrev renaming_patterns : Renaming → List (List ℕ)
-renaming_patterns r = matcher_patterns r.from ++ answers_patterns r.answers
 
 sought_are : (by : Matching) (line : ℕ) (word : List ℕ) → texts_of (patterns_if by line word) ≡ matcher_patterns (matcher_of by word)
 sought_are matching.Exact line word = refl

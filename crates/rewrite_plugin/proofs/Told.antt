@@ -1,5 +1,5 @@
 -- What reading a directive answers, by its words and by what became of its patterns.
-use Rattle.std.proofs.Common.{◌≡◌, ◌∙◌, ℕ, ◌+◌, List, [], length, Some, Result, Ok, Err, refl, sym, ap, subst, arith, inl, inr}
+use Rattle.std.proofs.Common.{◌≡◌, ◌∙◌, ℕ, suc, ◌+◌, List, [], ◌∷◌, length, Some, Result, Ok, Err, refl, sym, ap, subst, arith, inl, inr}
 use Rattle.std.proofs.lemmas.List.{append-nil}
 use Rattle.dns_data.specs.declared.directive.Directive.{Directive}
 use Rattle.outside.specs.{WatchState, with_refusals}
@@ -7,11 +7,11 @@ use Rattle.pattern_judging.specs.Tasks.{IsWell, Refuses, Task, at_line, refusals
 use Rattle.pattern_judging.specs.TasksLaws.{fault-plain, fault_behind, refuses_first, well-plain, well_behind}
 use Rattle.plugin_api.specs.declared.fault.DirectiveFault.{DirectiveFault}
 use Rattle.plugin_api.specs.declared.fault.DirectiveFault.TheVariants as fault
-use Rattle.rewrite_plugin.specs.declared.rule.Written.{Written}
+use Rattle.rewrite_plugin.specs.Shapes.{Written}
 use Rattle.rewrite_plugin.specs.declared.words.PatternAt.{PatternAt}
 use Rattle.rewrite_plugin.specs.Judging.{ReadsRewrite, patterns_task, rewrite_task}
 use Rattle.rewrite_plugin.specs.Reading.{fault_of, patterns_of, rewrite_fault, texts_of}
-use Rattle.rewrite_plugin.specs.Made.{IsMade}
+use Rattle.rewrite_plugin.specs.Made.{IsMade, rule_patterns}
 use Rattle.rewrite_plugin.specs.Rewrite.{if_read, written_of}
 use Rattle.rewrite_plugin.specs.Words.{reading_of}
 use Rattle.rewrite_plugin.proofs.Patterns.{patterns_are}
@@ -77,16 +77,19 @@ faulty_at number d found refused e well h = faulty number d refused (subst (λ (
 pub good_at : (number : ℕ) (d : Directive) (found : List PatternAt) (w : Written) → found ≡ (reading_of d).patterns → IsWell (patterns_task number found) → (reading_of d).end ≡ Ok w → IsWell (rewrite_task number d)
 good_at number d found w e well h = good number d w (subst (λ (l : List PatternAt). IsWell (patterns_task number l)) e well) h
 
+texts_long : (patterns : List PatternAt) → length (texts_of patterns) ≡ length patterns
+texts_long [] = refl
+texts_long (p ∷ patterns) = ap suc (texts_long patterns)
+
 -- what the plan has was made of the directive
-pub is_made : (d : Directive) (found : List PatternAt) (w : Written) (finders : List (List ℕ)) → found ≡ (reading_of d).patterns → finders ≡ texts_of found → (reading_of d).end ≡ Ok w → IsMade d w finders
+pub is_made : (d : Directive) (found : List PatternAt) (w : Written) (many : ℕ) → found ≡ (reading_of d).patterns → many ≡ length found → (reading_of d).end ≡ Ok w → IsMade d w many
 unfolding written_of
-is_made d found w finders e f h = record { read = ap if_read h; patterns = f ∙ ap texts_of e ∙ patterns_are d w h }
+is_made d found w many e f h = record {
+  read = ap if_read h;
+  patterns = f ∙ ap length e ∙ sym (texts_long (reading_of d).patterns);
+}
 
--- so it has as many patterns
-read_by : (r : Result Written DirectiveFault) (w : Written) → if_read r ≡ Some w → r ≡ Ok w
-read_by (Ok v) w e = cc
-read_by (Err f) w e = absurd cc
-
-pub as_many : (d : Directive) (w : Written) (finders : List (List ℕ)) → IsMade d w finders → length finders ≡ length (patterns_of d)
-unfolding written_of
-as_many d w finders made = ap length (made.patterns ∙ sym (patterns_are d w (read_by (reading_of d).end w made.read)))
+-- the patterns that are made are those of the rule
+pub are_its : (d : Directive) (found : List PatternAt) (w : Written) (finders : List (List ℕ)) → found ≡ (reading_of d).patterns → finders ≡ texts_of found → (reading_of d).end ≡ Ok w
+    → finders ≡ rule_patterns w.rule
+are_its d found w finders e f h = f ∙ ap texts_of e ∙ patterns_are d w h

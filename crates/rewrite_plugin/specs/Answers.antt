@@ -6,13 +6,11 @@ use Rattle.dns_data.specs.{RecordData, owned_by}
 use Rattle.dns_data.specs.Message.{AnswerData}
 use Rattle.dns_data.specs.declared.record.Rdata.{Rdata}
 use Rattle.dns_data.specs.declared.record.Rdata.TheVariants as rdata
-use Rattle.plugin_api.specs.Picking.{is_same}
+use Rattle.dns_data.specs.{is_same}
+use Rattle.rewrite_plugin.specs.Shapes.{Answering, Replacing, Rule}
 use Rattle.rewrite_plugin.specs.declared.steps.Step.{Step}
-use Rattle.rewrite_plugin.specs.declared.rule.Answering.{Answering}
 use Rattle.rewrite_plugin.specs.declared.rule.Answering.TheVariants as answering
 use Rattle.rewrite_plugin.specs.declared.rule.Matcher.TheVariants as matcher
-use Rattle.rewrite_plugin.specs.declared.rule.Replacing.{Replacing}
-use Rattle.rewrite_plugin.specs.declared.rule.Rule.{Rule}
 use Rattle.rewrite_plugin.specs.declared.rule.Rule.TheVariants as rule
 use Rattle.rewrite_plugin.specs.Rules.{renamed}
 

@@ -1,3 +1,4 @@
+pub mod Shapes
 pub mod Texts
 pub mod Renaming
 pub mod Rules

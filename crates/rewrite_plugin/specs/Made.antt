@@ -1,14 +1,13 @@
 -- What the plan of a directive has that was made of its words, and what a search leaves.
-use Rattle.std.specs.Prelude.{◌≡◌, ℕ, List, [], ◌∷◌, ◌++◌, Some, IfSome}
+use Rattle.std.specs.Prelude.{◌≡◌, ℕ, List, [], ◌∷◌, ◌++◌, length, Some, IfSome}
 use Rattle.dns_data.specs.declared.directive.Directive.{Directive}
 use Rattle.pattern.specs.Searches.{IsPartOf, scratch_group}
 use Rattle.pattern.specs.Texts.{Finding}
 use Rattle.pattern.specs.declared.scratch.Scratch.{Scratch}
-use Rattle.rewrite_plugin.specs.declared.rule.Answering.{Answering}
+use Rattle.rewrite_plugin.specs.Shapes.{Answering, Renaming, Rule, Written}
 use Rattle.rewrite_plugin.specs.declared.rule.Answering.TheVariants as answering
-use Rattle.rewrite_plugin.specs.declared.rule.Rule.{Rule}
 use Rattle.rewrite_plugin.specs.declared.rule.Rule.TheVariants as rule
-use Rattle.rewrite_plugin.specs.declared.rule.Written.{Written}
+use Rattle.rewrite_plugin.specs.Reading.{patterns_of}
 use Rattle.rewrite_plugin.specs.Rewrite.{written_of}
 use Rattle.rewrite_plugin.specs.Rules.{matcher_patterns}
 
@@ -28,14 +27,17 @@ answers_patterns [] = []
 answers_patterns (answering ∷ answers) =
     answering_patterns answering ++ answers_patterns answers
 
+-- the patterns of a rule that renames
+abbrev pub renaming_patterns : Renaming → List (List ℕ)
+renaming_patterns r = matcher_patterns r.from ++ answers_patterns r.answers
+
 -- the patterns of a rule, in the order of the text
 abbrev pub rule_patterns : Rule → List (List ℕ)
-rule_patterns (rule.Name renaming) =
-    matcher_patterns renaming.from ++ answers_patterns renaming.answers
+rule_patterns (rule.Name renaming) = renaming_patterns renaming
 rule_patterns (rule.Type from to) = []
 rule_patterns (rule.Ttl from seconds) = matcher_patterns from
 
--- a rule and patterns are those of a directive
-pub record IsMade (d : Directive) (written : Written) (finders : List (List ℕ)) : Type 0 where
+-- a rule is that of a directive, which has so many patterns
+pub record IsMade (d : Directive) (written : Written) (many : ℕ) : Type 0 where
   pub read : written_of d ≡ Some written
-  pub patterns : finders ≡ rule_patterns written.rule
+  pub patterns : many ≡ length (patterns_of d)

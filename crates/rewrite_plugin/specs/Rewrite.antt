@@ -7,9 +7,9 @@ use Rattle.dns_data.specs.Message.{AnswerData}
 use Rattle.dns_data.specs.declared.directive.Directive.{Directive}
 use Rattle.dns_data.specs.declared.query.Query.{Query}
 use Rattle.plugin_api.specs.declared.fault.DirectiveFault.{DirectiveFault}
+use Rattle.rewrite_plugin.specs.Shapes.{Written}
 use Rattle.rewrite_plugin.specs.declared.plan_data.Changed.{Changed}
 use Rattle.rewrite_plugin.specs.declared.steps.Step.{Step}
-use Rattle.rewrite_plugin.specs.declared.rule.Written.{Written}
 use Rattle.rewrite_plugin.specs.Answers.{rule_restored}
 use Rattle.rewrite_plugin.specs.Rules.{applied, stepped, unchanged}
 use Rattle.rewrite_plugin.specs.Words.{reading_of}

@@ -7,10 +7,9 @@ use Rattle.dns_data.specs.{lowered, name_of, name_text}
 use Rattle.dns_data.specs.declared.query.Query.{Query}
 use Rattle.pattern.specs.Texts.{Finding, finding_of}
 use Rattle.plugin_api.specs.{is_word}
+use Rattle.rewrite_plugin.specs.Shapes.{Matcher, Rule}
 use Rattle.rewrite_plugin.specs.declared.plan_data.Changed.{Changed}
-use Rattle.rewrite_plugin.specs.declared.rule.Matcher.{Matcher}
 use Rattle.rewrite_plugin.specs.declared.rule.Matcher.TheVariants as matcher
-use Rattle.rewrite_plugin.specs.declared.rule.Rule.{Rule}
 use Rattle.rewrite_plugin.specs.declared.rule.Rule.TheVariants as rule
 use Rattle.rewrite_plugin.specs.Texts.{begins, ends, filled, has_part, replaced}
 

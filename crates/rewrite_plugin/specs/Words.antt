@@ -15,18 +15,13 @@ use Rattle.plugin_api.specs.declared.fault.DirectiveFault.TheVariants as fault
 use Rattle.plugin_api.specs.declared.fault.DirectiveWhy.{DirectiveWhy}
 use Rattle.plugin_api.specs.declared.fault.DirectiveWhy.TheVariants as why
 use Rattle.type_names.specs.{kind_of_text}
+use Rattle.rewrite_plugin.specs.Shapes.{Answering, Matcher, Renaming, Replacing, Rule, Written}
 use Rattle.rewrite_plugin.specs.declared.matching.Matching.{Matching}
 use Rattle.rewrite_plugin.specs.declared.matching.Matching.TheVariants as matching
 use Rattle.rewrite_plugin.specs.declared.words.PatternAt.{PatternAt}
-use Rattle.rewrite_plugin.specs.declared.rule.Answering.{Answering}
 use Rattle.rewrite_plugin.specs.declared.rule.Answering.TheVariants as answering
-use Rattle.rewrite_plugin.specs.declared.rule.Matcher.{Matcher}
 use Rattle.rewrite_plugin.specs.declared.rule.Matcher.TheVariants as matcher
-use Rattle.rewrite_plugin.specs.declared.rule.Renaming.{Renaming}
-use Rattle.rewrite_plugin.specs.declared.rule.Replacing.{Replacing}
-use Rattle.rewrite_plugin.specs.declared.rule.Rule.{Rule}
 use Rattle.rewrite_plugin.specs.declared.rule.Rule.TheVariants as rule
-use Rattle.rewrite_plugin.specs.declared.rule.Written.{Written}
 use Rattle.rewrite_plugin.specs.Texts.{ends}
 
 -- what words read as, or their first fault, and the patterns that stand in front of that

@@ -1,7 +1,7 @@
-ghost use Rattle.std.specs.Prelude.{◌≡◌, [], true, is_some, length, take, IfOk, OnOk};
+ghost use Rattle.std.specs.Prelude.{◌≡◌, [], true, is_some, IfOk, OnOk};
 ghost use Rattle.rewrite_plugin.specs.declared.rule.Rule.TheVariants as rule;
 ghost use Rattle.rewrite_plugin.specs.Rewrite.{applied_by, changed_by, goes_on_by, written_of};
-ghost use Rattle.rewrite_plugin.specs.Rules.{applied, matcher_patterns, searched, step_behind};
+ghost use Rattle.rewrite_plugin.specs.Rules.{applied, searched, step_behind};
 ghost use Rattle.rewrite_plugin.specs.Rules.{stepped, unchanged};
 
 use crate::finder::Finder;
@@ -83,15 +83,19 @@ fn apply(
     ensures text { OnOk result
         (is_fresh.new ≡ true → room.new.text ≡ searched changed.new.query.name) }
 {
-    let finders = plan.finders.as_slice();
     match &plan.written.rule {
         Rule::Name(renaming) => {
-            apply_name(alloc, renaming, finders, number, is_fresh, room, changed)
+            freshen(alloc, &changed.query.name, is_fresh, &mut room.text)?;
+            if !apply_name(alloc, renaming, number, room, changed)? {
+                return Ok(false);
+            }
+            *is_fresh = false;
+            Ok(true)
         }
         Rule::Type(from, to) => apply_type(alloc, *from, *to, number, changed),
         Rule::Ttl(from, _) => {
             freshen(alloc, &changed.query.name, is_fresh, &mut room.text)?;
-            if !is_matched(from, finders, room.text.as_str(), &mut room.turning)? {
+            if !is_matched(from, room.text.as_str(), &mut room.turning)? {
                 return Ok(false);
             }
             note(alloc, number, changed)?;
@@ -113,33 +117,27 @@ fn freshen(alloc: Global, name: &Name, is_fresh: &mut bool, text: &mut Text) -> 
     Ok(())
 }
 
+// Gives the query another name, where the rule matches. The room has the text of its name.
 fn apply_name(
     alloc: Global,
-    renaming: &Renaming,
-    finders: &[Finder],
+    renaming: &Renaming<Finder>,
     number: usize,
-    is_fresh: &mut bool,
     room: &mut RewriteRoom,
     changed: &mut Changed,
 ) -> Result<bool, NoMemory>
-    requires text { is_fresh.old ≡ true → room.old.text ≡ searched changed.old.query.name }
-    requires finders { take (length (matcher_patterns renaming.now.from)) finders.now
-        ≡ matcher_patterns renaming.now.from }
+    requires text { room.old.text ≡ searched changed.old.query.name }
     ensures applied { IfOk result
         (λ done. done ≡ is_some (applied (rule.Name renaming.now) changed.old.query)) }
     ensures behind { OnOk result (changed.new ≡ step_behind number changed.old
         (applied (rule.Name renaming.now) changed.old.query)) }
-    ensures text { OnOk result
-        (is_fresh.new ≡ true → room.new.text ≡ searched changed.new.query.name) }
+    ensures text { room.new.text ≡ room.old.text }
 {
-    freshen(alloc, &changed.query.name, is_fresh, &mut room.text)?;
     let text = room.text.as_str();
     let before = changed.query.name.copy(alloc)?;
     let name = &mut changed.query.name;
-    if !rename_to(alloc, renaming, finders, text, &mut room.turning, name)? {
+    if !rename_to(alloc, renaming, text, &mut room.turning, name)? {
         return Ok(false);
     }
-    *is_fresh = false;
     changed
         .steps
         .push(alloc, number, &before, &changed.query.name)?;

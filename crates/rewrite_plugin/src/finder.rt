@@ -1,18 +1,20 @@
-ghost use Rattle.std.specs.Prelude.{◌≡◌, ◌<◌, ◌++◌, ℕ, [], is_some, slice_index, IfOk, IfSome};
+ghost use Rattle.std.specs.Prelude.{◌≡◌, ◌++◌, is_some, IfOk, IfSome};
 ghost use Rattle.std.specs.Prelude.{OnOk};
 ghost use Rattle.pattern.specs.Texts.{finding_of};
 ghost use Rattle.pattern_judging.specs.{maker_behind};
 ghost use Rattle.rewrite_plugin.specs.Judging.{IsMadeOf, MakesAll};
 ghost use Rattle.rewrite_plugin.specs.Made.{Keeps};
 ghost use Rattle.rewrite_plugin.specs.Texts.{filled};
+ghost use Rattle.rewrite_plugin.specs.Words.{end_map};
 
 use crate::text::append_filled;
 use crate::words::PatternAt;
-use dns_data::{Buffer, Copies, Limit, NoMemory, Seq, Text, limit};
+use dns_data::{Buffer, Copies, Limit, NoMemory, Text, are_bytes, limit};
 use outside::{Made, PatternMaker};
 use pattern::{Pattern, Scratch};
 use plugin_api::{DirectiveFault, DirectiveWhy};
 use std::alloc::Global;
+use std::collections::VecDeque;
 use std::marker::Model;
 
 /// A pattern that is made, which contracts see as its text.
@@ -67,22 +69,17 @@ impl Finder {
     }
 }
 
-// Tells the caller what the type says of each item.
-fn are_bytes(items: &[u8])
-    ensures { (k : ℕ) → slice_index items.now k < 256 }
-{}
-
 /// Makes patterns behind so many of the configuration, or tells the first fault.
 pub(crate) fn make_all<M: PatternMaker>(
     alloc: Global,
     before: usize,
     patterns: &[PatternAt],
     maker: &mut M,
-) -> Result<Seq<Finder>, DirectiveFault>
-    ensures value { MakesAll before patterns.now result }
+) -> Result<VecDeque<Finder>, DirectiveFault>
+    ensures value { MakesAll before patterns.now (end_map (λ made. made.items) result) }
     ensures maker { M.state maker.new ≡ maker_behind result (M.state maker.old) }
 {
-    let mut made = Seq::new(alloc);
+    let mut made = VecDeque::new(alloc);
     let mut number = before;
     let mut rest = patterns;
     while let Some((pattern, behind)) = rest.split_first() {
@@ -94,7 +91,11 @@ pub(crate) fn make_all<M: PatternMaker>(
         }
         match make_finder(alloc, pattern, maker) {
             Err(fault) => return Err(fault),
-            Ok(finder) => made.push(finder)?,
+            Ok(finder) => {
+                let Ok(()) = made.push_back(finder) else {
+                    return Err(DirectiveFault::NoMemory);
+                };
+            }
         }
         number += 1;
         rest = behind;

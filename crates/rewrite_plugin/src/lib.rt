@@ -3,6 +3,7 @@
 
 mod changing;
 mod finder;
+mod made;
 mod matching;
 mod plan;
 mod plan_data;

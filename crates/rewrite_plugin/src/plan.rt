@@ -4,6 +4,7 @@ ghost use Rattle.rewrite_plugin.specs.Judging.{ReadsRewrite};
 ghost use Rattle.rewrite_plugin.specs.Reading.{patterns_of};
 
 use crate::finder::{Finder, make_all};
+use crate::made::made_written;
 use crate::reading::read_written;
 use crate::rule::Written;
 use dns_data::{Copies, Directive, Seq};
@@ -16,8 +17,9 @@ use std::marker::Model;
 #[derive(Debug, Drop)]
 pub struct RewritePlan {
     directive: Directive,
-    pub(crate) written: Written,
-    pub(crate) finders: Seq<Finder>,
+    pub(crate) written: Written<Finder>,
+    /// How many patterns it has.
+    patterns: usize,
 }
 
 impl Model for RewritePlan {
@@ -28,7 +30,7 @@ impl Model for RewritePlan {
 
     ghost view = { λ p. p.directive };
 
-    ghost invariant = { λ p. IsMade p.directive p.written p.finders };
+    ghost invariant = { λ p. IsMade p.directive p.written p.patterns };
 }
 
 impl RewritePlan {
@@ -52,8 +54,8 @@ impl RewritePlan {
                 Err(fault) => Err(fault),
                 Ok(written) => Ok(RewritePlan {
                     directive: own,
-                    written,
-                    finders,
+                    written: made_written(alloc, &written, finders)?,
+                    patterns: found.len(),
                 }),
             },
         }
@@ -63,6 +65,6 @@ impl RewritePlan {
     pub fn pattern_count(&self) -> usize
         ensures { result ≡ length (patterns_of self.now) }
     {
-        self.finders.len()
+        self.patterns
     }
 }

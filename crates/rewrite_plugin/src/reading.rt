@@ -20,7 +20,7 @@ pub(crate) fn read_written(
     alloc: Global,
     directive: &Directive,
     found: &mut Seq<PatternAt>,
-) -> Result<Result<Written, DirectiveFault>, NoMemory>
+) -> Result<Result<Written<Text>, DirectiveFault>, NoMemory>
     ensures end { IfOk result (λ read. read ≡ (reading_of directive.now).end) }
     ensures patterns { OnOk result
         (found.new ≡ found.old ++ (reading_of directive.now).patterns) }
@@ -65,7 +65,7 @@ fn read_rule_of(
     directive: &Directive,
     words: &[Text],
     found: &mut Seq<PatternAt>,
-) -> Result<Result<Rule, DirectiveFault>, NoMemory>
+) -> Result<Result<Rule<Text>, DirectiveFault>, NoMemory>
     ensures end { IfOk result
         (λ read. read ≡ (rule_of directive.now.line words.now directive.now.body).end) }
     ensures patterns { OnOk result (found.new
@@ -93,7 +93,7 @@ fn read_body(
     number: u32,
     lines: &[Line],
     found: &mut Seq<PatternAt>,
-) -> Result<Result<Rule, DirectiveFault>, NoMemory>
+) -> Result<Result<Rule<Text>, DirectiveFault>, NoMemory>
     ensures end { IfOk result (λ read. read ≡ (body_in number lines.now).end) }
     ensures patterns { OnOk result
         (found.new ≡ found.old ++ (body_in number lines.now).patterns) }
@@ -118,7 +118,7 @@ fn read_first(
     line: u32,
     words: &[Text],
     found: &mut Seq<PatternAt>,
-) -> Result<Result<Renaming, DirectiveFault>, NoMemory>
+) -> Result<Result<Renaming<Text>, DirectiveFault>, NoMemory>
     ensures end { IfOk result (λ read. read ≡ (first_in line words.now).end) }
     ensures patterns { OnOk result (found.new ≡ found.old ++ (first_in line words.now).patterns) }
 {
@@ -137,10 +137,10 @@ fn read_first(
 
 fn read_lines(
     alloc: Global,
-    before: Seq<Answering>,
+    before: Seq<Answering<Text>>,
     lines: &[Line],
     found: &mut Seq<PatternAt>,
-) -> Result<Result<Seq<Answering>, DirectiveFault>, NoMemory>
+) -> Result<Result<Seq<Answering<Text>>, DirectiveFault>, NoMemory>
     ensures end { IfOk result
         (λ read. read ≡ end_map (more_behind before) (lines_in lines.now).end) }
     ensures patterns { OnOk result (found.new ≡ found.old ++ (lines_in lines.now).patterns) }
@@ -162,7 +162,7 @@ fn read_line(
     line: u32,
     words: &[Text],
     found: &mut Seq<PatternAt>,
-) -> Result<Result<Answering, DirectiveFault>, NoMemory>
+) -> Result<Result<Answering<Text>, DirectiveFault>, NoMemory>
     ensures end { IfOk result (λ read. read ≡ (line_in line words.now).end) }
     ensures patterns { OnOk result (found.new ≡ found.old ++ (line_in line words.now).patterns) }
 {
@@ -184,7 +184,7 @@ fn read_rule(
     line: u32,
     words: &[Text],
     found: &mut Seq<PatternAt>,
-) -> Result<Result<Rule, DirectiveFault>, NoMemory>
+) -> Result<Result<Rule<Text>, DirectiveFault>, NoMemory>
     ensures end { IfOk result (λ read. read ≡ (rule_in line words.now).end) }
     ensures patterns { OnOk result (found.new ≡ found.old ++ (rule_in line words.now).patterns) }
 {
@@ -208,7 +208,7 @@ fn read_rule(
     Ok(Err(fault(line, DirectiveWhy::Option)))
 }
 
-fn read_type(line: u32, words: &[Text]) -> Result<Rule, DirectiveFault>
+fn read_type(line: u32, words: &[Text]) -> Result<Rule<Text>, DirectiveFault>
     ensures { result ≡ type_end line words.now }
 {
     let Some((word, behind)) = words.split_first() else {
@@ -238,7 +238,7 @@ fn read_ttl(
     by: Matching,
     words: &[Text],
     found: &mut Seq<PatternAt>,
-) -> Result<Result<Rule, DirectiveFault>, NoMemory>
+) -> Result<Result<Rule<Text>, DirectiveFault>, NoMemory>
     ensures end { IfOk result (λ read. read ≡ (ttl_by line by words.now).end) }
     ensures patterns { OnOk result
         (found.new ≡ found.old ++ (ttl_by line by words.now).patterns) }
@@ -253,7 +253,11 @@ fn read_ttl(
     Ok(read_seconds(line, matcher_of(alloc, by, name)?, behind))
 }
 
-fn read_seconds(line: u32, from: Matcher, words: &[Text]) -> Result<Rule, DirectiveFault>
+fn read_seconds(
+    line: u32,
+    from: Matcher<Text>,
+    words: &[Text],
+) -> Result<Rule<Text>, DirectiveFault>
     ensures end { result ≡ (ttl_to line from words.now).end }
     ensures none { (ttl_to line from words.now).patterns ≡ [] }
 {
@@ -274,7 +278,7 @@ fn read_renaming(
     line: u32,
     words: &[Text],
     found: &mut Seq<PatternAt>,
-) -> Result<Result<Renaming, DirectiveFault>, NoMemory>
+) -> Result<Result<Renaming<Text>, DirectiveFault>, NoMemory>
     ensures end { IfOk result (λ read. read ≡ (renaming_in line words.now).end) }
     ensures patterns { OnOk result
         (found.new ≡ found.old ++ (renaming_in line words.now).patterns) }
@@ -297,7 +301,7 @@ fn read_renaming_to(
     from: &Text,
     words: &[Text],
     found: &mut Seq<PatternAt>,
-) -> Result<Result<Renaming, DirectiveFault>, NoMemory>
+) -> Result<Result<Renaming<Text>, DirectiveFault>, NoMemory>
     ensures end { IfOk result
         (λ read. read ≡ (renaming_to line by from.now words.now).end) }
     ensures patterns { OnOk result (found.new
@@ -321,7 +325,7 @@ fn read_answers(
     line: u32,
     words: &[Text],
     found: &mut Seq<PatternAt>,
-) -> Result<Result<Seq<Answering>, DirectiveFault>, NoMemory>
+) -> Result<Result<Seq<Answering<Text>>, DirectiveFault>, NoMemory>
     ensures end { IfOk result (λ read. read ≡ (answers_in line words.now).end) }
     ensures patterns { OnOk result
         (found.new ≡ found.old ++ (answers_in line words.now).patterns) }
@@ -347,7 +351,7 @@ fn read_answering(
     line: u32,
     words: &[Text],
     found: &mut Seq<PatternAt>,
-) -> Result<Result<Answering, DirectiveFault>, NoMemory>
+) -> Result<Result<Answering<Text>, DirectiveFault>, NoMemory>
     ensures end { IfOk result (λ read. read ≡ (answering_in line words.now).end) }
     ensures patterns { OnOk result
         (found.new ≡ found.old ++ (answering_in line words.now).patterns) }
@@ -382,7 +386,7 @@ fn read_replacing(
     line: u32,
     words: &[Text],
     found: &mut Seq<PatternAt>,
-) -> Result<Result<Replacing, DirectiveFault>, NoMemory>
+) -> Result<Result<Replacing<Text>, DirectiveFault>, NoMemory>
     ensures end { IfOk result (λ read. read ≡ (replacing_in line words.now).end) }
     ensures patterns { OnOk result
         (found.new ≡ found.old ++ (replacing_in line words.now).patterns) }

@@ -3,7 +3,7 @@ ghost use Rattle.dns_data.specs.{name_of};
 ghost use Rattle.plugin_api.specs.{is_word};
 ghost use Rattle.rewrite_plugin.specs.declared.rule.Matcher.TheVariants as matcher;
 ghost use Rattle.rewrite_plugin.specs.Renaming.{Becomes};
-ghost use Rattle.rewrite_plugin.specs.Rules.{is_matched, matcher_patterns, renamed_text, searched};
+ghost use Rattle.rewrite_plugin.specs.Rules.{is_matched, renamed_text, searched};
 ghost use Rattle.rewrite_plugin.specs.Rules.{turned};
 ghost use Rattle.rewrite_plugin.specs.Texts.{begins, ends, has_part, replaced};
 
@@ -23,24 +23,21 @@ pub(crate) fn write_searched(alloc: Global, name: &Name, text: &mut Text) -> Res
 }
 
 /// A name becomes the one that a text becomes; false where the text doesn't match, or the result is
-/// no name, and the name stays. The pattern that is sought, if any, stands first.
+/// no name, and the name stays.
 #[tactic(auto, unfolding(crate::specs::Rules::renamed_text))]
 pub(crate) fn rename_to(
     alloc: Global,
-    renaming: &Renaming,
-    finders: &[Finder],
+    renaming: &Renaming<Finder>,
     text: &str,
     room: &mut Turning,
     name: &mut Name,
 ) -> Result<bool, NoMemory>
-    requires { take (length (matcher_patterns renaming.now.from)) finders.now
-        ≡ matcher_patterns renaming.now.from }
     ensures { IfOk result (λ done.
         Becomes (renamed_text renaming.now.from renaming.now.to text.now) done name.old name.new) }
 {
     room.out.clear();
     let (from, to) = (&renaming.from, &renaming.to);
-    if !turn(from, to, finders, text, &mut room.scratch, &mut room.out)? {
+    if !turn(from, to, text, &mut room.scratch, &mut room.out)? {
         return Ok(false);
     }
     set_name(alloc, room.out.as_slice(), name)
@@ -88,14 +85,12 @@ fn read_name(alloc: Global, text: &[u8]) -> Result<Option<Name>, NoMemory>
 
 // Adds what a text becomes in which it stands; false where it doesn't.
 fn turn(
-    from: &Matcher,
+    from: &Matcher<Finder>,
     to: &Bytes,
-    finders: &[Finder],
     text: &str,
     scratch: &mut Scratch,
     out: &mut Buffer,
 ) -> Result<bool, NoMemory>
-    requires { take (length (matcher_patterns from.now)) finders.now ≡ matcher_patterns from.now }
     ensures matched { IfOk result (λ matched. matched ≡ is_matched from.now text.now) }
     ensures turned { OnOk result (is_matched from.now text.now ≡ true
         → out.new ≡ out.old ++ turned from.now to.now text.now) }
@@ -106,11 +101,7 @@ fn turn(
         Matcher::Prefix(from) => turn_prefix(from.as_slice(), to, bytes, out),
         Matcher::Suffix(from) => turn_suffix(from.as_slice(), to, bytes, out),
         Matcher::Substring(from) => turn_substring(from.as_slice(), to, bytes, out),
-        Matcher::Regex(_) => match finders.split_first() {
-            Some((finder, _)) => finder.fill(scratch, text, to.as_slice(), out),
-            // There is one: the patterns of a directive are made when it is read.
-            None => Err(NoMemory),
-        },
+        Matcher::Regex(finder) => finder.fill(scratch, text, to.as_slice(), out),
     }
 }
 
@@ -164,14 +155,12 @@ fn turn_substring(from: &[u8], to: &Bytes, text: &[u8], out: &mut Buffer) -> Res
     Ok(true)
 }
 
-/// Whether what is sought stands in a text. The pattern that is sought, if any, stands first.
+/// Whether what is sought stands in a text.
 pub(crate) fn is_matched(
-    from: &Matcher,
-    finders: &[Finder],
+    from: &Matcher<Finder>,
     text: &str,
     room: &mut Turning,
 ) -> Result<bool, NoMemory>
-    requires { take (length (matcher_patterns from.now)) finders.now ≡ matcher_patterns from.now }
     ensures { IfOk result (λ matched. matched ≡ is_matched from.now text.now) }
 {
     let bytes = text.as_bytes();
@@ -180,10 +169,6 @@ pub(crate) fn is_matched(
         Matcher::Prefix(from) => Ok(begins(from.as_slice(), bytes)),
         Matcher::Suffix(from) => Ok(ends(from.as_slice(), bytes)),
         Matcher::Substring(from) => Ok(has_part(from.as_slice(), bytes)),
-        Matcher::Regex(_) => match finders.split_first() {
-            Some((finder, _)) => finder.search(&mut room.scratch, text),
-            // There is one: the patterns of a directive are made when it is read.
-            None => Err(NoMemory),
-        },
+        Matcher::Regex(finder) => finder.search(&mut room.scratch, text),
     }
 }

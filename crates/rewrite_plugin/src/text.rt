@@ -5,8 +5,7 @@ ghost use Rattle.plugin_api.specs.{is_word};
 ghost use Rattle.rewrite_plugin.specs.Texts.{begins, ends, filled, has_part, part_at, place_at};
 ghost use Rattle.rewrite_plugin.specs.Texts.{place_behind, replaced, spanned, two_digits};
 
-use dns_data::{Buffer, NoMemory};
-use equal_bytes::are_equal;
+use dns_data::{Buffer, NoMemory, are_equal};
 use pattern::Scratch;
 
 /// Whether a text is another one.

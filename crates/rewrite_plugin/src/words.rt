@@ -6,7 +6,7 @@ use crate::matching::Matching;
 use crate::rule::{Matcher, Seconds};
 use crate::text::ends;
 use dns_data::{Bytes, Copies, NoMemory, Seq, Text, limit};
-use numbers::read_number;
+use numbers::read_digits;
 use std::alloc::Global;
 
 /// A pattern, and the number of its line.
@@ -59,7 +59,11 @@ fn match_word(word: &Text) -> Option<Matching>
 }
 
 /// What a word says that is sought.
-pub(crate) fn matcher_of(alloc: Global, by: Matching, word: &Text) -> Result<Matcher, NoMemory>
+pub(crate) fn matcher_of(
+    alloc: Global,
+    by: Matching,
+    word: &Text,
+) -> Result<Matcher<Text>, NoMemory>
     ensures { IfOk result (λ matcher. matcher ≡ matcher_of by word.now) }
 {
     match by {
@@ -128,7 +132,7 @@ pub(crate) fn keep_pattern(
 pub(crate) fn seconds_in(word: &Text) -> Option<Seconds>
     ensures { result ≡ seconds_in word.now }
 {
-    let number = read_number(word.as_str().as_bytes(), 10)?;
+    let number = read_digits(word.as_str().as_bytes(), 10)?;
     if number < u64::from(limit::TTL_END) {
         return Some(Seconds::of(number as u32));
     }

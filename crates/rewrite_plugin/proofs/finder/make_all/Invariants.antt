@@ -4,7 +4,7 @@ use Rattle.rewrite_plugin.proofs.finder.make_all.Given as goal
 
 abbrev pub invariant-loop-pattern : goal.invariant-loop-pattern
 invariant-loop-pattern g l = record {
-  on : MakesOn l.before l.patterns l.number l.made l.rest;
+  on : MakesOn l.before l.patterns l.number l.made.items l.rest;
   state : g.M.PatternMaker.state l.maker ≡ g.M.PatternMaker.state l.fn.maker;
 }
 

@@ -1,13 +1,10 @@
 use Rattle.std.proofs.Common.{◌≡◌, length}
 use Rattle.rewrite_plugin.specs.Answers.{all_restored}
-use Rattle.rewrite_plugin.specs.Made.{answers_patterns}
 use Rattle.rewrite_plugin.proofs.restoring.restore_all.Given as goal
 
 abbrev pub invariant-loop-answering : goal.invariant-loop-answering
-invariant-loop-answering l = record {
-  left : l.left ≡ answers_patterns l.rest;
-  on : all_restored l.rest l.step l.slot ≡ all_restored l.answers l.step l.fn.slot;
-}
+invariant-loop-answering l =
+    all_restored l.rest l.step l.slot ≡ all_restored l.answers l.step l.fn.slot
 
 abbrev pub decreases-loop-answering : goal.decreases-loop-answering
 decreases-loop-answering l = length l.rest

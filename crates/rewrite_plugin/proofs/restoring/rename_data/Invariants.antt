@@ -1,6 +1,6 @@
 use Rattle.std.proofs.Common.{◌≡◌, ◌++◌, length, map}
 use Rattle.rewrite_plugin.specs.Answers.{data_or, replaced_data}
-use Rattle.rewrite_plugin.proofs.restoring.rename_data_in.Given as goal
+use Rattle.rewrite_plugin.proofs.restoring.rename_data.Given as goal
 
 abbrev pub invariant-loop-entry : goal.invariant-loop-entry
 invariant-loop-entry l =

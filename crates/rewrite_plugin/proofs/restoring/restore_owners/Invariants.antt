@@ -1,7 +1,7 @@
 use Rattle.std.proofs.Common.{◌≡◌, ◌++◌, ◌-◌, length, map, take, drop}
 use Rattle.rewrite_plugin.specs.Answers.{record_restored}
 use Rattle.rewrite_plugin.specs.declared.rule.Answering.TheVariants as answering
-use Rattle.rewrite_plugin.proofs.restoring.restore_owners_in.Given as goal
+use Rattle.rewrite_plugin.proofs.restoring.restore_owners.Given as goal
 
 abbrev pub invariant-loop-index : goal.invariant-loop-index
 invariant-loop-index l =

@@ -2,7 +2,7 @@ use Rattle.std.proofs.Common.{◌∙◌, ◌<◌, length, arith}
 use Rattle.rewrite_plugin.specs.Answers.{record_restored}
 use Rattle.rewrite_plugin.specs.declared.rule.Answering.TheVariants as answering
 use Rattle.rewrite_plugin.proofs.InPlace.{changed_length, changed_next}
-use Rattle.rewrite_plugin.proofs.restoring.restore_owners_in.Goals as goal
+use Rattle.rewrite_plugin.proofs.restoring.restore_owners.Goals as goal
 
 pub loop-index-smaller : goal.loop-index-smaller
 loop-index-smaller c =

@@ -1,6 +1,6 @@
 use Rattle.std.proofs.Common.{◌≡◌, ◌++◌, ◌-◌, length, map, take, drop}
 use Rattle.rewrite_plugin.specs.Answers.{owned_or, replaced_name}
-use Rattle.rewrite_plugin.proofs.restoring.rename_owners_in.Given as goal
+use Rattle.rewrite_plugin.proofs.restoring.rename_owners.Given as goal
 
 abbrev pub invariant-loop-index : goal.invariant-loop-index
 invariant-loop-index l =

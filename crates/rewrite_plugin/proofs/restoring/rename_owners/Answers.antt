@@ -2,7 +2,7 @@ use Rattle.std.proofs.Common.{◌∙◌, ◌<◌, length, arith}
 use Rattle.dns_data.specs.{RecordData}
 use Rattle.rewrite_plugin.specs.Answers.{owned_or, replaced_name}
 use Rattle.rewrite_plugin.proofs.InPlace.{changed_length, changed_next}
-use Rattle.rewrite_plugin.proofs.restoring.rename_owners_in.Goals as goal
+use Rattle.rewrite_plugin.proofs.restoring.rename_owners.Goals as goal
 
 pub loop-index-smaller : goal.loop-index-smaller
 loop-index-smaller c =

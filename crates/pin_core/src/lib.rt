@@ -8,7 +8,7 @@ mod steps;
 #[cfg(test)]
 mod tests;
 
-pub use laws::{retires_once, sound_always};
+pub use laws::{one_pin_run, retires_once, sound_always};
 pub use slots::{MOST_PINS, MOST_SERIALS, Phase, PinWorker, SLOTS, Slot, WORKERS};
 pub use state::{NoMemory, PinState};
 pub use steps::{PinReply, PinStep};

@@ -64,7 +64,7 @@ pub fn take(table: &PinTable<Chain>, worker: &mut Worker) -> Option<Chain>
         (λ chain. IsHolding table.now worker.new chain) }
 {
     match table.pin(&mut worker.pass) {
-        Pin::Pinned(chain) => Some(chain),
+        Pin::Pinned { chain, .. } => Some(chain),
         Pin::Spent => None,
     }
 }
@@ -81,7 +81,7 @@ fn turn(table: &PinTable<Chain>, worker: &mut Worker)
     ensures { IsIdle table.now worker.new }
 {
     match table.pin(&mut worker.pass) {
-        Pin::Pinned(chain) => {
+        Pin::Pinned { chain, .. } => {
             worker.seen.look(&chain, worker.number);
             let Chain {
                 serial,

@@ -23,7 +23,7 @@ impl<C> Pass<C> {
 }
 
 impl<C> PinTable<C> {
-    /// Pins the current generation, and gives this worker's chain of it.
+    /// Pins the current generation, and gives its serial and this worker's chain of it.
     pub fn pin(&self, pass: &mut Pass<C>) -> Pin<C>
         requires own { IsPassOf self.now pass.old }
         requires idle { (pass_of pass.old).held ≡ None }
@@ -50,7 +50,7 @@ impl<C> PinTable<C> {
         pass.slot = slot;
         pass.pins += 1;
         pass.seen = serial + 1;
-        Pin::Pinned(chain)
+        Pin::Pinned { serial, chain }
     }
 }
 

@@ -20,7 +20,7 @@ use Rattle.pin_table.specs.Known.{filled_at}
 use Rattle.query_worker.specs.declared.worker.WorkEnd.{WorkEnd}
 use Rattle.query_worker.specs.declared.worker.WorkEnd.TheVariants as ends
 use Rattle.query_worker.specs.declared.worker.Worker.{Worker}
-use Rattle.query_worker.specs.{AreOf, IsLawful, IsOfPass, PastPin, WorkerRun, lawful_of, pinned_by, run_as, worked_of}
+use Rattle.query_worker.specs.{AreOf, IsLawful, IsOfPass, PastPin, WorkerRun, last_seen, lawful_of, pinned_by, run_as, worked_of}
 use Rattle.reload_watch.specs.{AreFilledBy}
 use Rattle.reload_watch.specs.Filled.{IsOf}
 use Rattle.dns_server.specs.declared.report.Done.{Done}
@@ -36,6 +36,7 @@ use Rattle.dns_server.proofs.Holding.{IsSettled}
 pub record IsDone (most : ℕ) (opened : SideState) (run : SideRun) (pass : PassView Chain) : Type 0 where
   pub told : Grows opened run.state (WorkerRun (IsOfPass pass.turns) most (pinned_by pass) run.worked)
   pub seen : run.worked.seen + 1 ≤ pass.seen
+  pub last : run.worked.seen ≡ last_seen (pinned_by pass)
   pub failed : run.worked.end ≡ ends.RecvFailed → RoseBy limits.FAILURES opened.counts.recv run.state.counts.recv
   pub starved : run.worked.end ≡ ends.NoMemory → 0 < run.worked.starved
   pub script : run.state.script ≡ opened.script
@@ -76,6 +77,7 @@ module _ {S W : Type 0} (side : S → SideState) (watch : W → WatchState) (tas
       let is : IsDone task.most (side opened) run (pass_of new.pass) = subst (λ (s : S). IsDone task.most (side s) run (pass_of new.pass)) same (record {
         told = w.run;
         seen = w.counts.within;
+        last = w.counts.seen;
         failed = w.failed;
         starved = w.starved;
         script = w.script;
@@ -162,6 +164,7 @@ tells setup bundles opened run pass fresh done are seen =
       });
       at_most = done.told.are.at_most;
       seen = let s = done.seen in omega (arith, s, seen);
+      last = done.last;
       failed = λ e. subst (λ (n : ℕ). RoseBy limits.FAILURES n run.state.counts.recv) none (done.failed e);
       starved = done.starved;
       left = done.left ∙ ap raised fresh.here;

@@ -1,5 +1,5 @@
 -- What a run leaves behind the end of its roles.
-use Rattle.std.proofs.Common.{◌≡◌, ◌≤◌, ◌<◌, ◌*◌, ◌+◌, ℕ, suc, List, [], ◌∷◌, ◌++◌, map, length, take, Some, slice_get, refl, sym, ap, subst, ◌∙◌, arith}
+use Rattle.std.proofs.Common.{◌≡◌, ◌≤◌, ◌<◌, ◌*◌, ◌+◌, ℕ, suc, List, [], ◌∷◌, ◌++◌, map, length, reverse, take, Some, slice_get, refl, sym, ap, subst, ◌∙◌, arith}
 use Rattle.std.specs.Arc.{arc_value}
 use Rattle.std.specs.Vec.{vec_capacity, vec_len}
 use Rattle.std.specs.List.{All, AllZip}
@@ -15,7 +15,8 @@ use Rattle.pin_table.specs.declared.table.PinTable.{PinTable}
 use Rattle.pin_table.specs.declared.views.PassView.{PassView}
 use Rattle.pin_table.specs.declared.views.Plan.{Plan}
 use Rattle.pin_table.specs.{AreFilled, AreGiven, AreIdle, IsPublisherOf, count_of, id_of, plan_of, views_of}
-use Rattle.pin_table.specs.Closing.{IsClosed, IsTraced, joined_plan}
+use Rattle.pin_core.specs.{OnePinRun, pin_marks}
+use Rattle.pin_table.specs.Closing.{IsClosed, IsTraced, joined_marks, joined_plan}
 use Rattle.pin_table.specs.Opening.{IsOpened}
 use Rattle.query_worker.specs.{pinned_by}
 use Rattle.reload_watch.specs.{AreFilledBy, AreLooks, EndsWatch, IsPlaced, all_starved}
@@ -24,7 +25,7 @@ use Rattle.dns_server.specs.declared.finishing.Opened.{Opened}
 use Rattle.dns_server.specs.declared.report.Done.{Done}
 use Rattle.dns_server.specs.declared.roles.Role.{Role}
 use Rattle.dns_server.specs.Each.{Each3}
-use Rattle.dns_server.specs.Report.{Finishes}
+use Rattle.dns_server.specs.Report.{Finishes, side_pins}
 use Rattle.dns_server.specs.Roles.{Becomes, HasWatched, IsPart, IsWatching, Task, as_role}
 use Rattle.dns_server.specs.Roles as roles
 use Rattle.dns_server.specs.States.{RunSetup, side_runs}
@@ -57,6 +58,19 @@ part_count R (x ∷ xs) [] zs each = absurd each
 part_count R (x ∷ xs) (y ∷ ys) [] each = absurd each
 part_count R (x ∷ xs) (y ∷ ys) (z ∷ zs) each = ap suc (part_count R xs ys zs each.1)
 
+pub mid_count : {A B C : Type 0} (R : A → B → C → Type 0) (xs : List A) (ys : List B) (zs : List C) → Each3 R xs ys zs → length ys ≡ length xs
+mid_count R [] [] [] each = refl
+mid_count R [] [] (z ∷ zs) each = absurd each
+mid_count R [] (y ∷ ys) zs each = absurd each
+mid_count R (x ∷ xs) [] zs each = absurd each
+mid_count R (x ∷ xs) (y ∷ ys) [] each = absurd each
+mid_count R (x ∷ xs) (y ∷ ys) (z ∷ zs) each = ap suc (mid_count R xs ys zs each.1)
+
+-- the pins of sides are those of their passes
+pins_are : (qs : List (PassView Chain)) → joined_marks qs ≡ side_pins (map (λ q. pinned_by q) qs)
+pins_are [] = refl
+pins_are (q ∷ qs) = ap (λ l. pin_marks (reverse (pinned_by q)) ∷ l) (pins_are qs)
+
 -- the passes of all workers, none of which holds a pin
 pub idle_all : (table : PinTable Chain) (passes : List (Pass Chain)) → IdleFrom (id_of table) 0 passes → AreIdle (id_of table) passes
 idle_all table passes idle = λ w pass at. let is = idle w pass at in (is.0, is.1 ∙ omega arith, is.2)
@@ -88,6 +102,7 @@ module _ {S W : Type 0} (side : S → SideState) (watch : W → WatchState) (set
       let bundles = by.bundles in
       let filled = (plan_of last.publisher).past.filled in
       let sides_count = part_count (IsDone setup.most) (map side opened.sides.items) (side_runs side dones) (views_of passes) leave.done in
+      let sides_mid = mid_count (IsDone setup.most) (map side opened.sides.items) (side_runs side dones) (views_of passes) leave.done in
       let count_is : (plan_of last.publisher).workers ≡ length (views_of passes) = has.keeps.workers ∙ has.workers ∙ is.workers ∙ sym (length-map opened.sides.items side) ∙ sym sides_count in
       let tell = all_tell setup bundles filled 0 (map side opened.sides.items) (side_runs side dones) (views_of passes) is.fresh leave.done
       (subst (λ (p : ℕ). AreFilledBy bundles p filled) port by.filled) (given bundles by.count closed traced) in
@@ -106,6 +121,9 @@ module _ {S W : Type 0} (side : S → SideState) (watch : W → WatchState) (set
         tell = rw (sym by.bundles_are) tell;
         held = looks_held (plan_of last.publisher).workers (plan_of last.publisher).past (views_of passes) count_is leave.settled (plan_of last.publisher).sweeps setup.source setup.default_port
             (first ∷ []) by.looks closed.sweeps (subst (λ (p : ℕ). AreLooks setup.source p (first ∷ []) by.looks) port by.are) by.swept;
+        pins = subst (λ (k : ℕ). OnePinRun k published (side_pins (map (λ q. pinned_by q) (views_of passes)))) (count_is ∙ sides_count ∙ sym sides_mid)
+            (subst (λ (k : ℕ). OnePinRun (plan_of last.publisher).workers k (side_pins (map (λ q. pinned_by q) (views_of passes)))) (sym count)
+            (subst (OnePinRun (plan_of last.publisher).workers (count_of (plan_of last.publisher))) (pins_are (views_of passes)) closed.run));
       }
 
 -- a watcher that has published the first chains

@@ -21,17 +21,18 @@ use Rattle.corefile_bundle.specs.Gathering.{GathersFrom, OneRead, Source, TellsG
 use Rattle.chain_build.specs.{ArePlans, PlansData}
 use Rattle.chain_meaning.specs.Accepting.{IsAccepted}
 use Rattle.chain_meaning.specs.declared.refusal.Refusal.{Refusal}
-use Rattle.reload_watch.specs.declared.first.FirstFault.{FirstFault}
-use Rattle.reload_watch.specs.declared.first.FirstFault.TheVariants as fault
-use Rattle.reload_watch.specs.declared.looking.Looking.{Looking}
-use Rattle.reload_watch.specs.declared.looking.Looking.TheVariants as looking
+use Rattle.reload_watch.specs.declared.fault.ReadFault.{ReadFault}
+use Rattle.reload_watch.specs.declared.fault.ReadFault.TheVariants as fault
+use Rattle.reload_watch.specs.declared.look_answer.Looking.{Looking}
+use Rattle.reload_watch.specs.declared.look_answer.Looking.TheVariants as looking
 use Rattle.reload_watch.specs.Look.{AnswersLook, Standing}
 use Rattle.reload_watch.specs.{AreLooks, EndsWatch, IsReading, ReadsFirst, ReadsPlans, RoseWithin, TellsLooks, all_refused, all_starved, bundles_of, refusals_first, published_by, refusals_by, watch_marks}
 use Rattle.reload_watch.specs.WatchTurn.{WatchTurn, IsLook, gathered, looked, published_as, starved}
 use Rattle.dns_server.specs.declared.status.Status.{Status}
 use Rattle.dns_server.specs.declared.status.Status.TheVariants as status
 use Rattle.dns_server.specs.Opening.{BeginsSides, OpensAll, OpensSome, RefusesSides, TakesSides, scripts_of, side_count, sides_of, told_sides}
-use Rattle.dns_server.specs.Report.{RunData, CauseOf, Finishes, IsEndStatus, IsFirstStatus, IsServed, Left, ReadGave, RefusesNone, RunsBehind, RunsCommand, Supplies, WasAccepted, opened_by, status_refusals, stopped_run}
+use Rattle.pin_core.specs.{OnePinRun}
+use Rattle.dns_server.specs.Report.{RunData, CauseOf, Finishes, IsEndStatus, IsFirstStatus, IsServed, Left, ReadGave, RefusesNone, RunsBehind, RunsCommand, Supplies, WasAccepted, opened_by, side_pins, status_refusals, stopped_run}
 use Rattle.dns_server.specs.States.{RunSetup, SideRun}
 use Rattle.dns_server.specs.WatchRun.{Tells}
 use Rattle.dns_server.proofs.Opened.{none_taken, sides_count}
@@ -47,6 +48,10 @@ no_serving words number how one two =
     let same : codes "load" ∷ one.others ≡ codes "serve" ∷ two.others = sym one.words_are ∙ two.words_are in
     let first = ap first_byte same in
     omega (arith, first)
+
+-- nothing was published and nothing pinned
+no_pins : OnePinRun 0 0 (side_pins [])
+no_pins = record { steps = []; lawful = tt; pins = λ w. refl; count = refl }
 
 -- the reads were told, and nothing was published
 reading_told : (source : Source) (journal : Option (List WatchMark)) (reads : List OneRead) (gives : Result Bundle GatherFault) → GathersFrom source reads gives → IfSome journal (λ told. told ≡ marks_of reads)
@@ -89,6 +94,7 @@ stops_open {setup} {before} {after} how watch back places scripts script refused
     pinned = [];
     sides = tt;
     held = tt;
+    pins = no_pins;
   };
   refused = λ none. refused;
   cause = cause;
@@ -204,13 +210,14 @@ serves setup before after how fresh read published plans places sides left is_fr
         pinned = by.pinned;
         sides = by.tell;
         held = by.held;
+        pins = by.pins;
       };
       refused = λ none. absurd (some none);
       cause = end_cause setup before.counts after.counts (Some left.watch) left.sides left.published left.starved how some stands;
     }
 
 -- the first reads gave no chain
-pub first_stops : (setup : RunSetup) (old new : WatchState) (why : FirstFault) (how : Status) (host : HostState)
+pub first_stops : (setup : RunSetup) (old new : WatchState) (why : ReadFault) (how : Status) (host : HostState)
     → IsFreshWatch old → new.script ≡ old.script → new.refusals ≡ refusals_first {X = PlansData} (Err why) old.refusals → ReadsFirst setup.source setup.default_port old new (Err why) → IsFirstStatus why how
     → RunsBehind setup (stopped_run how (Some new)) old host host
 first_stops setup old new (fault.Refused why) how host fresh script refused reads is =
@@ -352,6 +359,7 @@ not_opened {setup} {before} {after} how told supply cause = record {
     pinned = [];
     sides = tt;
     held = tt;
+    pins = no_pins;
   };
   refused = λ none. tt;
   cause = cause;
@@ -401,6 +409,7 @@ opened_before {setup} {run} {first} {before} {after} watch opens runs =
         pinned = behind.pinned;
         sides = behind.sides;
         held = behind.held;
+        pins = behind.pins;
       };
       refused = runs.refused;
       cause = subst (λ (c : HostCounts). CauseOf run.status setup run c after.counts) opens.counts runs.cause;

@@ -1,7 +1,7 @@
 -- What a run reports: how each side worked, what was published, and the cause of its status. This
 -- server's own rule.
 use Rattle.std.specs.Prelude.{◌≡◌, ◌≤◌, ◌<◌, ◌≢◌, ◌⊎◌, ℕ, nat_lt, Bool, true, false, List, [], ◌∷◌, ◌++◌}
-use Rattle.std.specs.Prelude.{length, map}
+use Rattle.std.specs.Prelude.{length, map, reverse}
 use Rattle.std.specs.Prelude.{Option, None, Some, IfSome, option_map, Result, Ok, Err}
 use Rattle.std.specs.List.{flat_map, AllByRecursion}
 use Rattle.dns_data.specs.declared.limit.TheConstants as limits
@@ -20,9 +20,10 @@ use Rattle.corefile_bundle.specs.declared.fault.GatherFault.TheVariants as unrea
 use Rattle.corefile_bundle.specs.Gathering.{GathersFrom, OneRead, marks_of}
 use Rattle.query_worker.specs.declared.worker.WorkEnd.{WorkEnd}
 use Rattle.query_worker.specs.declared.worker.WorkEnd.TheVariants as ends
-use Rattle.query_worker.specs.{IsLawful, WorkerRun}
-use Rattle.reload_watch.specs.declared.first.FirstFault.{FirstFault}
-use Rattle.reload_watch.specs.declared.first.FirstFault.TheVariants as fault
+use Rattle.pin_core.specs.{OnePinRun, PinMark, pin_marks}
+use Rattle.query_worker.specs.{IsLawful, WorkerRun, last_seen}
+use Rattle.reload_watch.specs.declared.fault.ReadFault.{ReadFault}
+use Rattle.reload_watch.specs.declared.fault.ReadFault.TheVariants as fault
 use Rattle.chain_build.specs.{PlansData}
 use Rattle.reload_watch.specs.WatchTurn.{WatchTurn}
 use Rattle.reload_watch.specs.{AreLooks, EndsWatch, ReadsPlans, Refuses, RoseWithin, WatchGoesOn}
@@ -57,14 +58,16 @@ run_data side watch ran = record {
 }
 
 -- a side that tells its journal tells a worker's run by the published bundles, under pins of these
--- serials, the last one first; the worker took no more than it was told; one that could not receive
--- met 64 failing calls; and the side was told once that its worker has ended
+-- serials, the last one first; the worker took no more than it was told, and has seen the last of
+-- these serials; one that could not receive met 64 failing calls; and the side was told once that
+-- its worker has ended
 pub record TellsRun (setup : RunSetup) (bundles : List Bundle) (pinned : List ℕ) (side : SideRun)
     : Type 0 where
   pub run : IfSome side.state.journal
       (WorkerRun (IsLawful bundles setup.default_port) setup.most pinned side.worked)
   pub at_most : side.worked.taken ≤ setup.most
   pub seen : side.worked.seen < length bundles
+  pub last : side.worked.seen ≡ last_seen pinned
   pub failed : side.worked.end ≡ ends.RecvFailed → RoseBy limits.FAILURES 0 side.state.counts.recv
   pub starved : side.worked.end ≡ ends.NoMemory → 0 < side.worked.starved
   pub left : side.state.left ≡ 1
@@ -76,6 +79,10 @@ TellEach setup bundles [] (side ∷ sides) = ⊥
 TellEach setup bundles (pinned ∷ others) [] = ⊥
 TellEach setup bundles (pinned ∷ others) (side ∷ sides) =
     TellsRun setup bundles pinned side × TellEach setup bundles others sides
+
+-- the marks of pins of these serials, the last one first, by side
+abbrev pub side_pins : List (List ℕ) → List (List PinMark)
+side_pins pinned = map (λ serials. pin_marks (reverse serials)) pinned
 
 -- what the workers and the watcher leave: the sides, the watch, how many generations were
 -- published, and how many looks met want of memory
@@ -103,6 +110,7 @@ pub record Finishes (setup : RunSetup) (first : Bundle) (sides : List SideState)
   pub pinned : List (List ℕ)
   pub tell : TellEach setup (bundles_of first looks) pinned left.sides
   pub held : AreHeld pinned (first ∷ []) looks
+  pub pins : OnePinRun (length left.sides) left.published (side_pins pinned)
 
 -- each published bundle is accepted
 pub record IsServed (default_port : ℕ) (bundle : Bundle) : Type 0 where
@@ -162,7 +170,8 @@ OpensSides setup run (bundle ∷ others) sides =
     WantsSides setup.default_port setup.workers bundle sides
 
 -- a run by a command: one list of published bundles stands behind the watch's looks, the sides that
--- were opened, and each side's journal. A watch that was opened is handed back.
+-- were opened, and each side's journal; the pins and unpins of all sides and the publications are
+-- one run of the machine of pins. A watch that was opened is handed back.
 pub record ServesBy (setup : RunSetup) (run : RunData) (before after : HostState) : Type 0 where
   pub bundles : List Bundle
   pub count : length bundles ≡ run.published
@@ -180,6 +189,7 @@ pub record ServesBy (setup : RunSetup) (run : RunData) (before after : HostState
   pub pinned : List (List ℕ)
   pub sides : TellEach setup bundles pinned run.sides
   pub held : AreHeldBehind pinned bundles looks
+  pub pins : OnePinRun (length run.sides) run.published (side_pins pinned)
 
 -- the words ask for no serving: they are no command, or `load`, which isn't built
 abbrev pub IsUsage : List (List ℕ) → Type 0
@@ -287,6 +297,7 @@ pub record ServesBehind (setup : RunSetup) (run : RunData) (watch : WatchState)
   pub pinned : List (List ℕ)
   pub sides : TellEach setup bundles pinned run.sides
   pub held : AreHeldBehind pinned bundles looks
+  pub pins : OnePinRun (length run.sides) run.published (side_pins pinned)
 
 -- how many patterns a watch refused in a run that published nothing, by its status
 abbrev pub status_refusals : Status → ℕ
@@ -351,7 +362,7 @@ IsEndStatus sides looking status.WorkerFailed =
 IsEndStatus sides looking status.Ended = AllByRecursion TookAll sides × (looking ≡ 0)
 
 -- the status of a run without a first configuration
-abbrev pub IsFirstStatus : FirstFault → Status → Type 0
+abbrev pub IsFirstStatus : ReadFault → Status → Type 0
 IsFirstStatus (fault.Refused why) how = how ≡ status.Refused why
 IsFirstStatus (fault.ReadFailed name) how = how ≡ status.ReadFailed name
 IsFirstStatus fault.NoMemory how = how ≡ status.NoMemory

@@ -6,7 +6,7 @@ use Rattle.corefile_words.specs.declared.word.Pair.{Pair}
 use Rattle.corefile_bundle.specs.Gathering.{Source}
 use Rattle.query_worker.specs.{Worked}
 use Rattle.reload_watch.specs.{source_data}
-use Rattle.dns_server.specs.declared.running.Setup.{Setup}
+use Rattle.dns_server.specs.declared.setup.Setup.{Setup}
 use Rattle.dns_server.specs.declared.report.Done.{Done}
 
 -- what a run is set to: the Corefile to serve by and the environment, the port of keys that name

@@ -9,7 +9,7 @@ ghost use Rattle.dns_server.specs.States.{run_setup};
 
 use crate::report::Done;
 use crate::roles::{Role, Shared, act_all, part, push_workers};
-use crate::running::Setup;
+use crate::setup::Setup;
 use chain_build::Chain;
 use outside::{Side, Watch};
 use pin_table::{Pass, PinTable};

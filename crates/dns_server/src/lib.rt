@@ -1,6 +1,6 @@
-//! The server: words of the command line in, a report out. It reads a Corefile and the files that it
-//! names, opens the sides of its ports, and answers each datagram by the meaning of what it read, a
-//! worker for each side in a thread of its own, while a watcher takes up what changed.
+//! The server: words of the command line in, a report out. It reads a Corefile and the files that
+//! it names, opens the sides of its ports, and answers each datagram by the meaning of what it
+//! read, a worker for each side in a thread of its own, while a watcher takes up what changed.
 #![tactic(auto)]
 
 mod ending;
@@ -9,6 +9,7 @@ mod report;
 mod roles;
 mod rooms;
 mod running;
+mod setup;
 mod sides;
 mod status;
 mod telling;

@@ -2,7 +2,7 @@ ghost use Rattle.dns_data.specs.declared.limit.TheConstants as limits;
 ghost use Rattle.std.specs.Prelude.{◌≡◌, ◌≢◌, ◌≤◌, ◌<◌, [], option_map};
 ghost use Rattle.dns_server.specs.Opening.{side_count};
 ghost use Rattle.chain_build.specs.{ArePlans};
-ghost use Rattle.command_line.specs.declared.command.TheConstants as defaults;
+ghost use Rattle.command_line.specs.declared.bounds.TheConstants as defaults;
 ghost use Rattle.outside.specs.Causes.{HostNoneFell};
 ghost use Rattle.outside.specs.Hosts.{IsFreshWatch};
 ghost use Rattle.dns_server.specs.Report.{IsFirstStatus, IsRunOf, RunData, RunsBehind, RunsPlans};
@@ -14,6 +14,7 @@ use crate::ending::end_status;
 use crate::finishing::{Opened, finish};
 use crate::report::{Ran, Report};
 use crate::rooms::Rooms;
+use crate::setup::Setup;
 use crate::sides::{open_places, refused_sides};
 use crate::status::Status;
 use crate::telling::tell_status;
@@ -23,19 +24,10 @@ use corefile_words::Pair;
 use dns_data::Text;
 use outside::{Host, OpenFault, Side, Watch};
 use pin_table::PinTable;
-use reload_watch::{FirstFault, Source, Watcher, read_first};
+use reload_watch::{ReadFault, Source, Watcher, read_first};
 use std::alloc::Global;
 use std::sync::Wait;
 use std::thread::Threads;
-
-/// How to serve.
-#[derive(Clone, Copy, Debug)]
-pub(crate) struct Setup<'a> {
-    pub source: Source<'a>,
-    pub port: u16,
-    pub workers: u64,
-    pub most: u64,
-}
 
 /// Runs the command that the words ask for, over what the host opens, until its sides have ended
 /// and no look comes any more, and tells the line of its status. The words are those behind the
@@ -219,12 +211,12 @@ fn stopped<S: Side, W: Watch>(alloc: Global, status: Status, watch: Option<W>) -
     }
 }
 
-fn status_of(fault: FirstFault) -> Status
+fn status_of(fault: ReadFault) -> Status
     ensures { IsFirstStatus fault result }
 {
     match fault {
-        FirstFault::Refused(refusal) => Status::Refused(refusal),
-        FirstFault::ReadFailed(name) => Status::ReadFailed(name),
-        FirstFault::NoMemory => Status::NoMemory,
+        ReadFault::Refused(refusal) => Status::Refused(refusal),
+        ReadFault::ReadFailed(name) => Status::ReadFailed(name),
+        ReadFault::NoMemory => Status::NoMemory,
     }
 }

@@ -1,5 +1,5 @@
 -- The marks of a turn that took a datagram.
-use Rattle.std.proofs.Common.{◌≡◌, ◌≤◌, ℕ, ◌+◌, ◌-◌, [], ◌∷◌, Some, refl, ap, subst, ◌∙◌, arith}
+use Rattle.std.proofs.Common.{◌≡◌, ◌≤◌, ℕ, ◌+◌, [], ◌∷◌, Some, refl, ap, ◌∙◌}
 use Rattle.outside.specs.declared.datagram.Datagram.{Datagram}
 use Rattle.outside.specs.declared.mark.Mark.TheVariants.{Got, Pinned, Unpinned}
 use Rattle.outside.specs.Journals.{adds-then}
@@ -12,7 +12,7 @@ use Rattle.chain_meaning.specs.declared.served.Served.{Served}
 use Rattle.chain_meaning.specs.declared.served.Served.TheVariants.{Reply, Silent, NoMemory}
 use Rattle.chain_build.specs.declared.chain.Chain.{Chain}
 use Rattle.chain_build.specs.{TellsServing, plans_of}
-use Rattle.query_worker.specs.declared.turning.Turned.{Turned}
+use Rattle.query_worker.specs.declared.turn.Turned.{Turned}
 use Rattle.query_worker.specs.Turn.{replied, silenced, starved}
 use Rattle.query_worker.specs.Worker.{AddsTurn, SendsServed, pin_of}
 
@@ -21,12 +21,9 @@ pub record IsOver (before : PassView Chain) (serial : ℕ) (chain : Chain) (afte
   pub newest : before.seen ≤ serial + 1
   pub pass : after ≡ idle_pass before.worker (pin_of serial chain ∷ before.turns) (serial + 1)
 
--- behind pin and unpin, where the pass has seen so many
-pub over : {q r s : PassView Chain} {chain : Chain} {seen : ℕ} → (p : IsPinnedOn q chain r) → seen ≡ r.seen → s ≡ unpinned_pass r (Some chain) → IsOver q (seen - 1) chain s
-over {q} {r} {s} {chain} {seen} p is home =
-    let learnt : r.seen ≡ p.serial + 1 = ap (λ (x : PassView Chain). x.seen) p.then in
-    let same : p.serial ≡ seen - 1 = omega (arith, learnt, is) in
-    subst (λ (n : ℕ). IsOver q n chain s) same (record { newest = p.newest; pass = home ∙ ap (λ (x : PassView Chain). unpinned_pass x (Some chain)) p.then })
+-- behind pin and unpin
+pub over : {q r s : PassView Chain} {chain : Chain} {serial : ℕ} → (p : IsPinnedOn q serial chain r) → s ≡ unpinned_pass r (Some chain) → IsOver q serial chain s
+over {chain = chain} p home = record { newest = p.newest; pass = home ∙ ap (λ (x : PassView Chain). unpinned_pass x (Some chain)) p.then }
 
 -- pin, what serving made and gave, unpin
 pub answered : {q r : PassView Chain} {chain : Chain} {serial : ℕ} {d : Datagram} {a b s c e : SideState} (served : Served) (result : Turned) → IsOver q serial chain r → Adds a b (Pinned serial ∷ [])

@@ -1,8 +1,8 @@
 -- What a worker counts beside its journal, and how it stands.
 use Rattle.std.proofs.Common.{◌≡◌, ◌≤◌, ◌<◌, ℕ, ◌+◌, ◌-◌, ◌*◌, ◌^◌, min, true, false, Option, Some, None, refl, ap, arith}
 use Rattle.outside.specs.Causes.{Rose}
-use Rattle.query_worker.specs.declared.turning.Turned.{Turned}
-use Rattle.query_worker.specs.declared.turning.Turned.TheVariants as turned
+use Rattle.query_worker.specs.declared.turn.Turned.{Turned}
+use Rattle.query_worker.specs.declared.turn.Turned.TheVariants as turned
 use Rattle.query_worker.specs.declared.worker.Tally.{Tally}
 use Rattle.query_worker.specs.declared.worker.WorkEnd.{WorkEnd}
 use Rattle.query_worker.specs.declared.worker.WorkEnd.TheVariants as ends

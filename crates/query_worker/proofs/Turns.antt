@@ -10,13 +10,13 @@ use Rattle.outside.specs.Journals.{adds-nothing, adds-then}
 use Rattle.outside.specs.States.{SideState}
 use Rattle.pin_table.specs.declared.views.PassView.{PassView}
 use Rattle.chain_build.specs.declared.chain.Chain.{Chain}
-use Rattle.query_worker.specs.declared.turning.Turned.{Turned}
-use Rattle.query_worker.specs.declared.turning.Turned.TheVariants as turned
+use Rattle.query_worker.specs.declared.turn.Turned.{Turned}
+use Rattle.query_worker.specs.declared.turn.Turned.TheVariants as turned
 use Rattle.query_worker.specs.declared.worker.Tally.{Tally}
 use Rattle.query_worker.specs.declared.worker.WorkEnd.{WorkEnd}
 use Rattle.query_worker.specs.declared.worker.WorkEnd.TheVariants as ends
 use Rattle.query_worker.specs.Laws.{all_as}
-use Rattle.query_worker.specs.Pins.{PastPin, IsByPin, IsOfPass, TakeUnder, TellsPins, CountsPins, pinned_by}
+use Rattle.query_worker.specs.Pins.{PastPin, IsByPin, IsOfPass, TakeUnder, TellsPins, CountsPins, last_seen, pinned_by}
 use Rattle.query_worker.specs.States.{worked_of}
 use Rattle.query_worker.specs.Tally.{TurnEnds, IsIdle, tallied, with_miss, starved_in_row}
 use Rattle.query_worker.specs.Turn.{Turn, failed, unread, replied, silenced, starved, marks_of, datagrams, starved_in, serials, NeverFall, total}
@@ -260,7 +260,7 @@ starts a q t idle unused settled some = subst (HasWorked a a q) (sym idle) (reco
   are = record { lawful_are = tt; in_order = tt; datagrams_are = refl; starved_are = refl };
   under = subst (λ (l : List PastPin). TakeUnder (reverse l) []) (sym unused) tt;
   seen = tt;
-  counts = record { pins = ap length unused; last = λ e. absurd (omega (arith, e)); none = λ e. refl; within = omega (arith, some) };
+  counts = record { pins = ap length unused; seen = ap (λ (l : List PastPin). last_seen (map (λ (p : PastPin). p.serial) l)) (sym unused); last = λ e. absurd (omega (arith, e)); none = λ e. refl; within = omega (arith, some) };
   pinned = ap (λ (l : List PastPin). reverse (map (λ (p : PastPin). p.serial) l)) (sym unused);
   settled = settled;
   no_row = tt;
@@ -296,7 +296,7 @@ takes {a} {b} {c} {q} {r} {t} s want w grows =
       };
       under = subst (λ (l : List PastPin). TakeUnder l (w.turns ++ turn ∷ [])) (sym (reverse-append (pin ∷ []) q.turns)) (under-took (reverse q.turns) w.turns pin turn w.under one.by_pin);
       seen = rw serials_are (all-push (λ n. n ≤ s) (flat_map serials w.turns) s below (omega arith));
-      counts = record { pins = omega (arith, counted); last = λ e. refl; none = λ e. absurd (omega (arith, e)); within = omega arith };
+      counts = record { pins = omega (arith, counted); seen = refl; last = λ e. refl; none = λ e. absurd (omega (arith, e)); within = omega arith };
       pinned = serials_are ∙ ap (λ (l : List ℕ). l ++ s ∷ []) w.pinned ∙ sym (reverse-append (s ∷ []) (pinned_by q));
       settled = refl;
       no_row = no_row_by 0 w.turns pin turn w.no_row one.by_pin;
@@ -353,7 +353,7 @@ misses {a} {b} {c} {q} {t} turn starving flag is w adds want met unmet = record 
   are = missed_are q.turns w.turns turn is want w.are;
   under = under-missed (reverse q.turns) w.turns turn is w.under;
   seen = rw (missed_serials w.turns turn is) w.seen;
-  counts = record { pins = w.counts.pins; last = w.counts.last; none = w.counts.none; within = w.counts.within };
+  counts = record { pins = w.counts.pins; seen = w.counts.seen; last = w.counts.last; none = w.counts.none; within = w.counts.within };
   pinned = missed_serials w.turns turn is ∙ w.pinned;
   settled = w.settled;
   first = w.no_row;

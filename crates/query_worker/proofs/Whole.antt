@@ -7,8 +7,8 @@ use Rattle.outside.specs.States.{SideState, Stays, left_once}
 use Rattle.outside.specs.TakingLaws.{stays-nothing, stays-then}
 use Rattle.pin_table.specs.declared.views.PassView.{PassView}
 use Rattle.chain_build.specs.declared.chain.Chain.{Chain}
-use Rattle.query_worker.specs.declared.turning.Turned.{Turned}
-use Rattle.query_worker.specs.declared.turning.Turned.TheVariants as turned
+use Rattle.query_worker.specs.declared.turn.Turned.{Turned}
+use Rattle.query_worker.specs.declared.turn.Turned.TheVariants as turned
 use Rattle.query_worker.specs.declared.worker.Tally.{Tally}
 use Rattle.query_worker.specs.declared.worker.WorkEnd.{WorkEnd}
 use Rattle.query_worker.specs.States.{WorkerState}

@@ -7,7 +7,7 @@ pub mod Laws
 -- what public clauses cite
 pub use Rattle.query_worker.specs.Laws.{lawful_of, ready_of, run_as}
 pub use Rattle.query_worker.specs.Pins.{AreOf, CountsPins, IsOf, IsOfPass, IsReady, IsResting}
-pub use Rattle.query_worker.specs.Pins.{OfPin, PastPin, TellsPins, pinned_by}
+pub use Rattle.query_worker.specs.Pins.{OfPin, PastPin, TellsPins, last_seen, pinned_by}
 pub use Rattle.query_worker.specs.States.{WorkerState, Worked, worked_of, worker_state}
 pub use Rattle.query_worker.specs.Tally.{IsIdle}
 pub use Rattle.query_worker.specs.Turn.{IsLawful, IsPublished}

@@ -78,10 +78,16 @@ pub record TellsPins (pins : List PastPin) (journal : List Mark) : Type 0 where
   pub told : journal ≡ flat_map marks_of turns ++ ending
   pub under : TakeUnder (reverse pins) turns
 
+-- the last of serials that were pinned, the last one first; 0 where there is none
+abbrev pub last_seen : List ℕ → ℕ
+last_seen [] = 0
+last_seen (serial ∷ earlier) = serial
+
 -- what a worker counted is what its pass shows: each datagram has its pin, and the pass has seen
 -- just the last one's serial, or whatever it had where there is none
 pub record CountsPins (tally : Tally) (pass : PassView Chain) : Type 0 where
   pub pins : length pass.turns ≡ tally.pins
+  pub seen : tally.seen ≡ last_seen (pinned_by pass)
   pub last : 0 < tally.pins → pass.seen ≡ tally.seen + 1
   pub none : tally.pins ≡ 0 → tally.seen ≡ 0
   pub within : tally.seen + 1 ≤ pass.seen

@@ -2,8 +2,8 @@
 use Rattle.std.specs.Prelude.{◌≡◌, ◌<◌, ℕ, ◌+◌, true, false, Option, Some, None}
 use Rattle.dns_data.specs.declared.limit.TheConstants as limits
 use Rattle.query_worker.specs.declared.worker.Tally.{Tally}
-use Rattle.query_worker.specs.declared.turning.Turned.{Turned}
-use Rattle.query_worker.specs.declared.turning.Turned.TheVariants as turned
+use Rattle.query_worker.specs.declared.turn.Turned.{Turned}
+use Rattle.query_worker.specs.declared.turn.Turned.TheVariants as turned
 use Rattle.query_worker.specs.declared.worker.WorkEnd.{WorkEnd}
 use Rattle.query_worker.specs.declared.worker.WorkEnd.TheVariants as ends
 

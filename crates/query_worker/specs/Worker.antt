@@ -12,8 +12,8 @@ use Rattle.pin_table.specs.Steps.{idle_pass}
 use Rattle.chain_meaning.specs.declared.served.Served.{Served}
 use Rattle.chain_meaning.specs.declared.served.Served.TheVariants.{Reply, Silent, NoMemory}
 use Rattle.chain_build.specs.declared.chain.Chain.{Chain}
-use Rattle.query_worker.specs.declared.turning.Turned.{Turned}
-use Rattle.query_worker.specs.declared.turning.Turned.TheVariants as turned
+use Rattle.query_worker.specs.declared.turn.Turned.{Turned}
+use Rattle.query_worker.specs.declared.turn.Turned.TheVariants as turned
 use Rattle.query_worker.specs.declared.worker.WorkEnd.{WorkEnd}
 use Rattle.query_worker.specs.declared.worker.WorkEnd.TheVariants as ends
 use Rattle.query_worker.specs.Pins.{CountsPins, IsByPin, IsOfPass, PastPin, TellsPins, pinned_by}

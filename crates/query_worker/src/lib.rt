@@ -2,11 +2,11 @@
 //! ends.
 #![tactic(auto)]
 
-mod turning;
+mod turn;
 mod worker;
 mod working;
 
 pub use chain_build::{Chain, Room};
-pub use turning::{Turned, take_turn};
+pub use turn::{Turned, take_turn};
 pub use worker::{Tally, WorkEnd, Worker};
 pub use working::{work, work_once};

@@ -5,7 +5,7 @@ ghost use Rattle.query_worker.specs.Pins.{IsReady, IsResting};
 ghost use Rattle.query_worker.specs.States.{worker_state};
 ghost use Rattle.query_worker.specs.Worker.{TakesTurn, WorksToEnd};
 
-use crate::turning::{Turned, take_turn};
+use crate::turn::{Turned, take_turn};
 use crate::worker::{WorkEnd, Worker};
 use chain_build::Chain;
 use outside::Side;

@@ -1,6 +1,7 @@
 pub mod Going
 pub mod Looks
 pub mod Placed
+pub mod Reading
 pub mod Refusing
 pub mod Sweeping
 pub mod Watching

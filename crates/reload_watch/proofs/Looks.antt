@@ -8,8 +8,8 @@ use Rattle.corefile_blocks.specs.declared.bundle.Bundle.{Bundle}
 use Rattle.corefile_bundle.specs.declared.fault.GatherFault.{GatherFault}
 use Rattle.corefile_bundle.specs.Gathering.{Source, TellsGathering, marks_of}
 use Rattle.chain_build.specs.{PlansData}
-use Rattle.reload_watch.specs.declared.looking.Looking.{Looking}
-use Rattle.reload_watch.specs.declared.looking.Looking.TheVariants as looking
+use Rattle.reload_watch.specs.declared.look_answer.Looking.{Looking}
+use Rattle.reload_watch.specs.declared.look_answer.Looking.TheVariants as looking
 use Rattle.chain_meaning.specs.Accepting.{IsAccepted}
 use Rattle.reload_watch.specs.Reloads.{reloads}
 use Rattle.reload_watch.specs.States.{Serving}

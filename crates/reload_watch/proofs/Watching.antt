@@ -17,8 +17,8 @@ use Rattle.corefile_bundle.specs.Gathering.{GathersFrom, OneRead, Source}
 use Rattle.chain_meaning.specs.Accepting.{IsAccepted}
 use Rattle.chain_build.specs.declared.chain.Chain.{Chain}
 use Rattle.chain_build.specs.{ArePlans, PlansData, plans_of}
-use Rattle.reload_watch.specs.declared.looking.Looking.{Looking}
-use Rattle.reload_watch.specs.declared.looking.Looking.TheVariants as looking
+use Rattle.reload_watch.specs.declared.look_answer.Looking.{Looking}
+use Rattle.reload_watch.specs.declared.look_answer.Looking.TheVariants as looking
 use Rattle.reload_watch.specs.Filled.{AreFilledBy, EndsWith, IsOf}
 use Rattle.reload_watch.specs.Look.{AnswersLook, standing_of, LooksOver, LooksOnce, Starves, ServesGathered, look_marks, starved_by}
 use Rattle.reload_watch.specs.Going.{CountsRefusals, RoseWithin}

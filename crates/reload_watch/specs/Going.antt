@@ -4,12 +4,12 @@ use Rattle.outside.specs.Causes.{RoseBy, WatchNoneFell, raised}
 use Rattle.outside.specs.States.{WatchState, with_refusals}
 use Rattle.chain_meaning.specs.declared.refusal.Refusal.{Refusal}
 use Rattle.chain_build.specs.{is_of_pattern}
-use Rattle.reload_watch.specs.declared.first.FirstFault.{FirstFault}
-use Rattle.reload_watch.specs.declared.first.FirstFault.TheVariants as first
+use Rattle.reload_watch.specs.declared.fault.ReadFault.{ReadFault}
+use Rattle.reload_watch.specs.declared.fault.ReadFault.TheVariants as first
 use Rattle.reload_watch.specs.declared.found.Found.{Found}
 use Rattle.reload_watch.specs.declared.found.Found.TheVariants.{Kept}
-use Rattle.reload_watch.specs.declared.looking.Looking.{Looking}
-use Rattle.reload_watch.specs.declared.looking.Looking.TheVariants as looking
+use Rattle.reload_watch.specs.declared.look_answer.Looking.{Looking}
+use Rattle.reload_watch.specs.declared.look_answer.Looking.TheVariants as looking
 
 -- no count fell, the script is as it was, and no refusal of a pattern is gone
 pub record WatchGoesOn (before after : WatchState) : Type 0 where
@@ -26,7 +26,7 @@ abbrev pub pattern_refused : Refusal → ℕ
 pattern_refused why = if is_of_pattern why then 1 else 0
 
 -- the refusals of a maker behind the first reading
-abbrev pub refusals_first : {X : Type 0} → Result X FirstFault → ℕ → ℕ
+abbrev pub refusals_first : {X : Type 0} → Result X ReadFault → ℕ → ℕ
 refusals_first (Err (first.Refused why)) before = refusals_by why before
 refusals_first other before = before
 

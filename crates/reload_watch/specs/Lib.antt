@@ -1,7 +1,9 @@
+pub mod Faults
 pub mod Filled
 pub mod Going
 pub mod Keeping
 pub mod Look
+pub mod Looked
 pub mod Messages
 pub mod Opening
 pub mod Placing
@@ -18,6 +20,7 @@ pub use Rattle.reload_watch.specs.Going.{CountsRefusals, RoseWithin, WatchGoesOn
 pub use Rattle.reload_watch.specs.Going.{refusals_by, refusals_first}
 pub use Rattle.reload_watch.specs.Keeping.{IsCleared, IsKeeping}
 pub use Rattle.reload_watch.specs.Look.{LooksOnce, SearchesFirst, starved_by}
+pub use Rattle.reload_watch.specs.Looked.{HasLooked}
 pub use Rattle.reload_watch.specs.Messages.{look_text}
 pub use Rattle.reload_watch.specs.Opening.{GathersThat, IsReading, ReadsFirst, ReadsPlans, Refuses}
 pub use Rattle.reload_watch.specs.Placing.{IsPlaced}

@@ -23,8 +23,8 @@ use Rattle.chain_build.specs.declared.chain.Chain.{Chain}
 use Rattle.chain_build.specs.{ArePlans, PlansData, plans_of}
 use Rattle.reload_watch.specs.declared.found.Found.{Found}
 use Rattle.reload_watch.specs.declared.found.Found.TheVariants.{Kept, Next}
-use Rattle.reload_watch.specs.declared.looking.Looking.{Looking}
-use Rattle.reload_watch.specs.declared.looking.Looking.TheVariants as looking
+use Rattle.reload_watch.specs.declared.look_answer.Looking.{Looking}
+use Rattle.reload_watch.specs.declared.look_answer.Looking.TheVariants as looking
 use Rattle.chain_meaning.specs.Accepting.{IsAccepted}
 use Rattle.reload_watch.specs.Messages.{look_text}
 use Rattle.reload_watch.specs.Opening.{GathersThat, Refuses}

@@ -2,8 +2,8 @@
 use Rattle.std.specs.Prelude.{ℕ, List, [], ◌++◌, codes}
 use Rattle.std.specs.Fmt.{decimal}
 use Rattle.chain_meaning.specs.{refusal_text}
-use Rattle.reload_watch.specs.declared.looking.Looking.{Looking}
-use Rattle.reload_watch.specs.declared.looking.Looking.TheVariants as looking
+use Rattle.reload_watch.specs.declared.look_answer.Looking.{Looking}
+use Rattle.reload_watch.specs.declared.look_answer.Looking.TheVariants as looking
 
 -- the line that notes a look, without a line end. A look that changed nothing, or met want of
 -- memory, has none.

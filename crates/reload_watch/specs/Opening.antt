@@ -8,8 +8,8 @@ use Rattle.corefile_bundle.specs.declared.fault.GatherFault.{GatherFault}
 use Rattle.corefile_bundle.specs.declared.fault.GatherFault.TheVariants as unread
 use Rattle.corefile_bundle.specs.Gathering.{GathersFrom, OneRead, Source, TellsGathering, marks_of}
 use Rattle.chain_build.specs.{ArePlans, PlansData}
-use Rattle.reload_watch.specs.declared.first.FirstFault.{FirstFault}
-use Rattle.reload_watch.specs.declared.first.FirstFault.TheVariants as fault
+use Rattle.reload_watch.specs.declared.fault.ReadFault.{ReadFault}
+use Rattle.reload_watch.specs.declared.fault.ReadFault.TheVariants as fault
 use Rattle.chain_meaning.specs.declared.refusal.Refusal.{Refusal}
 use Rattle.chain_meaning.specs.declared.refusal.Refusal.TheVariants as refusal
 use Rattle.chain_meaning.specs.Accepting.{IsRefused}
@@ -44,7 +44,7 @@ pub record ReadsPlans (source : Source) (default_port : ℕ) (old new : WatchSta
   pub are : ArePlans plans
 
 -- what reading the first bundle answers
-abbrev pub ReadsFirst : Source → ℕ → WatchState → WatchState → Result PlansData FirstFault → Type 0
+abbrev pub ReadsFirst : Source → ℕ → WatchState → WatchState → Result PlansData ReadFault → Type 0
 ReadsFirst source default_port old new (Ok plans) = ReadsPlans source default_port old new plans
 ReadsFirst source default_port old new (Err (fault.Refused why)) =
     GathersThat source old new (λ gives. Refuses default_port gives why)

@@ -9,8 +9,8 @@ use Rattle.outside.specs.declared.mark.WatchMark.TheVariants.{Look}
 use Rattle.corefile_blocks.specs.declared.bundle.Bundle.{Bundle}
 use Rattle.corefile_bundle.specs.declared.fault.GatherFault.{GatherFault}
 use Rattle.corefile_bundle.specs.Gathering.{GathersFrom, OneRead, Source, marks_of}
-use Rattle.reload_watch.specs.declared.looking.Looking.{Looking}
-use Rattle.reload_watch.specs.declared.looking.Looking.TheVariants as looking
+use Rattle.reload_watch.specs.declared.look_answer.Looking.{Looking}
+use Rattle.reload_watch.specs.declared.look_answer.Looking.TheVariants as looking
 use Rattle.chain_meaning.specs.Accepting.{IsAccepted}
 use Rattle.pin_table.specs.declared.views.Sweep.{Sweep}
 use Rattle.plain_plugins.specs.declared.reload.ReloadTimes.{ReloadTimes}

@@ -5,8 +5,8 @@ use Rattle.outside.specs.declared.mark.WatchMark.TheVariants.{Look, End}
 use Rattle.outside.specs.States.{WatchState}
 use Rattle.outside.specs.WatchMarks.{AddsWatch}
 use Rattle.corefile_bundle.specs.Gathering.{Source}
-use Rattle.reload_watch.specs.declared.looking.Looking.{Looking}
-use Rattle.reload_watch.specs.declared.looking.Looking.TheVariants as looking
+use Rattle.reload_watch.specs.declared.look_answer.Looking.{Looking}
+use Rattle.reload_watch.specs.declared.look_answer.Looking.TheVariants as looking
 use Rattle.reload_watch.specs.declared.turns.WatchEnd.{WatchEnd}
 use Rattle.reload_watch.specs.declared.turns.WatchEnd.TheVariants as ends
 use Rattle.reload_watch.specs.Look.{LooksOnce, starved_by}

@@ -3,22 +3,12 @@ ghost use Rattle.reload_watch.specs.Going.{WatchGoesOn, refusals_first};
 ghost use Rattle.reload_watch.specs.Opening.{ReadsFirst};
 ghost use Rattle.reload_watch.specs.States.{source_data};
 
+use crate::fault::{ReadFault, read_fault};
 use crate::source::Source;
 use chain_build::{CheckFault, Plans, check};
-use chain_meaning::Refusal;
-use corefile_bundle::{GatherFault, gather};
-use dns_data::Text;
+use corefile_bundle::gather;
 use outside::Watch;
 use std::alloc::Global;
-
-/// Why there is no first configuration.
-#[derive(Debug, Drop)]
-pub enum FirstFault {
-    Refused(Refusal),
-    /// The file of this name could not be read.
-    ReadFailed(Text),
-    NoMemory,
-}
 
 /// Reads the first bundle over a watch, and what it serves by.
 pub fn read_first<W: Watch>(
@@ -26,7 +16,7 @@ pub fn read_first<W: Watch>(
     watch: &mut W,
     source: Source<'_>,
     default_port: u16,
-) -> Result<Plans, FirstFault>
+) -> Result<Plans, ReadFault>
     ensures reads { ReadsFirst (source_data source.entry) default_port
         (W.state watch.old) (W.state watch.new) result }
     ensures goes { WatchGoesOn (W.state watch.old) (W.state watch.new) }
@@ -36,14 +26,9 @@ pub fn read_first<W: Watch>(
     match gather(alloc, watch, source.conf, source.env) {
         Ok(bundle) => match check(alloc, bundle, default_port, watch) {
             Ok(plans) => Ok(plans),
-            Err(CheckFault::Refused(why)) => Err(FirstFault::Refused(why)),
-            Err(CheckFault::NoMemory) => Err(FirstFault::NoMemory),
+            Err(CheckFault::Refused(why)) => Err(ReadFault::Refused(why)),
+            Err(CheckFault::NoMemory) => Err(ReadFault::NoMemory),
         },
-        Err(GatherFault::NoCorefile) => Err(FirstFault::Refused(Refusal::NoCorefile)),
-        Err(GatherFault::ReadFailed { name }) => Err(FirstFault::ReadFailed(name)),
-        Err(GatherFault::TooMany { what, number }) => {
-            Err(FirstFault::Refused(Refusal::TooMany { what, number }))
-        }
-        Err(GatherFault::NoMemory) => Err(FirstFault::NoMemory),
+        Err(fault) => Err(read_fault(fault)),
     }
 }

@@ -6,9 +6,9 @@ ghost use Rattle.outside.specs.States.{WatchState};
 ghost use Rattle.reload_watch.specs.Going.{found_behind};
 ghost use Rattle.reload_watch.specs.Look.{Finds};
 
-use crate::looking::{Looking, Ports};
+use crate::fault::{answer_to, read_fault};
+use crate::look_answer::{Looking, Ports};
 use chain_build::{CheckFault, Plans, check};
-use chain_meaning::Refusal;
 use corefile_blocks::Bundle;
 use corefile_bundle::GatherFault;
 use dns_data::{NoMemory, Seq};
@@ -34,12 +34,7 @@ pub(crate) fn find<W: Watch>(
 {
     match gathered {
         Ok(bundle) => compare(alloc, bundle, current, watch),
-        Err(GatherFault::NoCorefile) => Found::Kept(Looking::Refused(Refusal::NoCorefile)),
-        Err(GatherFault::ReadFailed { name }) => Found::Kept(Looking::ReadFailed(name)),
-        Err(GatherFault::TooMany { what, number }) => {
-            Found::Kept(Looking::Refused(Refusal::TooMany { what, number }))
-        }
-        Err(GatherFault::NoMemory) => Found::Kept(Looking::NoMemory),
+        Err(fault) => Found::Kept(answer_to(read_fault(fault))),
     }
 }
 

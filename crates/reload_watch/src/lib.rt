@@ -2,19 +2,22 @@
 //! there are no more.
 #![tactic(auto)]
 
+mod fault;
 mod first;
 mod found;
 mod look;
-mod looking;
+mod look_answer;
 mod publishing;
 mod reloads;
 mod source;
 mod turns;
 mod watcher;
 
-pub use first::{FirstFault, read_first};
+pub use fault::ReadFault;
+pub use first::read_first;
 pub use look::look_once;
-pub use looking::{Looking, Ports};
+pub use look_answer::{Looking, Ports};
+pub use publishing::show_published;
 pub use source::Source;
 pub use turns::{WatchEnd, watch};
 pub use watcher::Watcher;

@@ -1,7 +1,9 @@
 //! The publication of what was read, and the notes of looks.
-ghost use Rattle.std.specs.Prelude.{◌≡◌, ◌≤◌, ◌<◌, ◌*◌, List, [], length};
+ghost use Rattle.std.specs.Prelude.{◌≡◌, ◌≤◌, ◌<◌, ◌+◌, ◌*◌, List, [], ◌∷◌, length};
 ghost use Rattle.std.specs.Vec.{vec_len, vec_capacity};
+ghost use Rattle.outside.specs.declared.mark.WatchMark.TheVariants as mark;
 ghost use Rattle.outside.specs.States.{WatchStays};
+ghost use Rattle.outside.specs.WatchMarks.{AddsWatch};
 ghost use Rattle.chain_build.specs.{ArePlans, chain_identity, chain_log};
 ghost use Rattle.pin_table.specs.{AreFilled, AreNew, IsFound, IsFreed, IsFreeSlot};
 ghost use Rattle.pin_table.specs.{IsPublisherOf, SamePublisher, count_of, plan_of};
@@ -13,7 +15,7 @@ ghost use Rattle.reload_watch.specs.Publishing.{AddsGeneration, KeepsPast};
 ghost use Rattle.reload_watch.specs.States.{serving_of};
 ghost use Rattle.reload_watch.specs.Sweeps.{KeepsSweeps};
 
-use crate::looking::Looking;
+use crate::look_answer::Looking;
 use crate::watcher::Watcher;
 use chain_build::{Chain, Plans, build};
 use outside::Watch;
@@ -85,7 +87,7 @@ pub(crate) fn publish_next<W: Watch>(
         FreeSlot::Free(slot) => {
             publish(table, &mut watcher.publisher, slot, chains);
             watcher.current = next;
-            watcher.watch.saw_published(serial);
+            show_published(&mut watcher.watch, &watcher.publisher, serial);
             note_line(&mut watcher.watch, line.as_bytes());
             looking
         }
@@ -94,6 +96,15 @@ pub(crate) fn publish_next<W: Watch>(
             note_look(alloc, &mut watcher.watch, pinned)
         }
     }
+}
+
+/// Shows a watch that the generation of this serial was published: it is the publisher's last one.
+pub fn show_published<W: Watch>(watch: &mut W, publisher: &Publisher<Chain>, serial: u64)
+    requires last { count_of (plan_of publisher.now) ≡ serial + 1 }
+    ensures told { AddsWatch (W.state watch.old) (W.state watch.new) (mark.Published serial ∷ []) }
+    ensures stays { WatchStays (W.state watch.old) (W.state watch.new) }
+{
+    watch.saw_published(serial);
 }
 
 // Sweeps the slots of replaced generations, lets go what came home, and gives a free slot.

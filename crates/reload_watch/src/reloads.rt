@@ -1,25 +1,33 @@
 //! Whether blocks are to be looked at again, and how often.
 ghost use Rattle.std.specs.Prelude.{◌≡◌};
-ghost use Rattle.reload_watch.specs.Reloads.{has_name, reloads, times_in, times_of};
+ghost use Rattle.reload_watch.specs.Reloads.{has_reload, is_reload, reloads, times_in, times_of};
 
 use dns_data::{Block, Directive};
 use plain_plugins::{ReloadTimes, reload_times};
+use plugin_api::{Rank, rank};
 
 pub(crate) fn reloads(blocks: &[Block]) -> bool
     ensures { result ≡ reloads blocks.now }
 {
     blocks
         .iter()
-        .any(|block| has_name(block.directives.as_slice(), "reload"))
+        .any(|block| has_reload(block.directives.as_slice()))
 }
 
-// Whether one of these directives has this name.
-fn has_name(directives: &[Directive], name: &str) -> bool
-    ensures { result ≡ has_name directives.now name.now }
+// Whether one of these directives is `reload`.
+fn has_reload(directives: &[Directive]) -> bool
+    ensures { result ≡ has_reload directives.now }
 {
-    directives
-        .iter()
-        .any(|directive| directive.name.as_str() == name)
+    directives.iter().any(|directive| is_reload(directive))
+}
+
+fn is_reload(directive: &Directive) -> bool
+    ensures { result ≡ is_reload directive.now }
+{
+    match rank(&directive.name) {
+        Some(Rank::Reload) => true,
+        _ => false,
+    }
 }
 
 /// The times of the first `reload` of the blocks, in the order of the text.
@@ -42,7 +50,7 @@ fn times_in(directives: &[Directive]) -> Option<ReloadTimes>
 {
     let mut rest = directives;
     while let Some((directive, behind)) = rest.split_first() {
-        if directive.name.as_str() == "reload" {
+        if is_reload(directive) {
             return Some(reload_times(directive.args.as_slice()));
         }
         rest = behind;

@@ -2,7 +2,7 @@ use Rattle.std.proofs.Common.{◌≡◌, ℕ, List, ◌∷◌, rules, subst, ◌
 use Rattle.outside.specs.declared.mark.WatchMark.TheVariants.{Published}
 use Rattle.outside.specs.Journals.{watch-adds-then}
 use Rattle.outside.specs.WatchMarks.{AddsWatch}
-use Rattle.reload_watch.specs.declared.looking.Looking.TheVariants as answer
+use Rattle.reload_watch.specs.declared.look_answer.Looking.TheVariants as answer
 use Rattle.reload_watch.specs.Look.{note_marks}
 use Rattle.reload_watch.specs.Messages.{look_text}
 use Rattle.reload_watch.proofs.publishing.publish_next.Goals as goal
@@ -24,5 +24,5 @@ returns-in-Free-clause-publishes g c = record {
   told =
       let line : c.as_bytes.result.now ≡ look_text (answer.Published c.published-serial.result) = c.as_bytes.ensures.value ∙ c.in-Ok-format.ensures.ok in
       subst (λ (l : List ℕ). AddsWatch (g.W.PatternMaker.state c.args.watcher.now.watch) (g.W.PatternMaker.state c.note_line.new.watch) (Published c.published-serial.result ∷ note_marks l c.note_line.ensures.notes.flag)) line
-      (watch-adds-then c.saw_published.ensures.told c.note_line.ensures.notes.told);
+      (watch-adds-then c.show_published.ensures.told c.note_line.ensures.notes.told);
 }

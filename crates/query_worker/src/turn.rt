@@ -1,7 +1,8 @@
 ghost use Rattle.dns_data.specs.declared.limit.TheConstants as limits;
-ghost use Rattle.std.specs.Prelude.{◌≡◌, ◌<◌, ◌∷◌, None, length};
-ghost use Rattle.outside.specs.declared.mark.Mark.TheVariants.{Got};
-ghost use Rattle.outside.specs.Marks.{Grows};
+ghost use Rattle.std.specs.Prelude.{◌≡◌, ◌<◌, [], ◌∷◌, None, length, true};
+ghost use Rattle.std.specs.Option.{is_some};
+ghost use Rattle.outside.specs.declared.mark.Mark.TheVariants.{Got, Unpinned};
+ghost use Rattle.outside.specs.Marks.{Adds, Grows};
 ghost use Rattle.outside.specs.Causes.{Rose};
 ghost use Rattle.outside.specs.States.{Stays};
 ghost use Rattle.pin_table.specs.{IsPassOf, IsPinnedOn, SamePass, pass_of};
@@ -77,34 +78,50 @@ fn answer<S: Side>(
     ensures rests { IsResting table.now pass.new }
     ensures datagram { IsOfDatagram result }
 {
-    let chain = pin(table, pass);
-    let serial = pass.seen() - 1;
+    let (serial, chain) = pin(table, pass);
     side.saw(Seen::Pinned(serial));
     let served = serve(alloc, &chain, datagram, side, room);
-    let turned = send(side, serial, served, room);
+    let turned = send(side, pass, serial, served, room);
     table.unpin(pass, chain);
-    side.saw(Seen::Unpinned(serial));
+    show_unpinned(side, pass, serial);
     turned
 }
 
-// Pins the current generation, and gives this worker's chain of it.
+// Pins the current generation, and gives its serial and this worker's chain of it.
 #[inline]
-fn pin(table: &PinTable<Chain>, pass: &mut Pass<Chain>) -> Chain
+fn pin(table: &PinTable<Chain>, pass: &mut Pass<Chain>) -> (u64, Chain)
     requires own { IsPassOf table.now pass.old }
     requires idle { (pass_of pass.old).held ≡ None }
     requires few { length (pass_of pass.old).turns < limits.TURNS }
     ensures same { SamePass pass.old pass.new }
-    ensures pinned { IsPinnedOn (pass_of pass.old) result (pass_of pass.new) }
+    ensures pinned { IsPinnedOn (pass_of pass.old) result.0 result.1 (pass_of pass.new) }
 {
     match table.pin(pass) {
-        Pin::Pinned(chain) => chain,
+        Pin::Pinned { serial, chain } => (serial, chain),
         Pin::Spent => unreachable!(),
     }
 }
 
-// Sends the reply, where there is one, and keeps its bytes for the next one. A reply that didn't go
-// out ends nothing: the client asks again.
-fn send<S: Side>(side: &mut S, serial: u64, served: Served, room: &mut Room) -> Turned
+// Shows the side that the pin of this serial has ended: the pass holds none any more.
+#[inline]
+fn show_unpinned<S: Side>(side: &mut S, pass: &Pass<Chain>, serial: u64)
+    requires ended { (pass_of pass.now).held ≡ None }
+    ensures told { Adds (S.state side.old) (S.state side.new) (Unpinned serial ∷ []) }
+    ensures stays { Stays (S.state side.old) (S.state side.new) }
+{
+    side.saw(Seen::Unpinned(serial));
+}
+
+// Sends the reply, where there is one, while the pass holds its pin, and keeps its bytes for the
+// next one. A reply that didn't go out ends nothing: the client asks again.
+fn send<S: Side>(
+    side: &mut S,
+    pass: &Pass<Chain>,
+    serial: u64,
+    served: Served,
+    room: &mut Room,
+) -> Turned
+    requires held { is_some (pass_of pass.now).held ≡ true }
     ensures sends { SendsServed (S.state side.old) (S.state side.new) serial served result }
     ensures stays { Stays (S.state side.old) (S.state side.new) }
 {

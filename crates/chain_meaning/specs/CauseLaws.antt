@@ -18,7 +18,7 @@ use Rattle.file_plugin.specs.Zones.{answer_from, file_say, longest_of}
 use Rattle.hosts_plugin.specs.{HostsData, Said as HostsSaid}
 use Rattle.hosts_plugin.specs.Hosts as hosts
 use Rattle.hosts_plugin.specs.Hosts.{address_said, address_say, hosts_say, listed_at, listed_for, name_said, name_say, plan_listings, plan_zones}
-use Rattle.option_words.specs.{fallthrough_of}
+use Rattle.plugin_api.specs.{PlanData, fallthrough_of}
 use Rattle.hosts_plugin.specs.declared.listing.Listing.{Listing}
 use Rattle.hosts_plugin.specs.Options.{has_no_reverse}
 use Rattle.zone_lookup.specs.Zone.{cut_of}
@@ -30,17 +30,14 @@ use Rattle.outside.specs.declared.mark.Mark.TheVariants as mark
 use Rattle.plain_plugins.specs.{error_line, is_any, log_line, plain_zones}
 use Rattle.plain_plugins.specs.Any.{any_of}
 use Rattle.plain_plugins.specs.Whoami.{whoami_of}
-use Rattle.plugin_api.specs.{PlanData}
 use Rattle.plugin_api.specs.declared.ranks.Rank.TheVariants as rank
+use Rattle.rewrite_plugin.specs.Shapes.{Answering, Rule, Written}
 use Rattle.rewrite_plugin.specs.{changed_by, restored}
 use Rattle.rewrite_plugin.specs.Answers.{all_restored, rule_restored, sections_restored}
 use Rattle.rewrite_plugin.specs.Rewrite.{restored_by, written_at}
 use Rattle.rewrite_plugin.specs.declared.plan_data.Changed.{Changed}
 use Rattle.rewrite_plugin.specs.declared.steps.Step.{Step as Applied}
-use Rattle.rewrite_plugin.specs.declared.rule.Answering.{Answering}
-use Rattle.rewrite_plugin.specs.declared.rule.Rule.{Rule}
 use Rattle.rewrite_plugin.specs.declared.rule.Rule.TheVariants as kind
-use Rattle.rewrite_plugin.specs.declared.rule.Written.{Written}
 use Rattle.plugin_api.specs.declared.verdict.Cause.{Cause}
 use Rattle.plugin_api.specs.declared.verdict.Code.TheVariants as code
 use Rattle.template_plugin.specs.{template_say}

@@ -1,8 +1,4 @@
-ghost use Rattle.std.specs.Prelude.{◌≡◌};
-ghost use Rattle.chain_meaning.specs.RefusalTexts.{directive_text, limit_text, why_text};
-ghost use Rattle.chain_meaning.specs.RefusalTexts.{zone_text};
-
-use corefile_blocks::{BlockWhy, CorefileFault, WordsFault};
+use corefile_blocks::{CorefileFault, WordsFault};
 use dns_data::Limit;
 use plugin_api::DirectiveWhy;
 use std::fmt;
@@ -42,7 +38,7 @@ impl Display for Refusal {
                 WordsFault::NoMemory => f.write_str("out of memory"),
             },
             Refusal::Corefile(CorefileFault::Block { line, why }) => {
-                write!(f, "corefile line {line}: block: {}", why_text(*why))
+                write!(f, "corefile line {line}: block: {}", why.text())
             }
             Refusal::Corefile(CorefileFault::NoSnippet { line }) => {
                 write!(f, "corefile line {line}: no snippet or file")
@@ -54,99 +50,21 @@ impl Display for Refusal {
                 write!(f, "corefile line {line}: zone and port given twice")
             }
             Refusal::Corefile(CorefileFault::TooMany { what, number }) => {
-                write!(f, "too many {}: {number}", limit_text(*what))
+                write!(f, "too many {}: {number}", what.text())
             }
             Refusal::Corefile(CorefileFault::NoMemory) => f.write_str("out of memory"),
             Refusal::Unknown { line } => write!(f, "corefile line {line}: unknown directive"),
             Refusal::Directive { line, why } => {
-                write!(
-                    f,
-                    "corefile line {line}: directive: {}",
-                    directive_text(*why)
-                )
+                write!(f, "corefile line {line}: directive: {}", why.text())
             }
             Refusal::Zone { line, at, why } => {
                 write!(
                     f,
                     "corefile line {line}: zone file line {at}: {}",
-                    zone_text(*why)
+                    why.text()
                 )
             }
-            Refusal::TooMany { what, number } => {
-                write!(f, "too many {}: {number}", limit_text(*what))
-            }
+            Refusal::TooMany { what, number } => { write!(f, "too many {}: {number}", what.text()) }
         }
-    }
-}
-
-// Why lines are no blocks.
-fn why_text(why: BlockWhy) -> &'static str
-    ensures { result.now ≡ why_text why }
-{
-    match why {
-        BlockWhy::NoKey => "nokey",
-        BlockWhy::Scheme => "scheme",
-        BlockWhy::Port => "port",
-        BlockWhy::Zone => "zone",
-        BlockWhy::Cidr => "cidr",
-        BlockWhy::DeepBrace => "deepbrace",
-        BlockWhy::OpenBlock => "openblock",
-        BlockWhy::StrayBrace => "straybrace",
-        BlockWhy::Outside => "outside",
-        BlockWhy::ImportArgs => "importargs",
-        BlockWhy::SnippetName => "snippetname",
-    }
-}
-
-// What is wrong with a directive.
-fn directive_text(why: DirectiveWhy) -> &'static str
-    ensures { result.now ≡ directive_text why }
-{
-    match why {
-        DirectiveWhy::Args => "args",
-        DirectiveWhy::Option => "option",
-        DirectiveWhy::Number => "number",
-        DirectiveWhy::Zone => "zone",
-        DirectiveWhy::Net => "net",
-        DirectiveWhy::Kind => "kind",
-        DirectiveWhy::Pattern => "pattern",
-        DirectiveWhy::PatternSize => "patternsize",
-        DirectiveWhy::Place => "place",
-        DirectiveWhy::NoUpstream => "noupstream",
-        DirectiveWhy::NoFile => "nofile",
-        DirectiveWhy::Twice => "twice",
-        DirectiveWhy::DoubleZone => "doublezone",
-        DirectiveWhy::Extra => "extra",
-    }
-}
-
-// What is wrong with a zone file.
-fn zone_text(why: ZoneWhy) -> &'static str
-    ensures { result.now ≡ zone_text why }
-{
-    match why {
-        ZoneWhy::Control => "control",
-        ZoneWhy::Syntax => "syntax",
-        ZoneWhy::NoSoa => "nosoa",
-        ZoneWhy::TwoSoa => "twosoa",
-        ZoneWhy::CnameMix => "cnamemix",
-    }
-}
-
-// Of what there are too many.
-fn limit_text(what: Limit) -> &'static str
-    ensures { result.now ≡ limit_text what }
-{
-    match what {
-        Limit::Workers => "workers",
-        Limit::Blocks => "blocks",
-        Limit::Directives => "directives",
-        Limit::Lines => "lines",
-        Limit::Patterns => "patterns",
-        Limit::FileBytes => "file bytes",
-        Limit::BundleBytes => "bundle bytes",
-        Limit::Files => "files",
-        Limit::ZoneRecords => "zone records",
-        Limit::Upstreams => "upstreams",
     }
 }

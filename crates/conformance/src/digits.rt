@@ -3,7 +3,7 @@
 use crate::case::Case;
 use crate::fault::CaseFault;
 use crate::fields::{number_field, read_bytes};
-use numbers::{read_duration, read_number};
+use numbers::{read_digits, read_duration};
 use std::alloc::Global;
 
 /// The number that a text of at most so many digits spells, or `bad`.
@@ -11,7 +11,7 @@ pub fn number(alloc: Global, case: &Case<'_>) -> Result<String, CaseFault> {
     let (text, most) = case.arguments()?;
     let text = read_bytes(alloc, text)?;
     match most.parse::<u8>() {
-        Ok(most) if most <= 18 => number_field(alloc, read_number(&text, usize::from(most))),
+        Ok(most) if most <= 18 => number_field(alloc, read_digits(&text, usize::from(most))),
         _ => Err(CaseFault::Bad),
     }
 }

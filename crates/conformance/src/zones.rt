@@ -9,7 +9,7 @@ use dns_data::limit::MESSAGE_BYTES;
 use dns_data::{Buffer, Query, Slot, class};
 use dns_write::write_parts;
 use std::alloc::Global;
-use zone_file::{ZoneFault, ZoneWhy, read_zone};
+use zone_file::{ZoneFault, read_zone};
 use zone_lookup::lookup;
 use zone_tree::TreeZone;
 
@@ -31,7 +31,7 @@ pub fn read(alloc: Global, case: &Case<'_>) -> Result<String, CaseFault> {
             Ok(answer)
         }
         Err(ZoneFault::Bad { line, why }) => {
-            Ok(format!(in alloc; "fault {line} {}", why_text(why))?)
+            Ok(format!(in alloc; "fault {line} {}", why.text())?)
         }
         Err(ZoneFault::TooMany) => Ok(String::from_str(alloc, "toomany")?),
         Err(ZoneFault::NoMemory) => Err(CaseFault::NoMemory),
@@ -71,15 +71,5 @@ fn read_tree(alloc: Global, text: &str, origin: &str) -> Result<TreeZone, CaseFa
         Ok(zone) => Ok(TreeZone::new(alloc, zone)?),
         Err(ZoneFault::NoMemory) => Err(CaseFault::NoMemory),
         Err(_) => Err(CaseFault::Bad),
-    }
-}
-
-fn why_text(why: ZoneWhy) -> &'static str {
-    match why {
-        ZoneWhy::Control => "control",
-        ZoneWhy::Syntax => "syntax",
-        ZoneWhy::NoSoa => "nosoa",
-        ZoneWhy::TwoSoa => "twosoa",
-        ZoneWhy::CnameMix => "cnamemix",
     }
 }

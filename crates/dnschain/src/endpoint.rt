@@ -1,8 +1,7 @@
 use dns_data::{Addr, NoMemory, Text, Transport};
-use edge_lines::Why;
 use edge_net::{End, TcpEnd, UdpEnd};
 use edge_sockets::{
-    every_address, open_tcp, open_tcp_at, open_udp, open_udp_alone, open_udp_beside,
+    Why, every_address, open_tcp, open_tcp_at, open_udp, open_udp_alone, open_udp_beside,
 };
 use std::alloc::Global;
 use std::io;

@@ -14,7 +14,7 @@ ghost use Rattle.dnschain.specs.Exit.{exit_number};
 use corefile_words::Pair;
 use dns_data::Text;
 use dns_server::{Status, run, tell_status};
-use edge_lines::open_standard;
+use edge_sockets::open_standard;
 use host::SystemHost;
 use std::alloc::Global;
 use std::env;

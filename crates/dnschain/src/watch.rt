@@ -2,8 +2,8 @@ ghost use Rattle.std.specs.Prelude.{◌≡◌, None};
 
 use crate::reading::{Unread, read_regular};
 use dns_data::{Bytes, Copies, Text};
-use edge_lines::{EdgeLine, Why, line_text, note_line};
 use edge_net::{Crew, count};
+use edge_sockets::{EdgeLine, Why, line_text, note_line};
 use outside::{Look, Made, PatternMaker, ReadOut, RegexMaker, Watch, Wrote};
 use std::alloc::Global;
 use std::random::RandomSource;

@@ -11,7 +11,7 @@ import tempfile
 
 from counted import BELOW, WORD, built, cost
 
-CRATES = ["dns_lists", "dns_addr", "dns_names", "dns_data", "equal_bytes", "name_table", "plugin_api"]
+CRATES = ["dns_lists", "dns_addr", "dns_names", "dns_data", "name_table", "plugin_api"]
 MOST = 400
 FEW, MANY = 2_000, 22_000
 

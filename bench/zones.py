@@ -11,7 +11,7 @@ import tempfile
 
 from counted import BELOW, WORD, built, cost
 
-CRATES = ["dns_lists", "dns_addr", "dns_names", "dns_data", "equal_bytes", "dns_wire", "dns_write", "name_table", "zone_lookup",
+CRATES = ["dns_lists", "dns_addr", "dns_names", "dns_data", "dns_wire", "dns_write", "name_table", "zone_lookup",
           "zone_tree"]
 CASES = ["hit", "wildcard", "nxdomain", "referral"]
 FEW, MANY = 2_000, 22_000

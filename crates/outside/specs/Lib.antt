@@ -26,7 +26,7 @@ pub use Rattle.outside.specs.Hosts.{AddsHost, IsFreshSide, IsFreshWatch, OpensSi
 pub use Rattle.outside.specs.Hosts.{TellsOneLine}
 pub use Rattle.outside.specs.Marks.{Adds, Grows, ask_marks, more_marks, noted, now_mark, recv_marks}
 pub use Rattle.outside.specs.Marks.{seen_mark, sent, word_mark}
-pub use Rattle.outside.specs.Patterns.{IsPatternOf, IsPatternText, Makes}
+pub use Rattle.outside.specs.Patterns.{IsPatternOf, IsPatternText, Makes, last_behind}
 pub use Rattle.outside.specs.Script.{AnsweredSide, QuietSide, SideScriptData, WatchScriptData}
 pub use Rattle.outside.specs.States.{Counted, Journal, SideState, Stays, WatchCounted}
 pub use Rattle.outside.specs.States.{WatchJournal, WatchState, WatchStays, left_once, maker_alone}

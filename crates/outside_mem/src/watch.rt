@@ -59,6 +59,8 @@ impl PatternMaker for MemWatch {
 
     ghost state = { watch_state };
 
+    ghost last = { λ w. w.maker.last };
+
     fn make(&mut self, alloc: Global, text: &Text) -> Made {
         self.maker.make(alloc, text)
     }

@@ -45,22 +45,25 @@ IsJudged why.Pattern text = IsPatternText text → ⊥
 IsJudged why.PatternSize text = IsPatternText text
 IsJudged other text = ⊥
 
--- a pattern is refused, and told at its line so, and those that stand before it are made
+-- a pattern is refused, and told at its line so, and those that stand before it are made. It is the
+-- text that the maker refused last.
 pub record Stops {Fault : Type 0} (told : ℕ → DirectiveWhy → Fault) (task : Task Fault)
-    (refused : Fault) : Type 0 where
+    (last : Option (List ℕ)) (refused : Fault) : Type 0 where
   pub count : ℕ
   pub good : AllByRecursion IsPatternText (take count task.patterns)
   pub text : List ℕ
   pub stands : slice_get task.patterns count ≡ Some text
+  pub own : last ≡ Some text
   pub line : ℕ
   pub why : DirectiveWhy
   pub so : refused ≡ told line why
   pub judgement : IsJudged why text
   pub is : task.fault (judged task count why) ≡ Some refused
 
--- this is the first fault
-abbrev pub IsFault : {Fault : Type 0} → (ℕ → DirectiveWhy → Fault) → Task Fault → Fault → Type 0
-IsFault told task refused = Comes task refused ⊎ Stops told task refused
+-- this is the first fault, where the maker refused this text last
+abbrev pub IsFault : {Fault : Type 0} → (ℕ → DirectiveWhy → Fault) → Task Fault
+    → Option (List ℕ) → Fault → Type 0
+IsFault told task last refused = Comes task refused ⊎ Stops told task last refused
 
 -- there is no fault where all are made
 abbrev pub IsFree : {Fault : Type 0} → Task Fault → Type 0
@@ -88,11 +91,13 @@ retold tells task = record {
   fault = λ judgement. tells (task.fault judgement);
 }
 
--- the rest of a task is as good as the whole: what becomes of it becomes of the whole
+-- the rest of a task is as good as the whole: what becomes of it becomes of the whole, whatever the
+-- maker refused last
 pub record Carries {Fault : Type 0} (told : ℕ → DirectiveWhy → Fault) (rest whole : Task Fault)
     : Type 0 where
   pub well : IsWell rest → IsWell whole
-  pub refused : (refused : Fault) → IsFault told rest refused → IsFault told whole refused
+  pub refused : (last : Option (List ℕ)) (refused : Fault) → IsFault told rest last refused
+      → IsFault told whole last refused
 
 -- how a directive tells of a pattern: at its line
 abbrev pub at_line : ℕ → DirectiveWhy → DirectiveFault
@@ -113,15 +118,17 @@ pattern_task line number text = record {
   fault = λ judgement. pattern_fault judgement line number;
 }
 
--- a pattern is refused so at its line
-pub record IsRefused (line : ℕ) (text : List ℕ) (refused : DirectiveFault) : Type 0 where
+-- a pattern is refused so at its line, and is the text that the maker refused last
+pub record IsRefused (line : ℕ) (text : List ℕ) (last : Option (List ℕ))
+    (refused : DirectiveFault) : Type 0 where
   pub why : DirectiveWhy
   pub so : refused ≡ fault.Why line why
+  pub own : last ≡ Some text
   pub judgement : IsJudged why text
 
 -- memory is wanting, or this is the first fault of a directive
-abbrev pub Refuses : Task DirectiveFault → DirectiveFault → Type 0
-Refuses task refused = (refused ≡ fault.NoMemory) ⊎ IsFault at_line task refused
+abbrev pub Refuses : Task DirectiveFault → Option (List ℕ) → DirectiveFault → Type 0
+Refuses task last refused = (refused ≡ fault.NoMemory) ⊎ IsFault at_line task last refused
 
 -- the refusals of a maker behind a fault: they rise by one where it refused a pattern
 abbrev pub refusals_behind : DirectiveFault → ℕ → ℕ

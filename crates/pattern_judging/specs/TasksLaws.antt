@@ -50,20 +50,21 @@ or_some : {F : Type 0} (a b : Option F) (x : F) → a ≡ Some x → option_or a
 or_some a b x e = ap (λ o. option_or o b) e
 
 -- a fault of the first task is one of both
-pub fault_first : {F : Type 0} (told : ℕ → DirectiveWhy → F) (front back : Task F) (refused : F) → IsFault told front refused → IsFault told (sequel front back) refused
-fault_first told front back refused (inl h) = inl (record {
+pub fault_first : {F : Type 0} (told : ℕ → DirectiveWhy → F) (front back : Task F) (last : Option (List ℕ)) (refused : F) → IsFault told front last refused → IsFault told (sequel front back) last refused
+fault_first told front back last refused (inl h) = inl (record {
   count = h.count;
   inside = omega (arith, h.inside, length-append front.patterns back.patterns);
   good = rw (take-append-le h.count front.patterns back.patterns h.inside) h.good;
   is = λ judgement enough. or_some (front.fault judgement) (back.fault judgement) refused (h.is judgement enough);
 })
-fault_first told front back refused (inr h) =
+fault_first told front back last refused (inr h) =
     let inside = slice_get_within front.patterns h.count h.text h.stands in
     inr (record {
       count = h.count;
       good = rw (take-append-le h.count front.patterns back.patterns (omega (arith, inside))) h.good;
       text = h.text;
       stands = get_front front.patterns back.patterns h.count h.text h.stands;
+      own = h.own;
       line = h.line;
       why = h.why;
       so = h.so;
@@ -90,18 +91,19 @@ module _ {F : Type 0} (told : ℕ → DirectiveWhy → F) (front back : Task F) 
   good_later count g = rw (take-append-add front.patterns back.patterns count) (good_append front.patterns (take count back.patterns) f.good g)
 
   -- behind a first task without a fault, a fault of the second one is one of both
-  pub fault_behind : (refused : F) → IsFault told back refused → IsFault told (sequel front back) refused
-  fault_behind refused (inl h) = inl (record {
+  pub fault_behind : (last : Option (List ℕ)) (refused : F) → IsFault told back last refused → IsFault told (sequel front back) last refused
+  fault_behind last refused (inl h) = inl (record {
     count = length front.patterns + h.count;
     inside = omega (arith, h.inside, length-append front.patterns back.patterns);
     good = good_later h.count h.good;
     is = λ judgement enough. first_free judgement (omega (arith, enough)) ∙ h.is judgement (omega (arith, enough, next));
   })
-  fault_behind refused (inr h) = inr (record {
+  fault_behind last refused (inr h) = inr (record {
     count = length front.patterns + h.count;
     good = good_later h.count h.good;
     text = h.text;
     stands = get_behind front.patterns back.patterns h.count h.text h.stands;
+    own = h.own;
     line = h.line;
     why = h.why;
     so = h.so;
@@ -123,48 +125,50 @@ module _ {F : Type 0} (told : ℕ → DirectiveWhy → F) (front back : Task F) 
   carries-behind = record { well = well_behind; refused = fault_behind }
 
 -- the same where memory may be wanting
-pub refuses_first : (front back : Task DirectiveFault) (refused : DirectiveFault) → Refuses front refused → Refuses (sequel front back) refused
-refuses_first front back refused (inl e) = inl e
-refuses_first front back refused (inr h) = inr (fault_first at_line front back refused h)
+pub refuses_first : (front back : Task DirectiveFault) (last : Option (List ℕ)) (refused : DirectiveFault) → Refuses front last refused → Refuses (sequel front back) last refused
+refuses_first front back last refused (inl e) = inl e
+refuses_first front back last refused (inr h) = inr (fault_first at_line front back last refused h)
 
-pub refuses_by : (rest whole : Task DirectiveFault) (refused : DirectiveFault) → Carries at_line rest whole → Refuses rest refused → Refuses whole refused
-refuses_by rest whole refused c (inl e) = inl e
-refuses_by rest whole refused c (inr h) = inr (c.refused refused h)
+pub refuses_by : (rest whole : Task DirectiveFault) (last : Option (List ℕ)) (refused : DirectiveFault) → Carries at_line rest whole → Refuses rest last refused → Refuses whole last refused
+refuses_by rest whole last refused c (inl e) = inl e
+refuses_by rest whole last refused c (inr h) = inr (c.refused last refused h)
 
 pub carries-same : {F : Type 0} (told : ℕ → DirectiveWhy → F) (task : Task F) → Carries told task task
-carries-same told task = record { well = λ w. w; refused = λ refused h. h }
+carries-same told task = record { well = λ w. w; refused = λ last refused h. h }
 
 pub carries-on : {F : Type 0} (told : ℕ → DirectiveWhy → F) (rest middle whole : Task F) → Carries told rest middle → Carries told middle whole → Carries told rest whole
-carries-on told rest middle whole a b = record { well = λ w. b.well (a.well w); refused = λ refused h. b.refused refused (a.refused refused h) }
+carries-on told rest middle whole a b = record { well = λ w. b.well (a.well w); refused = λ last refused h. b.refused last refused (a.refused last refused h) }
 
 -- a task without patterns and without a fault is well
 pub well-plain : {F : Type 0} (task : Task F) → task.patterns ≡ [] → ((judgement : Judgement) → task.fault judgement ≡ None) → IsWell task
 well-plain task none free = record { good = rw none tt; free = λ judgement h. free judgement }
 
 -- and one without patterns has this fault, if it has it by every judgement
-pub fault-plain : {F : Type 0} (told : ℕ → DirectiveWhy → F) (task : Task F) (refused : F) → ((judgement : Judgement) → task.fault judgement ≡ Some refused) → IsFault told task refused
-fault-plain told task refused is = inl (record { count = 0; inside = omega arith; good = tt; is = λ judgement enough. is judgement })
+pub fault-plain : {F : Type 0} (told : ℕ → DirectiveWhy → F) (task : Task F) (last : Option (List ℕ)) (refused : F) → ((judgement : Judgement) → task.fault judgement ≡ Some refused)
+    → IsFault told task last refused
+fault-plain told task last refused is = inl (record { count = 0; inside = omega arith; good = tt; is = λ judgement enough. is judgement })
 
 -- faults that are told by others
 pub well-retold : {F G : Type 0} (tells : Option F → Option G) (task : Task F) → tells None ≡ None → IsWell task → IsWell (retold tells task)
 well-retold tells task none w = record { good = w.good; free = λ judgement h. ap tells (w.free judgement h) ∙ none }
 
 -- a fault is told by another, and that of a pattern at the same line
-pub fault-retold : {F G : Type 0} (told : ℕ → DirectiveWhy → F) (other : ℕ → DirectiveWhy → G) (tells : Option F → Option G) (task : Task F) (refused : F) (by : G)
-    → ((line : ℕ) (why : DirectiveWhy) → tells (Some (told line why)) ≡ Some (other line why)) → tells (Some refused) ≡ Some by → IsFault told task refused → IsFault other (retold tells task) by
-fault-retold told other tells task refused by same e (inl h) = inl (record {
+pub fault-retold : {F G : Type 0} (told : ℕ → DirectiveWhy → F) (other : ℕ → DirectiveWhy → G) (tells : Option F → Option G) (task : Task F) (last : Option (List ℕ)) (refused : F) (by : G)
+    → ((line : ℕ) (why : DirectiveWhy) → tells (Some (told line why)) ≡ Some (other line why)) → tells (Some refused) ≡ Some by → IsFault told task last refused → IsFault other (retold tells task) last by
+fault-retold told other tells task last refused by same e (inl h) = inl (record {
   count = h.count;
   inside = h.inside;
   good = h.good;
   is = λ judgement enough. ap tells (h.is judgement enough) ∙ e;
 })
-fault-retold told other tells task refused by same e (inr h) =
+fault-retold told other tells task last refused by same e (inr h) =
     let so : Some by ≡ Some (other h.line h.why) = sym e ∙ ap (λ x. tells (Some x)) h.so ∙ same h.line h.why in
     inr (record {
       count = h.count;
       good = h.good;
       text = h.text;
       stands = h.stands;
+      own = h.own;
       line = h.line;
       why = h.why;
       so = cc;
@@ -182,8 +186,9 @@ by_number b x y e = rw e refl
 by_maker : (b c : Bool) (x y : Option DirectiveFault) → b ≡ false → (if b then x else if c then None else y) ≡ (if c then None else y)
 by_maker b c x y e = rw e refl
 
-pub pattern_past : (line number : ℕ) (text : List ℕ) → limits.PATTERNS ≤ number → IsFault at_line (pattern_task line number text) (fault.TooMany limit.Patterns (limits.PATTERNS + 1))
-pattern_past line number text h = inl (record {
+pub pattern_past : (line number : ℕ) (text : List ℕ) (last : Option (List ℕ)) → limits.PATTERNS ≤ number
+    → IsFault at_line (pattern_task line number text) last (fault.TooMany limit.Patterns (limits.PATTERNS + 1))
+pattern_past line number text last h = inl (record {
   count = 0;
   inside = omega arith;
   good = tt;
@@ -199,12 +204,14 @@ not_made number = grind (arith, nat_tests)
 is_made : (number made : ℕ) → number + 1 ≤ made → nat_lt number made ≡ true
 is_made number made h = grind (arith, nat_tests)
 
-pub pattern_refused : (line number : ℕ) (text : List ℕ) (refused : DirectiveFault) → number < limits.PATTERNS → IsRefused line text refused → IsFault at_line (pattern_task line number text) refused
-pattern_refused line number text refused h r = inr (record {
+pub pattern_refused : (line number : ℕ) (text : List ℕ) (last : Option (List ℕ)) (refused : DirectiveFault) → number < limits.PATTERNS → IsRefused line text last refused
+    → IsFault at_line (pattern_task line number text) last refused
+pattern_refused line number text last refused h r = inr (record {
   count = 0;
   good = tt;
   text = text;
   stands = refl;
+  own = r.own;
   line = line;
   why = r.why;
   so = r.so;
@@ -213,10 +220,10 @@ pattern_refused line number text refused h r = inr (record {
       ∙ ap (λ (c : Bool). if c then None else Some (fault.Why line r.why)) (not_made number) ∙ ap Some (sym r.so);
 })
 
-pub pattern_judged : (line number : ℕ) (text : List ℕ) (refused : DirectiveFault) → number < limits.PATTERNS → (refused ≡ fault.NoMemory) ⊎ IsRefused line text refused
-    → Refuses (pattern_task line number text) refused
-pattern_judged line number text refused h (inl e) = inl e
-pattern_judged line number text refused h (inr r) = inr (pattern_refused line number text refused h r)
+pub pattern_judged : (line number : ℕ) (text : List ℕ) (last : Option (List ℕ)) (refused : DirectiveFault) → number < limits.PATTERNS → (refused ≡ fault.NoMemory) ⊎ IsRefused line text last refused
+    → Refuses (pattern_task line number text) last refused
+pattern_judged line number text last refused h (inl e) = inl e
+pattern_judged line number text last refused h (inr r) = inr (pattern_refused line number text last refused h r)
 
 pub pattern_free : (line number : ℕ) (text : List ℕ) → number < limits.PATTERNS → IsFree (pattern_task line number text)
 pattern_free line number text h judgement enough =

@@ -1,5 +1,5 @@
 -- Patterns that are made one after another, and the first fault.
-use Rattle.std.proofs.Common.{◌≡◌, ◌∙◌, ◌<◌, ◌≤◌, ◌⊎◌, ℕ, ◌+◌, List, [], ◌∷◌, ◌++◌, refl, sym, arith, inr, append_assoc}
+use Rattle.std.proofs.Common.{◌≡◌, ◌∙◌, ◌<◌, ◌≤◌, ◌⊎◌, ℕ, ◌+◌, List, [], ◌∷◌, ◌++◌, Option, refl, sym, arith, inr, append_assoc}
 use Rattle.std.proofs.lemmas.List.{append-nil}
 use Rattle.dns_data.specs.declared.limit.Limit.TheVariants as limit
 use Rattle.dns_data.specs.declared.limit.TheConstants as limits
@@ -38,11 +38,12 @@ module _ (before : ℕ) (all : List PatternAt) (number : ℕ) (made : List (List
         (carries-behind at_line next others (omega arith) (pattern_well p.line number p.text h good)) on.carries;
   }
 
-  stops : (refused : DirectiveFault) → Refuses next refused → Refuses (patterns_task before all) refused
-  stops refused h = refuses_by (patterns_task number (p ∷ rest)) (patterns_task before all) refused on.carries (refuses_first next others refused h)
+  stops : (last : Option (List ℕ)) (refused : DirectiveFault) → Refuses next last refused → Refuses (patterns_task before all) last refused
+  stops last refused h = refuses_by (patterns_task number (p ∷ rest)) (patterns_task before all) last refused on.carries (refuses_first next others last refused h)
 
-  pub too_many : limits.PATTERNS ≤ number → Refuses (patterns_task before all) (fault.TooMany limit.Patterns (limits.PATTERNS + 1))
-  too_many h = stops (fault.TooMany limit.Patterns (limits.PATTERNS + 1)) (inr (pattern_past p.line number p.text h))
+  pub too_many : (last : Option (List ℕ)) → limits.PATTERNS ≤ number → Refuses (patterns_task before all) last (fault.TooMany limit.Patterns (limits.PATTERNS + 1))
+  too_many last h = stops last (fault.TooMany limit.Patterns (limits.PATTERNS + 1)) (inr (pattern_past p.line number p.text last h))
 
-  pub refuses : (refused : DirectiveFault) → number < limits.PATTERNS → (refused ≡ fault.NoMemory) ⊎ IsRefused p.line p.text refused → Refuses (patterns_task before all) refused
-  refuses refused h r = stops refused (pattern_judged p.line number p.text refused h r)
+  pub refuses : (last : Option (List ℕ)) (refused : DirectiveFault) → number < limits.PATTERNS → (refused ≡ fault.NoMemory) ⊎ IsRefused p.line p.text last refused
+      → Refuses (patterns_task before all) last refused
+  refuses last refused h r = stops last refused (pattern_judged p.line number p.text last refused h r)

@@ -1,5 +1,5 @@
 -- What reading a directive answers, by its words and by what became of its patterns.
-use Rattle.std.proofs.Common.{◌≡◌, ◌∙◌, ℕ, suc, ◌+◌, List, [], ◌∷◌, length, Some, Result, Ok, Err, refl, sym, ap, subst, arith, inl, inr}
+use Rattle.std.proofs.Common.{◌≡◌, ◌∙◌, ℕ, suc, ◌+◌, List, [], ◌∷◌, length, Option, Some, Result, Ok, Err, refl, sym, ap, subst, arith, inl, inr}
 use Rattle.std.proofs.lemmas.List.{append-nil}
 use Rattle.dns_data.specs.declared.directive.Directive.{Directive}
 use Rattle.outside.specs.{WatchState, with_refusals}
@@ -18,12 +18,12 @@ use Rattle.rewrite_plugin.proofs.Patterns.{patterns_are}
 use Rattle.rewrite_plugin.proofs.Faults.{words_are_plain}
 
 -- a refusal is what reading answers
-answers_by : (number : ℕ) (d : Directive) (refused : DirectiveFault) → Refuses (rewrite_task number d) refused → ReadsRewrite number d (Err refused)
-answers_by number d fault.NoMemory h = tt
-answers_by number d (fault.TooMany what n) (inl e) = absurd cc
-answers_by number d (fault.TooMany what n) (inr h) = h
-answers_by number d (fault.Why line why) (inl e) = absurd cc
-answers_by number d (fault.Why line why) (inr h) = h
+answers_by : (number : ℕ) (d : Directive) (last : Option (List ℕ)) (refused : DirectiveFault) → Refuses (rewrite_task number d) last refused → ReadsRewrite number d last (Err refused)
+answers_by number d last fault.NoMemory h = tt
+answers_by number d last (fault.TooMany what n) (inl e) = absurd cc
+answers_by number d last (fault.TooMany what n) (inr h) = h
+answers_by number d last (fault.Why line why) (inl e) = absurd cc
+answers_by number d last (fault.Why line why) (inr h) = h
 
 -- what stands behind the patterns of a directive, which has none
 abbrev end_task : ℕ → Directive → Task DirectiveFault
@@ -48,15 +48,15 @@ module _ (number : ℕ) (d : Directive) where
   both = ap (with_texts number d) (append-nil (patterns_of d))
 
   -- a pattern is refused, or there are too many
-  pub stopped : (refused : DirectiveFault) → Refuses front refused → ReadsRewrite number d (Err refused)
-  stopped refused h = answers_by number d refused (subst (λ (t : Task DirectiveFault). Refuses t refused) both (refuses_first front (end_task number d) refused h))
+  pub stopped : (last : Option (List ℕ)) (refused : DirectiveFault) → Refuses front last refused → ReadsRewrite number d last (Err refused)
+  stopped last refused h = answers_by number d last refused (subst (λ (t : Task DirectiveFault). Refuses t last refused) both (refuses_first front (end_task number d) last refused h))
 
   -- the words are refused behind patterns that are all made
-  pub faulty : (refused : DirectiveFault) → IsWell front → (reading_of d).end ≡ Err refused → ReadsRewrite number d (Err refused)
-  faulty refused well e =
-      let last = fault-plain at_line (end_task number d) refused (λ judgement. ap fault_of e) in
-      answers_by number d refused
-      (subst (λ (t : Task DirectiveFault). Refuses t refused) both (inr (fault_behind at_line front (end_task number d) (omega arith) well refused last)))
+  pub faulty : (last : Option (List ℕ)) (refused : DirectiveFault) → IsWell front → (reading_of d).end ≡ Err refused → ReadsRewrite number d last (Err refused)
+  faulty last refused well e =
+      let end = fault-plain at_line (end_task number d) last refused (λ judgement. ap fault_of e) in
+      answers_by number d last refused
+      (subst (λ (t : Task DirectiveFault). Refuses t last refused) both (inr (fault_behind at_line front (end_task number d) (omega arith) well last refused end)))
 
   -- nothing is refused
   pub good : (w : Written) → IsWell front → (reading_of d).end ≡ Ok w → IsWell (rewrite_task number d)
@@ -67,12 +67,13 @@ pub maker_stays : (d : Directive) (refused : DirectiveFault) (state : WatchState
 maker_stays d refused state e = ap (λ (n : ℕ). with_refusals state n) (sym (words_are_plain d refused e state.refusals))
 
 -- by the patterns that are found
-pub stopped_at : (number : ℕ) (d : Directive) (found : List PatternAt) (refused : DirectiveFault) → found ≡ (reading_of d).patterns → Refuses (patterns_task number found) refused → ReadsRewrite number d (Err refused)
-stopped_at number d found refused e h = stopped number d refused (subst (λ (l : List PatternAt). Refuses (patterns_task number l) refused) e h)
+pub stopped_at : (number : ℕ) (d : Directive) (found : List PatternAt) (last : Option (List ℕ)) (refused : DirectiveFault) → found ≡ (reading_of d).patterns
+    → Refuses (patterns_task number found) last refused → ReadsRewrite number d last (Err refused)
+stopped_at number d found last refused e h = stopped number d last refused (subst (λ (l : List PatternAt). Refuses (patterns_task number l) last refused) e h)
 
-pub faulty_at : (number : ℕ) (d : Directive) (found : List PatternAt) (refused : DirectiveFault) → found ≡ (reading_of d).patterns → IsWell (patterns_task number found) → (reading_of d).end ≡ Err refused
-    → ReadsRewrite number d (Err refused)
-faulty_at number d found refused e well h = faulty number d refused (subst (λ (l : List PatternAt). IsWell (patterns_task number l)) e well) h
+pub faulty_at : (number : ℕ) (d : Directive) (found : List PatternAt) (last : Option (List ℕ)) (refused : DirectiveFault) → found ≡ (reading_of d).patterns → IsWell (patterns_task number found)
+    → (reading_of d).end ≡ Err refused → ReadsRewrite number d last (Err refused)
+faulty_at number d found last refused e well h = faulty number d last refused (subst (λ (l : List PatternAt). IsWell (patterns_task number l)) e well) h
 
 pub good_at : (number : ℕ) (d : Directive) (found : List PatternAt) (w : Written) → found ≡ (reading_of d).patterns → IsWell (patterns_task number found) → (reading_of d).end ≡ Ok w → IsWell (rewrite_task number d)
 good_at number d found w e well h = good number d w (subst (λ (l : List PatternAt). IsWell (patterns_task number l)) e well) h

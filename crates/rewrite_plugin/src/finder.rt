@@ -76,7 +76,8 @@ pub(crate) fn make_all<M: PatternMaker>(
     patterns: &[PatternAt],
     maker: &mut M,
 ) -> Result<VecDeque<Finder>, DirectiveFault>
-    ensures value { MakesAll before patterns.now (end_map (λ made. made.items) result) }
+    ensures value { MakesAll before patterns.now (M.last maker.new)
+        (end_map (λ made. made.items) result) }
     ensures maker { M.state maker.new ≡ maker_behind result (M.state maker.old) }
 {
     let mut made = VecDeque::new(alloc);
@@ -109,7 +110,7 @@ fn make_finder<M: PatternMaker>(
     found: &PatternAt,
     maker: &mut M,
 ) -> Result<Finder, DirectiveFault>
-    ensures value { IsMadeOf found.now result }
+    ensures value { IsMadeOf found.now (M.last maker.new) result }
     ensures maker { M.state maker.new ≡ maker_behind result (M.state maker.old) }
 {
     let text = found.text.copy(alloc)?;

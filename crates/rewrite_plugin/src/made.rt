@@ -1,7 +1,7 @@
 //! A rule that was read, with what finds its patterns in place of their texts.
 ghost use Rattle.std.specs.Prelude.{◌≡◌, ◌++◌, ◌∷◌, ◌<◌, ℕ, List, [], length, IfOk, OnOk};
-ghost use Rattle.rewrite_plugin.specs.Made.{answering_patterns, answers_patterns, renaming_patterns};
-ghost use Rattle.rewrite_plugin.specs.Made.{rule_patterns};
+ghost use Rattle.rewrite_plugin.specs.Made.{answering_patterns, answers_patterns};
+ghost use Rattle.rewrite_plugin.specs.Made.{renaming_patterns, rule_patterns};
 ghost use Rattle.rewrite_plugin.specs.Rules.{matcher_patterns};
 
 use crate::finder::Finder;

@@ -42,7 +42,7 @@ impl RewritePlan {
         patterns: usize,
         maker: &mut M,
     ) -> Result<RewritePlan, DirectiveFault>
-        ensures value { ReadsRewrite patterns directive.now result }
+        ensures value { ReadsRewrite patterns directive.now (M.last maker.new) result }
         ensures maker { M.state maker.new ≡ maker_behind result (M.state maker.old) }
     {
         let own = directive.copy(alloc)?;

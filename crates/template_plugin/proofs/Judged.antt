@@ -1,5 +1,5 @@
 -- Patterns that are made one after another, and the first fault.
-use Rattle.std.proofs.Common.{◌≡◌, ◌∙◌, ◌<◌, ◌≤◌, ℕ, suc, ◌+◌, Bool, true, false, List, [], ◌∷◌, ◌++◌, length, Some, None, Err, refl, sym, ap, arith, inl, inr, append_assoc}
+use Rattle.std.proofs.Common.{◌≡◌, ◌∙◌, ◌<◌, ◌≤◌, ℕ, suc, ◌+◌, Bool, true, false, List, [], ◌∷◌, ◌++◌, length, Option, Some, None, Err, refl, sym, ap, arith, inl, inr, append_assoc}
 use Rattle.std.specs.Prelude.{if◌then◌else◌}
 use Rattle.std.specs.List.{AllByRecursion}
 use Rattle.std.proofs.lemmas.List.{append-nil}
@@ -43,8 +43,8 @@ well_of task before after p = record { good = good_of task.patterns p.made p.are
 
 module _ (front back : Task DirectiveFault) (before middle : List Regex) (next : back.number ≡ front.number + length front.patterns) (f : Passes front before middle) where
   -- behind a first task without a fault, a fault of the second one is one of both
-  pub refuses_later : (refused : DirectiveFault) → Refuses back refused → Refuses (sequel front back) refused
-  refuses_later refused h = refuses_by back (sequel front back) refused (carries-behind at_line front back next (well_of front before middle f)) h
+  pub refuses_later : (last : Option (List ℕ)) (refused : DirectiveFault) → Refuses back last refused → Refuses (sequel front back) last refused
+  refuses_later last refused h = refuses_by back (sequel front back) last refused (carries-behind at_line front back next (well_of front before middle f)) h
 
   -- and both pass, where the second one does
   pub passes_later : (after : List Regex) → Passes back middle after → Passes (sequel front back) before after
@@ -58,17 +58,17 @@ module _ (front back : Task DirectiveFault) (before middle : List Regex) (next :
 -- what is left of a task, and the maker, which refused nothing so far
 pub record ReadsOn (whole rest : Task DirectiveFault) (before now : List Regex) (old new : WatchState) : Type 0 where
   pub passes : (after : List Regex) → Passes rest now after → Passes whole before after
-  pub refuses : (refused : DirectiveFault) → Refuses rest refused → Refuses whole refused
+  pub refuses : (last : Option (List ℕ)) (refused : DirectiveFault) → Refuses rest last refused → Refuses whole last refused
   pub state : new ≡ old
 
 pub begins : (whole : Task DirectiveFault) (before : List Regex) (state : WatchState) → ReadsOn whole whole before before state state
-begins whole before state = record { passes = λ after p. p; refuses = λ refused h. h; state = refl }
+begins whole before state = record { passes = λ after p. p; refuses = λ last refused h. h; state = refl }
 
 pub goes_on : (whole front back : Task DirectiveFault) (before now middle : List Regex) (old new newer : WatchState) → back.number ≡ front.number + length front.patterns
     → ReadsOn whole (sequel front back) before now old new → Passes front now middle → newer ≡ new → ReadsOn whole back before middle old newer
 goes_on whole front back before now middle old new newer next on f same = record {
   passes = λ after p. on.passes after (passes_later front back now middle next f after p);
-  refuses = λ refused h. on.refuses refused (refuses_later front back now middle next f refused h);
+  refuses = λ last refused h. on.refuses last refused (refuses_later front back now middle next f last refused h);
   state = same ∙ on.state;
 }
 
@@ -91,8 +91,9 @@ word_made line number word now p h of = record {
 }
 
 -- or there are too many
-pub word_past : (line number : ℕ) (word : List ℕ) → limits.PATTERNS ≤ number → Refuses (pattern_task line number word) (fault.TooMany limit.Patterns (limits.PATTERNS + 1))
-word_past line number word h = inr (pattern_past line number word h)
+pub word_past : (line number : ℕ) (word : List ℕ) (last : Option (List ℕ)) → limits.PATTERNS ≤ number
+    → Refuses (pattern_task line number word) last (fault.TooMany limit.Patterns (limits.PATTERNS + 1))
+word_past line number word last h = inr (pattern_past line number word last h)
 
 -- one word or more behind `match`
 pub same_task : (line number : ℕ) (words : List (List ℕ)) → 0 < length words → words_task line number words ≡ match_task line number words
@@ -115,29 +116,29 @@ head_passes patterns plan now e = record {
   free = λ judgement h. ap (fault_at plan.directive.line) e;
 }
 
-reads_err : (patterns : ℕ) (plan : PlanData) (refused : DirectiveFault) → Refuses (template_task patterns plan) refused → ReadsTemplate patterns plan (Err refused)
-reads_err patterns plan fault.NoMemory h = tt
-reads_err patterns plan (fault.TooMany what number) (inl e) = absurd cc
-reads_err patterns plan (fault.TooMany what number) (inr h) = h
-reads_err patterns plan (fault.Why line why) (inl e) = absurd cc
-reads_err patterns plan (fault.Why line why) (inr h) = h
+reads_err : (patterns : ℕ) (plan : PlanData) (last : Option (List ℕ)) (refused : DirectiveFault) → Refuses (template_task patterns plan) last refused → ReadsTemplate patterns plan last (Err refused)
+reads_err patterns plan last fault.NoMemory h = tt
+reads_err patterns plan last (fault.TooMany what number) (inl e) = absurd cc
+reads_err patterns plan last (fault.TooMany what number) (inr h) = h
+reads_err patterns plan last (fault.Why line why) (inl e) = absurd cc
+reads_err patterns plan last (fault.Why line why) (inr h) = h
 
 -- a directive with a fault in its lines
-pub read_err : (patterns : ℕ) (plan : PlanData) (refused : DirectiveFault) → words_why plan.zones plan.directive.args ≡ None
-    → Refuses (lines_task (behind_patterns patterns) plan.directive.body) refused → ReadsTemplate patterns plan (Err refused)
+pub read_err : (patterns : ℕ) (plan : PlanData) (last : Option (List ℕ)) (refused : DirectiveFault) → words_why plan.zones plan.directive.args ≡ None
+    → Refuses (lines_task (behind_patterns patterns) plan.directive.body) last refused → ReadsTemplate patterns plan last (Err refused)
 unfolding template_fault
-read_err patterns plan refused e h =
-    reads_err patterns plan refused
-    (refuses_later (head_task patterns plan) (lines_task (behind_patterns patterns) plan.directive.body) [] [] (omega arith) (head_passes patterns plan [] e) refused h)
+read_err patterns plan last refused e h =
+    reads_err patterns plan last refused
+    (refuses_later (head_task patterns plan) (lines_task (behind_patterns patterns) plan.directive.body) [] [] (omega arith) (head_passes patterns plan [] e) last refused h)
 
 -- one with a fault in its words
-pub read_why : (patterns : ℕ) (plan : PlanData) (why : DirectiveWhy) → words_why plan.zones plan.directive.args ≡ Some why
-    → ReadsTemplate patterns plan (Err (fault.Why plan.directive.line why))
+pub read_why : (patterns : ℕ) (plan : PlanData) (last : Option (List ℕ)) (why : DirectiveWhy) → words_why plan.zones plan.directive.args ≡ Some why
+    → ReadsTemplate patterns plan last (Err (fault.Why plan.directive.line why))
 unfolding template_fault
-read_why patterns plan why e =
-    reads_err patterns plan (fault.Why plan.directive.line why)
-    (refuses_first (head_task patterns plan) (lines_task (behind_patterns patterns) plan.directive.body) (fault.Why plan.directive.line why)
-    (inr (fault-plain at_line (head_task patterns plan) (fault.Why plan.directive.line why) (λ judgement. ap (fault_at plan.directive.line) e))))
+read_why patterns plan last why e =
+    reads_err patterns plan last (fault.Why plan.directive.line why)
+    (refuses_first (head_task patterns plan) (lines_task (behind_patterns patterns) plan.directive.body) last (fault.Why plan.directive.line why)
+    (inr (fault-plain at_line (head_task patterns plan) last (fault.Why plan.directive.line why) (λ judgement. ap (fault_at plan.directive.line) e))))
 
 -- one without a fault
 pub read_ok : (patterns : ℕ) (plan : PlanData) (after : List Regex) → words_why plan.zones plan.directive.args ≡ None

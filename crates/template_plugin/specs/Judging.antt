@@ -1,7 +1,7 @@
 -- What becomes of the patterns of a directive, which are made one after another up to the first
 -- fault. Whether a text is a pattern, or is too large to compile, is judged by the maker of
 -- patterns.
-use Rattle.std.specs.Prelude.{◌≡◌, ◌⊎◌, ℕ, List, [], ◌∷◌, ◌++◌, Result, Ok, Err}
+use Rattle.std.specs.Prelude.{◌≡◌, ◌⊎◌, ℕ, List, [], ◌∷◌, ◌++◌, Option, Result, Ok, Err}
 use Rattle.dns_data.specs.declared.directive.Line.{Line}
 use Rattle.outside.specs.{IsPatternOf}
 use Rattle.pattern_judging.specs.{IsFault, IsFree, IsRefused, IsWell, Refuses, Task, at_line}
@@ -21,10 +21,11 @@ AreOf [] (pattern ∷ patterns) = ⊥
 AreOf (text ∷ texts) [] = ⊥
 AreOf (text ∷ texts) (pattern ∷ patterns) = IsPatternOf text pattern × AreOf texts patterns
 
--- what became of the pattern of a word of a line
-abbrev pub IsMadeOf : ℕ → List ℕ → Result Regex DirectiveFault → Type 0
-IsMadeOf line text (Ok pattern) = IsPatternOf text pattern
-IsMadeOf line text (Err refused) = (refused ≡ fault.NoMemory) ⊎ IsRefused line text refused
+-- what became of the pattern of a word of a line, where the maker refused this text last
+abbrev pub IsMadeOf : ℕ → List ℕ → Option (List ℕ) → Result Regex DirectiveFault → Type 0
+IsMadeOf line text last (Ok pattern) = IsPatternOf text pattern
+IsMadeOf line text last (Err refused) =
+    (refused ≡ fault.NoMemory) ⊎ IsRefused line text last refused
 
 -- all are made, and stand behind those that were made before
 pub record Passes (task : Task DirectiveFault) (before after : List Regex) : Type 0 where
@@ -33,11 +34,11 @@ pub record Passes (task : Task DirectiveFault) (before after : List Regex) : Typ
   pub are : AreOf task.patterns made
   pub free : IsFree task
 
--- the patterns are made, or the first fault is told
+-- the patterns are made, or the first fault is told, where the maker refused this text last
 abbrev pub Makes : {X : Type 0} → Task DirectiveFault → List Regex → List Regex
-    → Result X DirectiveFault → Type 0
-Makes task before after (Ok x) = Passes task before after
-Makes task before after (Err refused) = Refuses task refused
+    → Option (List ℕ) → Result X DirectiveFault → Type 0
+Makes task before after last (Ok x) = Passes task before after
+Makes task before after last (Err refused) = Refuses task last refused
 
 -- the patterns of words of a line
 abbrev pub words_task : ℕ → ℕ → List (List ℕ) → Task DirectiveFault
@@ -79,8 +80,10 @@ template_task patterns plan = record {
   fault = λ judgement. template_fault judgement patterns plan;
 }
 
--- reading a directive gives its plan, or its first fault. Want of memory is always allowed.
-abbrev pub ReadsTemplate : ℕ → PlanData → Result PlanData DirectiveFault → Type 0
-ReadsTemplate patterns read (Ok plan) = IsWell (template_task patterns read) × (plan ≡ read)
-ReadsTemplate patterns read (Err fault.NoMemory) = Unit {0}
-ReadsTemplate patterns read (Err refused) = IsFault at_line (template_task patterns read) refused
+-- reading a directive gives its plan, or its first fault, where the maker refused this text last.
+-- Want of memory is always allowed.
+abbrev pub ReadsTemplate : ℕ → PlanData → Option (List ℕ) → Result PlanData DirectiveFault → Type 0
+ReadsTemplate patterns read last (Ok plan) = IsWell (template_task patterns read) × (plan ≡ read)
+ReadsTemplate patterns read last (Err fault.NoMemory) = Unit {0}
+ReadsTemplate patterns read last (Err refused) =
+    IsFault at_line (template_task patterns read) last refused

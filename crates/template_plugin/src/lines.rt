@@ -20,7 +20,8 @@ pub(crate) fn read_lines<M: PatternMaker>(
     maker: &mut M,
     out: &mut Seq<Pattern>,
 ) -> Result<(), DirectiveFault>
-    ensures value { Makes (lines_task first lines.now) out.old out.new result }
+    ensures value { Makes (lines_task first lines.now) out.old out.new
+        (M.last maker.new) result }
     ensures maker { M.state maker.new ≡ maker_behind result (M.state maker.old) }
 {
     let mut before = first;
@@ -40,7 +41,8 @@ fn read_line<M: PatternMaker>(
     maker: &mut M,
     out: &mut Seq<Pattern>,
 ) -> Result<Earlier, DirectiveFault>
-    ensures value { Makes (line_task before line.now.number line.now.words) out.old out.new result }
+    ensures value { Makes (line_task before line.now.number line.now.words) out.old out.new
+        (M.last maker.new) result }
     ensures behind { IfOk result (λ after. after ≡ behind_line before line.now.words) }
     ensures maker { M.state maker.new ≡ maker_behind result (M.state maker.old) }
 {
@@ -93,7 +95,8 @@ fn read_match<M: PatternMaker>(
     maker: &mut M,
     out: &mut Seq<Pattern>,
 ) -> Result<Earlier, DirectiveFault>
-    ensures value { Makes (match_task line before.patterns words.now) out.old out.new result }
+    ensures value { Makes (match_task line before.patterns words.now) out.old out.new
+        (M.last maker.new) result }
     ensures behind { IfOk result (λ after. after
         ≡ record { seen = before.seen; patterns = before.patterns + length words.now }) }
     ensures maker { M.state maker.new ≡ maker_behind result (M.state maker.old) }
@@ -120,7 +123,8 @@ fn read_words<M: PatternMaker>(
     maker: &mut M,
     out: &mut Seq<Pattern>,
 ) -> Result<usize, DirectiveFault>
-    ensures value { Makes (words_task line first words.now) out.old out.new result }
+    ensures value { Makes (words_task line first words.now) out.old out.new
+        (M.last maker.new) result }
     ensures behind { IfOk result (λ number. number ≡ first + length words.now) }
     ensures maker { M.state maker.new ≡ maker_behind result (M.state maker.old) }
 {
@@ -148,7 +152,7 @@ fn make_pattern<M: PatternMaker>(
     word: &Text,
     maker: &mut M,
 ) -> Result<Pattern, DirectiveFault>
-    ensures value { IsMadeOf line word.now result }
+    ensures value { IsMadeOf line word.now (M.last maker.new) result }
     ensures maker { M.state maker.new ≡ maker_behind result (M.state maker.old) }
 {
     match maker.make(alloc, word) {

@@ -69,7 +69,8 @@ impl TemplatePlan {
         maker: &mut M,
     ) -> Result<TemplatePlan, DirectiveFault>
         ensures value { ReadsTemplate patterns
-            (record { directive = directive.now; zones = zones.now }) result }
+            (record { directive = directive.now; zones = zones.now })
+            (M.last maker.new) result }
         ensures maker { M.state maker.new ≡ maker_behind result (M.state maker.old) }
     {
         if let Some(why) = words_why(alloc, zones, directive.args.as_slice())? {

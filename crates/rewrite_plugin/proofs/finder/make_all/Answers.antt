@@ -11,9 +11,10 @@ loop-pattern-preserved g c =
 pub returns-in-Err-clause-value : goal.returns-in-Err-clause-value
 returns-in-Err-clause-value g c =
     let on = rw c.in-Some.ensures.cases.0 at c.loop-pattern.invariant.on in
-    refuses c.args.before c.args.patterns.now c.loop-pattern.number c.loop-pattern.made.items c.in-Some.pattern.now c.in-Some.behind.now on c.in-Err.fault (omega arith) c.in-Err.ensures.value
+    refuses c.args.before c.args.patterns.now c.loop-pattern.number c.loop-pattern.made.items c.in-Some.pattern.now c.in-Some.behind.now on
+    (g.M.PatternMaker.last c.make_finder.new.maker) c.in-Err.fault (omega arith) c.in-Err.ensures.value
 
 pub returns-then-number-ge-PATTERNS-clause-value : goal.returns-then-number-ge-PATTERNS-clause-value
 returns-then-number-ge-PATTERNS-clause-value g c =
     let on = rw c.in-Some.ensures.cases.0 at c.loop-pattern.invariant.on in
-    too_many c.args.before c.args.patterns.now c.loop-pattern.number c.loop-pattern.made.items c.in-Some.pattern.now c.in-Some.behind.now on (omega arith)
+    too_many c.args.before c.args.patterns.now c.loop-pattern.number c.loop-pattern.made.items c.in-Some.pattern.now c.in-Some.behind.now on (g.M.PatternMaker.last c.loop-pattern.maker) (omega arith)

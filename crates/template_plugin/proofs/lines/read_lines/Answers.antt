@@ -17,7 +17,8 @@ returns-in_err-before-clause-value g c =
     let rest : Task DirectiveFault = lines_task (behind_line c.loop-line.before c.in-Some.line.now.words) c.in-Some.behind.now in
     let reads = rw c.in-Some.ensures.cases.0 at c.loop-line.invariant in
     let is : c.from_residual.result ≡ Err e = search rules in
-    rw is (reads.refuses e (refuses_first line rest e c.in_err-before.ensures.value))
+    let last = g.M.PatternMaker.last c.read_line.new.maker in
+    rw is (reads.refuses last e (refuses_first line rest last e c.in_err-before.ensures.value))
 
 pub returns-in_err-before-clause-maker : goal.returns-in_err-before-clause-maker
 returns-in_err-before-clause-maker g c =

@@ -11,7 +11,7 @@ returns-in_err-patterns-clause-value g c =
     let some : 0 < length c.args.words.now = search (rules, arith, nat_tests) in
     let same = same_task c.args.line c.args.before.patterns c.args.words.now some in
     let is : c.from_residual.result ≡ Err e = search rules in
-    rw is (subst (λ t. Refuses t e) same c.in_err-patterns.ensures.value)
+    rw is (subst (λ t. Refuses t (g.M.PatternMaker.last c.read_words.new.maker) e) same c.in_err-patterns.ensures.value)
 
 pub returns-clause-value : goal.returns-clause-value
 returns-clause-value g c =

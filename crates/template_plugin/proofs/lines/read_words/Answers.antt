@@ -11,10 +11,11 @@ returns-in_err-pattern-clause-value g c =
     let e = c.in_err-pattern.field-0.0 in
     let word : Task DirectiveFault = pattern_task c.args.line c.loop-word.number c.in-Some.word.now in
     let rest : Task DirectiveFault = words_task c.args.line (c.loop-word.number + 1) c.in-Some.behind.now in
-    let refused = pattern_judged c.args.line c.loop-word.number c.in-Some.word.now e c.if-number-ge-PATTERNS.false c.in_err-pattern.ensures.value in
+    let last = g.M.PatternMaker.last c.make_pattern.new.maker in
+    let refused = pattern_judged c.args.line c.loop-word.number c.in-Some.word.now last e c.if-number-ge-PATTERNS.false c.in_err-pattern.ensures.value in
     let reads = rw c.in-Some.ensures.cases.0 at c.loop-word.invariant.reads in
     let is : c.from_residual.result ≡ Err e = search rules in
-    rw is (reads.refuses e (refuses_first word rest e refused))
+    rw is (reads.refuses last e (refuses_first word rest last e refused))
 
 pub loop-word-preserved : goal.loop-word-preserved
 loop-word-preserved g c =

@@ -16,7 +16,7 @@ invariant_of-result g c =
 pub returns-in-Err-read-clause-value : goal.returns-in-Err-read-clause-value
 returns-in-Err-read-clause-value g c =
     let e = c.as_slice.ensures ∙ rw c.new-found.ensures at c.in_ok-read.ensures.patterns in
-    faulty_at c.args.patterns c.args.directive.now c.as_slice.result.now c.in-Err-read.fault e c.in-Ok.ensures.value.1 (sym c.in_ok-read.ensures.end ∙ c.in-Err-read.is)
+    faulty_at c.args.patterns c.args.directive.now c.as_slice.result.now (g.M.PatternMaker.last c.make_all.new.maker) c.in-Err-read.fault e c.in-Ok.ensures.value.1 (sym c.in_ok-read.ensures.end ∙ c.in-Err-read.is)
 
 pub returns-in-Err-read-clause-maker : goal.returns-in-Err-read-clause-maker
 returns-in-Err-read-clause-maker g c =

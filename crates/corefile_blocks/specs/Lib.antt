@@ -7,6 +7,7 @@ pub mod Readable
 pub mod Reader
 pub mod Ports
 pub mod Texts
+pub mod GrowingLaws
 -- what public clauses cite
 pub use Rattle.corefile_blocks.specs.Blocks.{ReadsBlocks, blocks_of, wants_of}
 pub use Rattle.corefile_blocks.specs.Ports.{ArePorts, key_ports}

@@ -10,10 +10,15 @@ use Rattle.corefile_blocks.specs.LineForms.{same_text}
 abbrev pub hosts_default : List ℕ
 hosts_default = codes "/etc/hosts"
 
--- the file of `hosts`
-abbrev pub hosts_file : List (List ℕ) → List (List ℕ)
-hosts_file [] = hosts_default ∷ []
-hosts_file (file ∷ zones) = file ∷ []
+-- the file that the words of `hosts` name, or else that one
+abbrev pub hosts_word : List (List ℕ) → List ℕ
+hosts_word [] = hosts_default
+hosts_word (file ∷ zones) = file
+
+-- the file that the words of `file` name
+abbrev pub file_word : List (List ℕ) → List ℕ
+file_word [] = []
+file_word (file ∷ zones) = file
 
 -- whether a text is the path of a file from the root on
 abbrev pub is_path : List ℕ → Bool
@@ -25,7 +30,7 @@ is_path (byte ∷ text) = byte == 47
 unfoldable pub files_of : List ℕ → List (List ℕ) → List (List ℕ)
 files_of name args =
     if same_text name (codes "file") then take 1 args
-    else if same_text name (codes "hosts") then hosts_file args
+    else if same_text name (codes "hosts") then hosts_word args ∷ []
     else if same_text name (codes "forward") then filter is_path (drop 1 args)
     else []
 

@@ -26,3 +26,4 @@ pub use fault::{BlockWhy, CorefileFault};
 pub use import::file_of;
 pub use port_list::ports;
 pub use reading::{read_blocks, wants};
+pub use wanted::{file_word, hosts_word};

@@ -1,7 +1,7 @@
 ghost use Rattle.std.specs.Prelude.{◌≡◌, ◌++◌, IfOk, OnOk};
 ghost use Rattle.std.specs.List.{filter};
 ghost use Rattle.corefile_blocks.specs.WantedFiles.{AreKnown, add_once, each_once, files_of};
-ghost use Rattle.corefile_blocks.specs.WantedFiles.{is_path};
+ghost use Rattle.corefile_blocks.specs.WantedFiles.{file_word, hosts_word, is_path};
 
 use dns_data::{Copies, NoMemory, Seq, Text, Texts};
 use std::alloc::Global;
@@ -24,10 +24,7 @@ pub(crate) fn add_files(
         };
     }
     if name == "hosts" {
-        return match args.split_first() {
-            Some((file, _)) => named.push(file.copy(alloc)?),
-            None => named.push(Text::from_str(alloc, "/etc/hosts")?),
-        };
+        return named.push(Text::from_str(alloc, hosts_word(args))?);
     }
     if name == "forward" {
         return match args.split_first() {
@@ -36,6 +33,26 @@ pub(crate) fn add_files(
         };
     }
     Ok(())
+}
+
+/// The file that the words of `hosts` name, or else /etc/hosts.
+pub fn hosts_word(words: &[Text]) -> &str
+    ensures { result.now ≡ hosts_word words.now }
+{
+    match words {
+        [] => "/etc/hosts",
+        [word, ..] => word.as_str(),
+    }
+}
+
+/// The file that the words of `file` name; an empty text, where they name none.
+pub fn file_word(words: &[Text]) -> &str
+    ensures { result.now ≡ file_word words.now }
+{
+    match words {
+        [] => "",
+        [word, ..] => word.as_str(),
+    }
 }
 
 // Adds those that are paths from the root on.

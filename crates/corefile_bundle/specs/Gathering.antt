@@ -55,6 +55,15 @@ first_missing bundle names = find (λ name. not (has_file bundle name)) names
 unfoldable pub next_file : Bundle → Option (List ℕ)
 next_file bundle = first_missing bundle (wants_of bundle)
 
+-- the names of the files that a bundle has
+abbrev pub file_names : Bundle → List (List ℕ)
+file_names bundle = map (λ file. file.name) bundle.files
+
+-- the files of a bundle are just those that it wants, each once, in the order in which it names
+-- them
+abbrev pub AreWanted : Bundle → Type 0
+AreWanted bundle = file_names bundle ≡ wants_of bundle
+
 -- no file that a bundle wants is left to read
 abbrev pub IsWhole : Bundle → Type 0
 IsWhole bundle = next_file bundle ≡ None

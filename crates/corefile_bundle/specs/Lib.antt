@@ -1,6 +1,8 @@
 pub mod Gathering
 pub mod Steps
+pub mod WholeLaws
 -- what public clauses cite
-pub use Rattle.corefile_bundle.specs.Gathering.{Gathers, GathersFrom, IsWhole, OneRead, Source}
-pub use Rattle.corefile_bundle.specs.Gathering.{TellsGathering, after_corefile, after_read, marks_of}
-pub use Rattle.corefile_bundle.specs.Gathering.{next_file}
+pub use Rattle.corefile_bundle.specs.Gathering.{AreWanted, Gathers, GathersFrom, IsWhole, OneRead}
+pub use Rattle.corefile_bundle.specs.Gathering.{Source, TellsGathering, after_corefile, after_read}
+pub use Rattle.corefile_bundle.specs.Gathering.{marks_of, next_file}
+pub use Rattle.corefile_bundle.specs.WholeLaws.{gathered-is-whole}

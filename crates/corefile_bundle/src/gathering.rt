@@ -3,9 +3,9 @@ ghost use Rattle.std.specs.Prelude.{option_map};
 ghost use Rattle.dns_data.specs.declared.limit.TheConstants as limits;
 ghost use Rattle.outside.specs.{Rose, WatchStays};
 ghost use Rattle.corefile_blocks.specs.{IsReadable};
-ghost use Rattle.corefile_bundle.specs.Gathering.{TellsGathering, after_corefile, after_read};
-ghost use Rattle.corefile_bundle.specs.Gathering.{bundle_bytes, has_file, next_file, over, size_of};
-ghost use Rattle.corefile_bundle.specs.Gathering.{first_missing, source_of};
+ghost use Rattle.corefile_bundle.specs.Gathering.{AreWanted, TellsGathering, after_corefile};
+ghost use Rattle.corefile_bundle.specs.Gathering.{after_read, bundle_bytes, first_missing};
+ghost use Rattle.corefile_bundle.specs.Gathering.{has_file, next_file, over, size_of, source_of};
 ghost use Rattle.corefile_bundle.specs.Steps.{TakesOne};
 
 use crate::fault::GatherFault;
@@ -29,6 +29,7 @@ pub fn gather<W: Watch>(
     ensures failed { (name : List ℕ) → result ≡ Err (GatherFault.ReadFailed name)
         → Rose (W.state watch.old).counts.reads (W.state watch.new).counts.reads }
     ensures readable { IfOk result (λ bundle. IsReadable bundle) }
+    ensures whole { IfOk result (λ bundle. AreWanted bundle) }
 {
     let mut bundle = match read_corefile(alloc, watch, conf, env) {
         Ok(bundle) => bundle,

@@ -1,6 +1,7 @@
-use Rattle.std.proofs.Common.{sym, ◌∙◌, refl, arith, rules}
+use Rattle.std.proofs.Common.{sym, ◌∙◌, refl, arith, rules, Ok}
 use Rattle.outside.specs.States.{WatchStays}
-use Rattle.corefile_bundle.specs.Gathering.{source_of}
+use Rattle.corefile_bundle.specs.Gathering.{Source, source_of}
+use Rattle.corefile_bundle.specs.WholeLaws.{gathered-is-whole}
 use Rattle.corefile_bundle.proofs.Gathered.{begins, ends, first_small, goes_on, next_small, no_bundle, read_ends, too_many}
 use Rattle.corefile_bundle.proofs.gathering.gather.Goals as goal
 
@@ -18,6 +19,12 @@ loop-name-init g c = record {
 pub returns-in-Ok-None-clause-told : goal.returns-in-Ok-None-clause-told
 returns-in-Ok-None-clause-told g c =
     ends (source_of c.args.conf.now c.args.env.now) (g.W.PatternMaker.state c.args.watch.now) (g.W.PatternMaker.state c.loop-name.watch) c.loop-name.bundle _ c.loop-name.invariant.gathered (refl, sym c.in-Ok-None.ensures ∙ c.in-Ok-None.field-0-is)
+
+pub returns-in-Ok-None-clause-whole : goal.returns-in-Ok-None-clause-whole
+returns-in-Ok-None-clause-whole g c =
+    let source : Source = source_of c.args.conf.now c.args.env.now in
+    let told = ends source (g.W.PatternMaker.state c.args.watch.now) (g.W.PatternMaker.state c.loop-name.watch) c.loop-name.bundle (Ok c.loop-name.bundle) c.loop-name.invariant.gathered (refl, sym c.in-Ok-None.ensures ∙ c.in-Ok-None.field-0-is) in
+    gathered-is-whole source told.reads c.loop-name.bundle told.gathers
 
 pub returns-in-Err-next_file-clause-told : goal.returns-in-Err-next_file-clause-told
 returns-in-Err-next_file-clause-told g c =

@@ -38,10 +38,11 @@ module _ (context own : Context) (all : List Directive) (i : ℕ) (d : Directive
   task_here = ap (λ (c : Context). directive_task (behind_in c (take i all) old) d) same
 
   -- a directive that is refused is the refusal of those that are left
-  pub refused_here : (why : Refusal) → IsFault told (directive_task (behind_in own (take i all) old) d) why → IsFault told (directives_task (behind_in context (take i all) old) (drop i all)) why
-  refused_here why h =
-      subst (λ ds. IsFault told (directives_task (behind_in context (take i all) old) ds) why) (sym (one_left all i d inside is))
-      (directive-refused (behind_in context (take i all) old) d (drop (i + 1) all) why (subst (λ t. IsFault told t why) task_here h))
+  pub refused_here : (last : Option (List ℕ)) (why : Refusal) → IsFault told (directive_task (behind_in own (take i all) old) d) last why
+      → IsFault told (directives_task (behind_in context (take i all) old) (drop i all)) last why
+  refused_here last why h =
+      subst (λ ds. IsFault told (directives_task (behind_in context (take i all) old) ds) last why) (sym (one_left all i d inside is))
+      (directive-refused (behind_in context (take i all) old) d (drop (i + 1) all) last why (subst (λ t. IsFault told t last why) task_here h))
 
   module _ (now : new ≡ placed_by (rank_of d.name) own d old) where
     behind_here : behind_one (behind_in context (take i all) old) d ≡ behind_in context (take (i + 1) all) new
@@ -73,9 +74,9 @@ pub none_left : (b : Behind) (all : List Directive) (i : ℕ) → length all ≤
 none_left b all i h = subst (λ ds. IsWell (directives_task b ds)) (sym (drop_all i all h)) (well-plain (directives_task b []) refl (λ judgement. refl))
 
 -- a fault of a directive is one of its block
-pub block_err : (patterns : ℕ) (files : List FileText) (block : Block) (own : Context) (all : List Directive) (i : ℕ) (d : Directive) (old new : Places) (e : CheckFault) → own ≡ context_of files block
+pub block_err : (patterns : ℕ) (files : List FileText) (block : Block) (own : Context) (all : List Directive) (i : ℕ) (d : Directive) (old new : Places) (last : Option (List ℕ)) (e : CheckFault) → own ≡ context_of files block
     → i < length all → d ≡ get_or all i d → Carries told (directives_task (behind_in (context_of files block) (take i all) old) (drop i all)) (block_task patterns files block)
-    → ReadsMore own (take i all) d old new (Err e) → ReadsBlock patterns files block (Err e)
-block_err patterns files block own all i d old new (fault.Refused why) same inside is on h =
-    on.refused why (refused_here (context_of files block) own all i d old new same inside is why h)
-block_err patterns files block own all i d old new fault.NoMemory same inside is on h = tt
+    → ReadsMore (behind_in own (take i all) old) d old new last (Err e) → ReadsBlock patterns files block last (Err e)
+block_err patterns files block own all i d old new last (fault.Refused why) same inside is on h =
+    on.refused last why (refused_here (context_of files block) own all i d old new same inside is last why h)
+block_err patterns files block own all i d old new last fault.NoMemory same inside is on h = tt

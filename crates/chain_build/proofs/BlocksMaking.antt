@@ -1,5 +1,5 @@
 -- Making the chains of blocks one by one.
-use Rattle.std.proofs.Common.{◌≡◌, ℕ, List, ◌∷◌, Err}
+use Rattle.std.proofs.Common.{◌≡◌, ℕ, List, ◌∷◌, Option, Err}
 use Rattle.dns_data.specs.declared.block.Block.{Block}
 use Rattle.dns_data.specs.declared.file.FileText.{FileText}
 use Rattle.pattern_judging.specs.Tasks.{Carries}
@@ -10,8 +10,8 @@ use Rattle.chain_build.specs.declared.fault.CheckFault.{CheckFault}
 use Rattle.chain_build.specs.declared.fault.CheckFault.TheVariants as fault
 
 -- a fault of a block is one of all
-pub blocks_err : (patterns : ℕ) (files : List FileText) (all rest : List Block) (block : Block) (behind : List Block) (e : CheckFault) → rest ≡ block ∷ behind
-    → Carries told (blocks_task patterns files rest) (blocks_task 0 files all) → MakesBlock patterns files block (Err e) → MakesBlocks files all (Err e)
-blocks_err patterns files all rest block behind (fault.Refused why) is on h =
-    on.refused why (rw is (block-refused patterns files block behind why h))
-blocks_err patterns files all rest block behind fault.NoMemory is on h = tt
+pub blocks_err : (patterns : ℕ) (files : List FileText) (all rest : List Block) (block : Block) (behind : List Block) (last : Option (List ℕ)) (e : CheckFault) → rest ≡ block ∷ behind
+    → Carries told (blocks_task patterns files rest) (blocks_task 0 files all) → MakesBlock patterns files block last (Err e) → MakesBlocks files all last (Err e)
+blocks_err patterns files all rest block behind last (fault.Refused why) is on h =
+    on.refused last why (rw is (block-refused patterns files block behind last why h))
+blocks_err patterns files all rest block behind last fault.NoMemory is on h = tt

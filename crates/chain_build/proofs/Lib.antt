@@ -1,5 +1,6 @@
 pub mod BlockReading
 pub mod BlocksMaking
+pub mod Fixed
 pub mod OneRead
 pub mod Served
 pub mod Walks

@@ -25,11 +25,11 @@ use Rattle.chain_meaning.specs.declared.decision.Decision.{Decision}
 use Rattle.chain_meaning.specs.Steps.{Step, rewrite_steps, steps_of}
 use Rattle.chain_build.specs.Plans.{steps_in}
 use Rattle.chain_build.specs.Compiled.{back_of, back_steps, front_of, whole}
-use Rattle.chain_build.specs.declared.back.BackAnswerer.{BackAnswerer}
-use Rattle.chain_build.specs.declared.compiling.BlockChain.{BlockChain}
+use Rattle.chain_build.specs.declared.block_chain.BackAnswerer.{BackAnswerer}
+use Rattle.chain_build.specs.declared.block_chain.BlockChain.{BlockChain}
 use Rattle.chain_build.specs.declared.ended.Ended.{Ended}
 use Rattle.chain_build.specs.declared.ended.Ended.TheVariants as end
-use Rattle.chain_build.specs.declared.front.FrontStep.{FrontStep}
+use Rattle.chain_build.specs.declared.block_chain.FrontStep.{FrontStep}
 use Rattle.chain_build.specs.Replying.{lent_of, whole_answer, whole_message}
 
 pub by_number : (files : List FileText) (chains : List BlockChain) (blocks : List Block) (n : ℕ) → map steps_in chains ≡ map (steps_of files) blocks

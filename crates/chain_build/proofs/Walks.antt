@@ -19,7 +19,7 @@ use Rattle.chain_meaning.specs.MeanLaws.{mean-step, mean_nothing, rule-others}
 use Rattle.chain_meaning.specs.Steps.{Answerer, Step, Others}
 use Rattle.chain_build.specs.Compiled.{back_of}
 use Rattle.chain_build.specs.Walking.{Answered, Restored, decided, decision_of}
-use Rattle.chain_build.specs.declared.back.BackAnswerer.{BackAnswerer}
+use Rattle.chain_build.specs.declared.block_chain.BackAnswerer.{BackAnswerer}
 use Rattle.chain_build.specs.declared.ended.Ended.{Ended}
 
 pub decided-err : (result : Result Ended NoMemory) (answer : AnswerData) → IsErr result → IsErr (decided result answer)

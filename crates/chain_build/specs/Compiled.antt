@@ -5,12 +5,12 @@ use Rattle.dns_data.specs.declared.query.Query.{Query}
 use Rattle.chain_meaning.specs.declared.decision.Decision.{Decision}
 use Rattle.chain_meaning.specs.Steps.{Answerer, Acl, Any, Template, Hosts, File, Whoami}
 use Rattle.chain_meaning.specs.Steps.{Step, Errors, Log, Answers, Others, rewrite_steps}
-use Rattle.chain_build.specs.declared.back.BackAnswerer.{BackAnswerer}
-use Rattle.chain_build.specs.declared.back.BackAnswerer.TheVariants as behind
-use Rattle.chain_build.specs.declared.front.FrontAnswerer.{FrontAnswerer}
-use Rattle.chain_build.specs.declared.front.FrontAnswerer.TheVariants as before
-use Rattle.chain_build.specs.declared.front.FrontStep.{FrontStep}
-use Rattle.chain_build.specs.declared.front.FrontStep.TheVariants as front
+use Rattle.chain_build.specs.declared.block_chain.BackAnswerer.{BackAnswerer}
+use Rattle.chain_build.specs.declared.block_chain.BackAnswerer.TheVariants as behind
+use Rattle.chain_build.specs.declared.block_chain.FrontAnswerer.{FrontAnswerer}
+use Rattle.chain_build.specs.declared.block_chain.FrontAnswerer.TheVariants as before
+use Rattle.chain_build.specs.declared.block_chain.FrontStep.{FrontStep}
+use Rattle.chain_build.specs.declared.block_chain.FrontStep.TheVariants as front
 
 abbrev pub front_answerer : FrontAnswerer → Answerer
 front_answerer (before.Acl plans) = Acl plans

@@ -9,7 +9,7 @@ pub mod Replying
 pub mod Walking
 pub mod WalkingLaws
 -- what public clauses cite
-pub use Rattle.chain_build.specs.Chains.{IsMade, MakesPlans}
+pub use Rattle.chain_build.specs.Chains.{IsMade, IsRead, MakesPlans, ReadsBundle}
 pub use Rattle.chain_build.specs.Reading.{check_behind, is_of_pattern}
 pub use Rattle.chain_build.specs.Plans.{ArePlans, PlansData}
 pub use Rattle.chain_build.specs.Workers.{chain_identity, chain_log, plans_of}

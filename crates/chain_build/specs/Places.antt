@@ -96,21 +96,22 @@ context_at reading = context_in reading.zones.now reading.files.now
 abbrev pub behind_at : Reading → Places → Behind
 behind_at reading places = behind_in (context_at reading) reading.before.now places
 
--- reading one more directive, behind those that stand before it
-abbrev pub ReadsMore : Context → List Directive → Directive → Places → Places
+-- reading one more directive, behind those that stand before it, where the maker refused this text
+-- last
+abbrev pub ReadsMore : Behind → Directive → Places → Places → Option (List ℕ)
     → Result (Unit {0}) CheckFault → Type 0
-ReadsMore context before d old new (Ok done) =
-    IsWell (directive_task (behind_in context before old) d)
-    × (new ≡ placed_by (rank_of d.name) context d old)
-ReadsMore context before d old new (Err (fault.Refused why)) =
-    IsFault told (directive_task (behind_in context before old) d) why
-ReadsMore context before d old new (Err fault.NoMemory) = Unit {0}
+ReadsMore b d old new last (Ok done) =
+    IsWell (directive_task b d) × (new ≡ placed_by (rank_of d.name) b.context d old)
+ReadsMore b d old new last (Err (fault.Refused why)) = IsFault told (directive_task b d) last why
+ReadsMore b d old new last (Err fault.NoMemory) = Unit {0}
 
--- reading the directives of a block in a bundle with these files, behind so many patterns
-abbrev pub ReadsBlock : ℕ → List FileText → Block → Result Places CheckFault → Type 0
-ReadsBlock patterns files block (Ok places) =
+-- reading the directives of a block in a bundle with these files, behind so many patterns, where
+-- the maker refused this text last
+abbrev pub ReadsBlock : ℕ → List FileText → Block → Option (List ℕ)
+    → Result Places CheckFault → Type 0
+ReadsBlock patterns files block last (Ok places) =
     IsWell (block_task patterns files block)
     × (places ≡ placed (context_of files block) block.directives (no_places patterns))
-ReadsBlock patterns files block (Err (fault.Refused why)) =
-    IsFault told (block_task patterns files block) why
-ReadsBlock patterns files block (Err fault.NoMemory) = Unit {0}
+ReadsBlock patterns files block last (Err (fault.Refused why)) =
+    IsFault told (block_task patterns files block) last why
+ReadsBlock patterns files block last (Err fault.NoMemory) = Unit {0}

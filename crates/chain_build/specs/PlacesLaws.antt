@@ -11,8 +11,8 @@ use Rattle.plugin_api.specs.declared.ranks.Rank.{Rank}
 use Rattle.plugin_api.specs.declared.ranks.Rank.TheVariants as rank
 use Rattle.chain_meaning.specs.Accepting.{patterns_in, rank_patterns}
 use Rattle.chain_meaning.specs.Steps.{Context, context_of, file_plan, file_plans, has_rank, hosts_plan, hosts_plans, plan_in, plans_of, rewrite_steps, some_has, steps_of}
-use Rattle.chain_build.specs.declared.back.BackAnswerer.{BackAnswerer}
-use Rattle.chain_build.specs.declared.front.FrontStep.{FrontStep}
+use Rattle.chain_build.specs.declared.block_chain.BackAnswerer.{BackAnswerer}
+use Rattle.chain_build.specs.declared.block_chain.FrontStep.{FrontStep}
 use Rattle.chain_build.specs.declared.places.Places.{Places}
 use Rattle.chain_build.specs.Compiled.{back_of, front_of, whole}
 use Rattle.chain_build.specs.Places.{answers_in, back_in, front_in, no_places, placed, placed_by}

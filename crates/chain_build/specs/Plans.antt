@@ -6,7 +6,7 @@ use Rattle.corefile_blocks.specs.{ArePorts}
 use Rattle.plugin_api.specs.{IndexData, IsIndexOf}
 use Rattle.chain_meaning.specs.Accepting.{IsAccepted}
 use Rattle.chain_meaning.specs.Steps.{Step, steps_of}
-use Rattle.chain_build.specs.declared.compiling.BlockChain.{BlockChain}
+use Rattle.chain_build.specs.declared.block_chain.BlockChain.{BlockChain}
 use Rattle.chain_build.specs.Compiled.{whole}
 
 -- the steps of a block's chain

@@ -1,17 +1,15 @@
 -- What the parts of reading a directive do, and what they leave of the maker of patterns.
-use Rattle.std.specs.Prelude.{◌≡◌, ℕ, ◌+◌, Bool, true, false, Some, None, Result, Ok, Err}
-use Rattle.std.specs.Prelude.{if◌then◌else◌}
+use Rattle.std.specs.Prelude.{◌≡◌, ℕ, ◌+◌, Bool, true, false, List, Option, Some, None}
+use Rattle.std.specs.Prelude.{Result, Ok, Err, if◌then◌else◌}
 use Rattle.outside.specs.{WatchState, raised, with_refusals}
 use Rattle.dns_data.specs.declared.directive.Directive.{Directive}
 use Rattle.plugin_api.specs.declared.fault.DirectiveFault.{DirectiveFault}
 use Rattle.plugin_api.specs.declared.ranks.Rank.{Rank}
 use Rattle.plugin_api.specs.declared.ranks.Rank.TheVariants as rank
-use Rattle.file_plugin.specs.declared.fault.FileFault.{FileFault}
 use Rattle.pattern_judging.specs.{IsFault, IsWell, Task}
 use Rattle.plugin_api.specs.declared.fault.DirectiveFault.TheVariants as directive
 use Rattle.chain_meaning.specs.Accepting.{fixed_refusal, rank_patterns, reader_refusal, refused_by}
-use Rattle.chain_meaning.specs.Accepting.{refused_by_file, told}
-use Rattle.chain_meaning.specs.Accepting.{Behind}
+use Rattle.chain_meaning.specs.Accepting.{Behind, told}
 use Rattle.chain_meaning.specs.declared.refusal.Refusal.{Refusal}
 use Rattle.chain_meaning.specs.declared.refusal.Refusal.TheVariants as refusal
 use Rattle.plugin_api.specs.declared.fault.DirectiveWhy.TheVariants as why
@@ -50,30 +48,18 @@ abbrev pub ReadsAs : Rank → Behind → Directive → Places → Places
 ReadsAs rank b d old new (Ok done) =
     (fixed_refusal rank b d ≡ None) × (new ≡ placed_by (Some rank) b.context d old)
 ReadsAs rank b d old new (Err (fault.Refused refused)) =
-    (fixed_refusal rank b d ≡ Some refused) × (is_of_pattern refused ≡ false)
+    fixed_refusal rank b d ≡ Some refused
 ReadsAs rank b d old new (Err fault.NoMemory) = Unit {0}
-
--- a fault of a directive without patterns is a refusal, unless it is want of memory
-abbrev pub RefusesAs : DirectiveFault → CheckFault → Type 0
-RefusesAs why (fault.Refused refused) =
-    (refused_by (Some why) ≡ Some refused) × (is_of_pattern refused ≡ false)
-RefusesAs why fault.NoMemory = Unit {0}
-
--- the same of `file`
-abbrev pub RefusesFileAs : FileFault → CheckFault → Type 0
-RefusesFileAs why (fault.Refused refused) =
-    (refused_by_file (Some why) ≡ Some refused) × (is_of_pattern refused ≡ false)
-RefusesFileAs why fault.NoMemory = Unit {0}
 
 -- so many more patterns are read
 abbrev pub CountsOn : ℕ → Places → Places → Result (Unit {0}) CheckFault → Type 0
 CountsOn count old new (Ok done) = new ≡ record old { patterns = old.patterns + count }
 CountsOn count old new (Err refused) = refused ≡ fault.NoMemory
 
--- a fault of a directive with patterns is a refusal, unless it is want of memory
-abbrev pub RefusesWith : DirectiveFault → CheckFault → Type 0
-RefusesWith why (fault.Refused refused) = refused_by (Some why) ≡ Some refused
-RefusesWith why fault.NoMemory = why ≡ directive.NoMemory
+-- a fault of a directive is a refusal, unless it is want of memory
+abbrev pub Refuses : DirectiveFault → CheckFault → Type 0
+Refuses why (fault.Refused refused) = refused_by (Some why) ≡ Some refused
+Refuses why fault.NoMemory = why ≡ directive.NoMemory
 
 -- why a directive of this rank is refused, by what becomes of its patterns
 abbrev pub reader_task : Rank → Behind → Directive → Task Refusal
@@ -83,11 +69,10 @@ reader_task rank b d = record {
   fault = λ judgement. reader_refusal judgement rank b d;
 }
 
--- reading a directive of this rank
-abbrev pub ReadsRank : Rank → Behind → Directive → Places → Places
+-- what becomes of the patterns of a directive of this rank, where the maker refused this text last
+abbrev pub ReadsRank : Rank → Behind → Directive → Option (List ℕ)
     → Result (Unit {0}) CheckFault → Type 0
-ReadsRank rank b d old new (Ok done) =
-    IsWell (reader_task rank b d) × (new ≡ placed_by (Some rank) b.context d old)
-ReadsRank rank b d old new (Err (fault.Refused refused)) =
-    IsFault told (reader_task rank b d) refused
-ReadsRank rank b d old new (Err fault.NoMemory) = Unit {0}
+ReadsRank rank b d last (Ok done) = IsWell (reader_task rank b d)
+ReadsRank rank b d last (Err (fault.Refused refused)) =
+    IsFault told (reader_task rank b d) last refused
+ReadsRank rank b d last (Err fault.NoMemory) = Unit {0}

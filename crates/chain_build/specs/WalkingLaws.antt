@@ -13,10 +13,10 @@ use Rattle.chain_meaning.specs.Mean.{answer_of, error_noted, mean, or_rest, quer
 use Rattle.chain_meaning.specs.MeanLaws.{mean-end, mean-step, rule-answers, rule-errors, rule-log, rule-rewrite}
 use Rattle.chain_meaning.specs.Steps.{Step, Rewrite}
 use Rattle.chain_build.specs.Compiled.{back_answerer, back_of, back_steps, front_answerer, front_of}
-use Rattle.chain_build.specs.declared.back.BackAnswerer.{BackAnswerer}
-use Rattle.chain_build.specs.declared.front.FrontAnswerer.{FrontAnswerer}
-use Rattle.chain_build.specs.declared.front.FrontStep.{FrontStep}
-use Rattle.chain_build.specs.declared.front.FrontStep.TheVariants as front
+use Rattle.chain_build.specs.declared.block_chain.BackAnswerer.{BackAnswerer}
+use Rattle.chain_build.specs.declared.block_chain.FrontAnswerer.{FrontAnswerer}
+use Rattle.chain_build.specs.declared.block_chain.FrontStep.{FrontStep}
+use Rattle.chain_build.specs.declared.block_chain.FrontStep.TheVariants as front
 
 empty : {T : Type 0} (xs : List T) → length xs ≡ 0 → xs ≡ []
 empty [] e = refl

@@ -7,28 +7,19 @@ ghost use Rattle.chain_meaning.specs.Mean.{mean, rewritten};
 ghost use Rattle.chain_build.specs.Compiled.{back_answerer, back_of, back_steps};
 ghost use Rattle.chain_build.specs.Walking.{Answered, Restored, decided, decision_of};
 
-use crate::compiling::BlockChain;
+use crate::block_chain::{BackAnswerer, BlockChain};
 use crate::ended::Ended;
-use crate::room::PluginRoom;
-use dns_data::{NoMemory, Query, Seq, Slot};
+use crate::room::{PluginRoom, WalkRoom};
+use dns_data::{NoMemory, Query};
 use dns_write::Tail;
-use file_plugin::{FilePlan, FileSay};
-use hosts_plugin::{HostsPlan, HostsSay};
+use file_plugin::FileSay;
+use hosts_plugin::HostsSay;
 use outside::{Kept, Side};
 use plain_plugins::whoami_answer;
 use plugin_api::{Cause, Code};
-use rewrite_plugin::{Changed, RewritePlan, RewriteRoom, change, restore};
+use rewrite_plugin::{Changed, RewritePlan, change, restore};
 use std::alloc::Global;
-use template_plugin::{TemplatePlan, TemplateRoom, TemplateSay};
-
-/// A plugin behind a cache, which answers or goes on, and notes nothing.
-#[derive(Drop)]
-pub enum BackAnswerer {
-    Template(Seq<TemplatePlan>),
-    Hosts(HostsPlan),
-    File(Seq<FilePlan>),
-    Whoami,
-}
+use template_plugin::TemplateSay;
 
 /// Runs what stands behind a cache: the rest is asked what the rules make of the query, and its
 /// reply is restored. The slot is clear.
@@ -39,50 +30,55 @@ pub fn run_behind<'a, S: Side>(
     query: &Query,
     side: &mut S,
     kept: &mut Kept,
-    room: &mut PluginRoom,
-    slot: &mut Slot,
+    room: &mut WalkRoom,
 ) -> Result<Ended<'a>, NoMemory>
-    requires clear { slot.old ≡ no_answer }
+    requires clear { room.old.plugins.slot ≡ no_answer }
     ensures { Asks (mean (back_steps chain.now.rewrites chain.now.back) query.now)
-        (decided result slot.new) (S.state side.old) (S.state side.new) kept.old kept.new }
+        (decided result room.new.plugins.slot) (S.state side.old) (S.state side.new) kept.old
+        kept.new }
 {
-    let (rewrites, back) = (chain.rewrites.as_slice(), chain.back.as_slice());
-    if rewrites.len() == 0 {
-        return run_back(alloc, back, query, side, kept, &mut room.template, slot);
+    if chain.rewrites.len() == 0 {
+        return run_back(
+            alloc,
+            chain.back.as_slice(),
+            query,
+            side,
+            kept,
+            &mut room.plugins,
+        );
     }
-    run_rewritten(alloc, rewrites, back, query, side, kept, room, slot)
+    run_rewritten(alloc, chain, query, side, kept, room)
 }
 
-// Runs the rest on what the rules make of the query, and restores its reply. Stays a call, so that a
-// chain without rules is short.
+// Runs the rest on what the rules make of the query, and restores its reply. Stays a call, so that
+// a chain without rules is short.
 #[inline(never)]
 fn run_rewritten<'a, S: Side>(
     alloc: Global,
-    rewrites: &[RewritePlan],
-    back: &'a [BackAnswerer],
+    chain: &'a BlockChain,
     query: &Query,
     side: &mut S,
     kept: &mut Kept,
-    room: &mut PluginRoom,
-    slot: &mut Slot,
+    room: &mut WalkRoom,
 ) -> Result<Ended<'a>, NoMemory>
-    requires clear { slot.old ≡ no_answer }
+    requires clear { room.old.plugins.slot ≡ no_answer }
     ensures { Asks
-        (rewritten (mean (map back_of back.now)) rewrites.now (changed_by rewrites.now query.now))
-        (decided result slot.new) (S.state side.old) (S.state side.new) kept.old kept.new }
+        (rewritten (mean (map back_of chain.now.back)) chain.now.rewrites
+        (changed_by chain.now.rewrites query.now))
+        (decided result room.new.plugins.slot) (S.state side.old) (S.state side.new) kept.old
+        kept.new }
 {
-    change(alloc, rewrites, query, &mut room.rewrite, &mut room.changed)?;
-    let changed = &room.changed;
-    let ended = run_back(
+    let (rewrites, back) = (chain.rewrites.as_slice(), chain.back.as_slice());
+    change(
         alloc,
-        back,
-        &changed.query,
-        side,
-        kept,
-        &mut room.template,
-        slot,
+        rewrites,
+        query,
+        &mut room.plugins.rewrite,
+        &mut room.changed,
     )?;
-    restore_reply(alloc, rewrites, changed, ended, &mut room.rewrite, slot)
+    let changed = &room.changed;
+    let ended = run_back(alloc, back, &changed.query, side, kept, &mut room.plugins)?;
+    restore_reply(alloc, rewrites, changed, ended, &mut room.plugins)
 }
 
 // Restores the reply in the slot, where the rest ended with one.
@@ -91,19 +87,18 @@ fn restore_reply<'a>(
     rewrites: &[RewritePlan],
     changed: &Changed,
     ended: Ended<'a>,
-    room: &mut RewriteRoom,
-    slot: &mut Slot,
+    room: &mut PluginRoom,
 ) -> Result<Ended<'a>, NoMemory>
-    ensures { Restored rewrites.now changed.now (decision_of ended.entry slot.old) slot.new
-        result }
+    ensures { Restored rewrites.now changed.now (decision_of ended.entry room.old.slot)
+        room.new.slot result }
 {
     match ended {
         Ended::Reply => {
-            restore(alloc, rewrites, changed, room, slot)?;
+            restore(alloc, rewrites, changed, &mut room.rewrite, &mut room.slot)?;
             Ok(Ended::Reply)
         }
         Ended::Lent(tail) => {
-            restore_lent(alloc, rewrites, changed, tail, room, slot)?;
+            restore_lent(alloc, rewrites, changed, tail, room)?;
             Ok(Ended::Reply)
         }
         Ended::Code(code, cause) => Ok(Ended::Code(code, cause)),
@@ -118,14 +113,13 @@ fn restore_lent(
     rewrites: &[RewritePlan],
     changed: &Changed,
     tail: &Tail,
-    room: &mut RewriteRoom,
-    slot: &mut Slot,
+    room: &mut PluginRoom,
 ) -> Result<(), NoMemory>
-    ensures { OnOk result
-        (slot.new ≡ restored rewrites.now changed.now.steps (with_tail slot.old tail.now)) }
+    ensures { OnOk result (room.new.slot
+        ≡ restored rewrites.now changed.now.steps (with_tail room.old.slot tail.now)) }
 {
-    tail.copy_into(alloc, slot)?;
-    restore(alloc, rewrites, changed, room, slot)
+    tail.copy_into(alloc, &mut room.slot)?;
+    restore(alloc, rewrites, changed, &mut room.rewrite, &mut room.slot)
 }
 
 /// Runs the plugins that answer, behind a cache and the rules of `rewrite`. The slot is clear.
@@ -135,19 +129,18 @@ pub fn run_back<'a, S: Side>(
     query: &Query,
     side: &mut S,
     kept: &mut Kept,
-    room: &mut TemplateRoom,
-    slot: &mut Slot,
+    room: &mut PluginRoom,
 ) -> Result<Ended<'a>, NoMemory>
-    requires clear { slot.old ≡ no_answer }
-    ensures { Asks (mean (map back_of steps.now) query.now) (decided result slot.new)
+    requires clear { room.old.slot ≡ no_answer }
+    ensures { Asks (mean (map back_of steps.now) query.now) (decided result room.new.slot)
         (S.state side.old) (S.state side.new) kept.old kept.new }
 {
     let Some((plugin, rest)) = steps.split_first() else {
         return Ok(Ended::Code(Code::ServFail, Cause::EndOfChain));
     };
-    match back_answer(alloc, plugin, query, room, slot)? {
+    match back_answer(alloc, plugin, query, room)? {
         Some(ended) => Ok(ended),
-        None => run_back(alloc, rest, query, side, kept, room, slot),
+        None => run_back(alloc, rest, query, side, kept, room),
     }
 }
 
@@ -158,15 +151,21 @@ pub fn back_answer<'a>(
     alloc: Global,
     plugin: &'a BackAnswerer,
     query: &Query,
-    room: &mut TemplateRoom,
-    slot: &mut Slot,
+    room: &mut PluginRoom,
 ) -> Result<Option<Ended<'a>>, NoMemory>
-    requires clear { slot.old ≡ no_answer }
-    ensures { Answered (back_answerer plugin.now) query.now slot.old slot.new result }
+    requires clear { room.old.slot ≡ no_answer }
+    ensures { Answered (back_answerer plugin.now) query.now room.old.slot room.new.slot result }
 {
+    let slot = &mut room.slot;
     match plugin {
         BackAnswerer::Template(plans) => {
-            match template_plugin::decide(alloc, plans.as_slice(), query, room, slot)? {
+            match template_plugin::decide(
+                alloc,
+                plans.as_slice(),
+                query,
+                &mut room.template,
+                slot,
+            )? {
                 TemplateSay::Reply => Ok(Some(Ended::Reply)),
                 TemplateSay::Next => Ok(None),
                 TemplateSay::NoMatch => Ok(Some(Ended::Code(Code::ServFail, Cause::NoMatch))),

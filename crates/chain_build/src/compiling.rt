@@ -6,26 +6,15 @@ ghost use Rattle.chain_meaning.specs.Steps.{whoami_steps};
 ghost use Rattle.chain_build.specs.Compiled.{back_of, front_of};
 ghost use Rattle.chain_build.specs.Places.{answers_in, front_in};
 
-use crate::back::BackAnswerer;
-use crate::front::{FrontAnswerer, FrontStep};
+use crate::block_chain::{BackAnswerer, BlockChain, FrontAnswerer, FrontStep};
 use crate::places::Places;
 use acl_plugin::AclPlan;
 use dns_data::{NoMemory, Seq};
 use file_plugin::FilePlan;
 use hosts_plugin::HostsPlan;
 use plain_plugins::PlainPlan;
-use rewrite_plugin::RewritePlan;
 use std::alloc::Global;
 use template_plugin::TemplatePlan;
-
-/// The chain of a block, as it runs.
-#[derive(Drop)]
-pub struct BlockChain {
-    pub front: Seq<FrontStep>,
-    /// The rules that change the query for the plugins behind them.
-    pub rewrites: Seq<RewritePlan>,
-    pub back: Seq<BackAnswerer>,
-}
 
 /// Lists what was read rank by rank.
 pub fn compile(alloc: Global, places: Places) -> Result<BlockChain, NoMemory>

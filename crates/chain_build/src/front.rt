@@ -9,66 +9,54 @@ ghost use Rattle.chain_build.specs.Compiled.{whole_with};
 ghost use Rattle.chain_build.specs.Walking.{Answered, decided};
 
 use crate::back::run_behind;
-use crate::compiling::BlockChain;
+use crate::block_chain::{BlockChain, ChainRest, FrontAnswerer, FrontStep};
 use crate::ended::Ended;
 use crate::extras::Extras;
 use crate::noting::{note_error, note_query};
-use crate::room::PluginRoom;
-use acl_plugin::{AclPlan, AclSay, decide};
-use dns_data::{NoMemory, Query, Seq, Slot, kind, rcode};
+use crate::room::WalkRoom;
+use acl_plugin::{AclSay, decide};
+use dns_data::{NoMemory, Query, Slot, kind, rcode};
 use outside::{Kept, Side};
-use plain_plugins::{PlainPlan, any_answer};
+use plain_plugins::any_answer;
 use std::alloc::Global;
 
-/// A plugin in front of a cache that answers or goes on.
-#[derive(Debug, Drop)]
-pub enum FrontAnswerer {
-    Acl(Seq<AclPlan>),
-    Any,
-}
-
-/// A step that stands in front of a cache.
-#[derive(Debug, Drop)]
-pub enum FrontStep {
-    Errors,
-    Log(PlainPlan),
-    Answers(FrontAnswerer),
-}
-
-/// Runs these first steps of a chain, asks plugins of others where they end, and then runs what
-/// stands behind a cache in it. The slot is clear.
+/// Runs what is left of a chain: its steps in front of a cache, plugins of others where these end,
+/// and then what stands behind a cache. The slot is clear.
 pub fn run_front<'a, S: Side, X: Extras>(
     alloc: Global,
-    front: &[FrontStep],
-    behind: &'a BlockChain,
+    steps: ChainRest<'a>,
     query: &Query,
     side: &mut S,
     extras: &mut X,
-    room: &mut PluginRoom,
-    slot: &mut Slot,
+    room: &mut WalkRoom,
 ) -> Result<Ended<'a>, NoMemory>
-    requires clear { slot.old ≡ no_answer }
+    requires clear { room.old.plugins.slot ≡ no_answer }
     ensures takes { Takes
-        (mean (whole_with (X.says extras.old) front.now behind.now.rewrites behind.now.back)
-        query.now) (decided result slot.new) (S.state side.old) (S.state side.new) }
+        (mean (whole_with (X.says extras.old) steps.entry.front.now
+        steps.entry.behind.now.rewrites steps.entry.behind.now.back) query.now)
+        (decided result room.new.plugins.slot) (S.state side.old) (S.state side.new) }
     ensures stays { X.says extras.new ≡ X.says extras.old }
 {
-    let Some((step, rest)) = front.split_first() else {
-        return run_others(alloc, behind, query, side, extras, room, slot);
+    let behind = steps.behind;
+    let Some((step, front)) = steps.front.split_first() else {
+        return run_others(alloc, behind, query, side, extras, room);
     };
+    let rest = ChainRest { front, behind };
     match step {
         FrontStep::Errors => {
-            let ended = run_front(alloc, rest, behind, query, side, extras, room, slot)?;
+            let ended = run_front(alloc, rest, query, side, extras, room)?;
             note_error(alloc, query, ended, side)
         }
         FrontStep::Log(plan) => {
-            let ended = run_front(alloc, rest, behind, query, side, extras, room, slot)?;
-            note_query(alloc, plan, query, ended, slot, side)
+            let ended = run_front(alloc, rest, query, side, extras, room)?;
+            note_query(alloc, plan, query, ended, &room.plugins.slot, side)
         }
-        FrontStep::Answers(plugin) => match front_answer(alloc, plugin, query, slot)? {
-            Some(ended) => Ok(ended),
-            None => run_front(alloc, rest, behind, query, side, extras, room, slot),
-        },
+        FrontStep::Answers(plugin) => {
+            match front_answer(alloc, plugin, query, &mut room.plugins.slot)? {
+                Some(ended) => Ok(ended),
+                None => run_front(alloc, rest, query, side, extras, room),
+            }
+        }
     }
 }
 
@@ -81,18 +69,17 @@ fn run_others<'a, S: Side, X: Extras>(
     query: &Query,
     side: &mut S,
     extras: &mut X,
-    room: &mut PluginRoom,
-    slot: &mut Slot,
+    room: &mut WalkRoom,
 ) -> Result<Ended<'a>, NoMemory>
-    requires clear { slot.old ≡ no_answer }
+    requires clear { room.old.plugins.slot ≡ no_answer }
     ensures takes { Takes
         (mean (others_steps (X.says extras.old) chain.now.rewrites chain.now.back) query.now)
-        (decided result slot.new) (S.state side.old) (S.state side.new) }
+        (decided result room.new.plugins.slot) (S.state side.old) (S.state side.new) }
     ensures stays { X.says extras.new ≡ X.says extras.old }
 {
-    match extras.answer(alloc, query, slot)? {
+    match extras.answer(alloc, query, &mut room.plugins.slot)? {
         Some(ended) => Ok(ended),
-        None => run_uncached(alloc, chain, query, side, room, slot),
+        None => run_uncached(alloc, chain, query, side, room),
     }
 }
 
@@ -103,15 +90,14 @@ pub fn run_uncached<'a, S: Side>(
     chain: &'a BlockChain,
     query: &Query,
     side: &mut S,
-    room: &mut PluginRoom,
-    slot: &mut Slot,
+    room: &mut WalkRoom,
 ) -> Result<Ended<'a>, NoMemory>
-    requires clear { slot.old ≡ no_answer }
+    requires clear { room.old.plugins.slot ≡ no_answer }
     ensures { Takes (mean (back_steps chain.now.rewrites chain.now.back) query.now)
-        (decided result slot.new) (S.state side.old) (S.state side.new) }
+        (decided result room.new.plugins.slot) (S.state side.old) (S.state side.new) }
 {
     let mut kept = Kept::Off;
-    run_behind(alloc, chain, query, side, &mut kept, room, slot)
+    run_behind(alloc, chain, query, side, &mut kept, room)
 }
 
 /// What a plugin in front of a cache answers, with the answer of a reply in the slot, which is

@@ -4,6 +4,7 @@
 
 mod asking;
 mod back;
+mod block_chain;
 mod chain;
 mod checking;
 mod compiling;
@@ -21,15 +22,16 @@ pub use asking::{
     fill_query, header_reply, is_known_version, limit_of, opt_reply, query_of, reply_message,
     upper_code,
 };
-pub use back::{BackAnswerer, back_answer, run_back, run_behind};
+pub use back::{back_answer, run_back, run_behind};
+pub use block_chain::{BackAnswerer, BlockChain, ChainRest, FrontAnswerer, FrontStep};
 pub use chain::{Chain, build};
-pub use checking::{block_chains, check};
-pub use compiling::{BlockChain, compile};
+pub use checking::{ReadBundle, block_chains, check, read_bundle};
+pub use compiling::compile;
 pub use ended::Ended;
 pub use extras::{Extras, NoExtras};
 pub use fault::CheckFault;
-pub use front::{FrontAnswerer, FrontStep, front_answer, run_front};
+pub use front::{front_answer, run_front};
 pub use places::{Places, read_block};
 pub use plans::Plans;
-pub use room::{PluginRoom, Room};
+pub use room::{PluginRoom, Room, WalkRoom};
 pub use serving::serve;

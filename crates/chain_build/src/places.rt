@@ -1,22 +1,21 @@
 ghost use Rattle.std.specs.Prelude.{◌≡◌, None, Some, true, map, IfOk, OnOk};
 ghost use Rattle.plugin_api.specs.declared.ranks.Rank.TheVariants as rank;
 ghost use Rattle.plain_plugins.specs.{IsPlain};
-ghost use Rattle.chain_meaning.specs.Accepting.{is_built, stands_in};
+ghost use Rattle.chain_meaning.specs.Accepting.{stands_in};
 ghost use Rattle.std.specs.List.{All};
 ghost use Rattle.corefile_blocks.specs.Readable.{HasShortBytes};
-ghost use Rattle.chain_meaning.specs.Steps.{file_plans, file_word, hosts_word};
-ghost use Rattle.plugin_api.specs.declared.fault.DirectiveFault.TheVariants as directive;
+ghost use Rattle.chain_meaning.specs.Steps.{file_plans};
 ghost use Rattle.chain_build.specs.Places.{ReadsBlock, ReadsMore, behind_at, context_at};
-ghost use Rattle.chain_build.specs.Places.{no_places, placed_plain};
-ghost use Rattle.chain_build.specs.Reading.{CountsOn, IsFixed, ReadsAs, ReadsRank, RefusesAs};
-ghost use Rattle.chain_build.specs.Reading.{RefusesFileAs, RefusesWith, check_behind};
+ghost use Rattle.chain_build.specs.Places.{no_places, placed_by, placed_plain};
+ghost use Rattle.chain_build.specs.Reading.{CountsOn, IsFixed, ReadsAs, ReadsRank, Refuses};
+ghost use Rattle.chain_build.specs.Reading.{check_behind};
 ghost use Rattle.chain_build.specs.declared.fault.CheckFault.TheVariants as fault;
 ghost use Rattle.chain_meaning.specs.declared.refusal.Refusal.TheVariants as refusal;
 
 use crate::fault::CheckFault;
 use acl_plugin::AclPlan;
 use chain_meaning::Refusal;
-use corefile_blocks::file_of;
+use corefile_blocks::{file_of, file_word, hosts_word};
 use dns_data::{Block, BlockKey, Copies, Directive, FileText, Names, NoMemory, Seq, Text};
 use file_plugin::{FileFault, FilePlan};
 use hosts_plugin::HostsPlan;
@@ -82,7 +81,7 @@ pub fn read_block<M: PatternMaker>(
     maker: &mut M,
 ) -> Result<Places, CheckFault>
     requires { All HasShortBytes files.now }
-    ensures reads { ReadsBlock patterns files.now block.now result }
+    ensures reads { ReadsBlock patterns files.now block.now (M.last maker.new) result }
     ensures maker { M.state maker.new ≡ check_behind result (M.state maker.old) }
 {
     let zones = key_zones(alloc, block.keys.as_slice())?;
@@ -122,17 +121,14 @@ fn read_more<M: PatternMaker>(
 ) -> Result<(), CheckFault>
     requires short { All HasShortBytes reading.now.files.now }
     requires plans { places.old.files ≡ file_plans (context_at reading.now) reading.now.before.now }
-    ensures reads { ReadsMore (context_at reading.now) reading.now.before.now
-        reading.now.directive.now places.old places.new result }
+    ensures reads { ReadsMore (behind_at reading.now places.old) reading.now.directive.now
+        places.old places.new (M.last maker.new) result }
     ensures maker { M.state maker.new ≡ check_behind result (M.state maker.old) }
 {
     let directive = reading.directive;
     let Some(rank) = rank(&directive.name) else {
         return Err(unknown(directive));
     };
-    if !is_built(rank) {
-        return Err(unknown(directive));
-    }
     if rank.is_once() && stands_in(reading.before, &directive.name) {
         return Err(CheckFault::Refused(Refusal::Directive {
             line: directive.line,
@@ -154,7 +150,9 @@ fn read_rewrite<M: PatternMaker>(
     places: &mut Places,
 ) -> Result<(), CheckFault>
     ensures reads { ReadsRank rank.Rewrite (behind_at reading.now places.old)
-        reading.now.directive.now places.old places.new result }
+        reading.now.directive.now (M.last maker.new) result }
+    ensures placed { OnOk result (places.new ≡ placed_by (Some rank.Rewrite)
+        (context_at reading.now) reading.now.directive.now places.old) }
     ensures maker { M.state maker.new ≡ check_behind result (M.state maker.old) }
 {
     match RewritePlan::read(alloc, reading.directive, places.patterns, maker) {
@@ -163,7 +161,7 @@ fn read_rewrite<M: PatternMaker>(
             places.rewrites.push(plan)?;
             add_patterns(count, places)
         }
-        Err(fault) => Err(refused_with(fault)),
+        Err(fault) => Err(refused(fault)),
     }
 }
 
@@ -175,7 +173,9 @@ fn read_template<M: PatternMaker>(
     places: &mut Places,
 ) -> Result<(), CheckFault>
     ensures reads { ReadsRank rank.Template (behind_at reading.now places.old)
-        reading.now.directive.now places.old places.new result }
+        reading.now.directive.now (M.last maker.new) result }
+    ensures placed { OnOk result (places.new ≡ placed_by (Some rank.Template)
+        (context_at reading.now) reading.now.directive.now places.old) }
     ensures maker { M.state maker.new ≡ check_behind result (M.state maker.old) }
 {
     let zones = reading.zones;
@@ -185,7 +185,7 @@ fn read_template<M: PatternMaker>(
             places.templates.push(plan)?;
             add_patterns(count, places)
         }
-        Err(fault) => Err(refused_with(fault)),
+        Err(fault) => Err(refused(fault)),
     }
 }
 
@@ -200,8 +200,8 @@ fn add_patterns(count: usize, places: &mut Places) -> Result<(), CheckFault>
     Ok(())
 }
 
-fn refused_with(fault: DirectiveFault) -> CheckFault
-    ensures { RefusesWith fault result }
+fn refused(fault: DirectiveFault) -> CheckFault
+    ensures { Refuses fault result }
 {
     match fault {
         DirectiveFault::Why { line, why } => CheckFault::Refused(Refusal::Directive { line, why }),
@@ -218,17 +218,6 @@ fn unknown(directive: &Directive) -> CheckFault
     CheckFault::Refused(Refusal::Unknown {
         line: directive.line,
     })
-}
-
-fn is_built(rank: Rank) -> bool
-    ensures { result ≡ is_built rank }
-{
-    match rank {
-        Rank::Passive | Rank::Reload | Rank::Errors | Rank::Log => true,
-        Rank::Acl | Rank::Any | Rank::Rewrite | Rank::Template => true,
-        Rank::Hosts | Rank::File | Rank::Whoami => true,
-        _ => false,
-    }
 }
 
 // Whether one of these directives has the name.
@@ -250,7 +239,6 @@ fn read_as(
     reading: &Reading<'_>,
     places: &mut Places,
 ) -> Result<(), CheckFault>
-    requires built { is_built rank ≡ true }
     requires fixed { IsFixed rank }
     requires short { All HasShortBytes reading.now.files.now }
     requires plans { places.old.files ≡ file_plans (context_at reading.now) reading.now.before.now }
@@ -275,7 +263,8 @@ fn read_as(
                 }
                 Err(fault) => Err(refused(fault)),
             },
-        _ => unreachable!(),
+        Rank::Dns64 | Rank::Extra | Rank::Cache | Rank::Forward => Err(unknown(reading.directive)),
+        Rank::Rewrite | Rank::Template => unreachable!(),
     }
 }
 
@@ -293,16 +282,6 @@ fn read_hosts(alloc: Global, reading: &Reading<'_>, places: &mut Places) -> Resu
             Ok(())
         }
         Err(fault) => Err(refused(fault)),
-    }
-}
-
-// The file that the words of `hosts` name, or else /etc/hosts.
-fn hosts_word(words: &[Text]) -> &str
-    ensures { result.now ≡ hosts_word words.now }
-{
-    match words {
-        [] => "/etc/hosts",
-        [word, ..] => word.as_str(),
     }
 }
 
@@ -326,52 +305,10 @@ fn read_file(alloc: Global, reading: &Reading<'_>, places: &mut Places) -> Resul
             places.files.push(plan)?;
             Ok(())
         }
-        Err(fault) => Err(refused_file(fault)),
-    }
-}
-
-// The file that the words of a directive name.
-fn file_word(words: &[Text]) -> &str
-    ensures { result.now ≡ file_word words.now }
-{
-    match words {
-        [] => "",
-        [word, ..] => word.as_str(),
-    }
-}
-
-fn refused_file(fault: FileFault) -> CheckFault
-    ensures { RefusesFileAs fault result }
-{
-    match fault {
-        FileFault::Why { line, why } => told(line, why),
-        FileFault::Zone { line, at, why } => CheckFault::Refused(Refusal::Zone { line, at, why }),
-        FileFault::TooMany { what, number } => {
-            CheckFault::Refused(Refusal::TooMany { what, number })
+        Err(FileFault::Directive(fault)) => Err(refused(fault)),
+        Err(FileFault::Zone { line, at, why }) => {
+            Err(CheckFault::Refused(Refusal::Zone { line, at, why }))
         }
-        FileFault::NoMemory => CheckFault::NoMemory,
-    }
-}
-
-fn refused(fault: DirectiveFault) -> CheckFault
-    ensures { RefusesAs fault result }
-{
-    match fault {
-        DirectiveFault::Why { line, why } => told(line, why),
-        DirectiveFault::TooMany { what, number } => {
-            CheckFault::Refused(Refusal::TooMany { what, number })
-        }
-        DirectiveFault::NoMemory => CheckFault::NoMemory,
-    }
-}
-
-// The fault of a directive without patterns, which is never that of one.
-fn told(line: u32, why: DirectiveWhy) -> CheckFault
-    ensures { RefusesAs (directive.Why line why) result }
-{
-    match why {
-        DirectiveWhy::Pattern | DirectiveWhy::PatternSize => CheckFault::NoMemory,
-        _ => CheckFault::Refused(Refusal::Directive { line, why }),
     }
 }
 

@@ -1,6 +1,6 @@
 ghost use Rattle.chain_build.specs.Plans.{ArePlans};
 
-use crate::compiling::BlockChain;
+use crate::block_chain::BlockChain;
 use corefile_blocks::Bundle;
 use dns_data::{Blocks, Seq};
 use plugin_api::BlockIndex;

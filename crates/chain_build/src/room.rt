@@ -8,31 +8,38 @@ use std::mem;
 use template_plugin::TemplateRoom;
 
 /// What a worker keeps from one query to the next, so that the next takes no memory for it: the
-/// query, the bytes of a reply that was sent, the room of an answer's records, and what plugins
-/// write in.
+/// query, the bytes of a reply that was sent, and what a walk writes in.
 #[derive(Drop)]
 pub struct Room {
     pub query: Query,
     pub reply: Buffer,
-    pub slot: Slot,
+    pub walk: WalkRoom,
+}
+
+/// What the walk through a chain writes in. It keeps nothing that the next query reads.
+#[derive(Drop)]
+pub struct WalkRoom {
+    /// The query behind the rules of `rewrite`.
+    pub changed: Changed,
     pub plugins: PluginRoom,
 }
 
-/// What plugins write in while they serve a query. It keeps nothing that the next query reads.
+/// What plugins write in while they serve a query: the answer, and what they search and turn in.
 #[derive(Drop)]
 pub struct PluginRoom {
+    pub slot: Slot,
     pub template: TemplateRoom,
     pub rewrite: RewriteRoom,
-    /// The query behind the rules of `rewrite`.
-    pub changed: Changed,
 }
 
 impl PluginRoom {
-    pub fn new(alloc: Global) -> PluginRoom {
+    pub fn new(alloc: Global) -> PluginRoom
+        ensures slot { result.slot ≡ no_answer }
+    {
         PluginRoom {
+            slot: Slot::new(alloc),
             template: TemplateRoom::new(alloc),
             rewrite: RewriteRoom::new(alloc),
-            changed: Changed::new(alloc),
         }
     }
 }
@@ -40,13 +47,15 @@ impl PluginRoom {
 impl Room {
     pub fn new(alloc: Global) -> Room
         ensures reply { result.reply ≡ [] }
-        ensures slot { result.slot ≡ no_answer }
+        ensures slot { result.walk.plugins.slot ≡ no_answer }
     {
         Room {
             query: Query::blank(alloc),
             reply: Buffer::new(alloc),
-            slot: Slot::new(alloc),
-            plugins: PluginRoom::new(alloc),
+            walk: WalkRoom {
+                changed: Changed::new(alloc),
+                plugins: PluginRoom::new(alloc),
+            },
         }
     }
 

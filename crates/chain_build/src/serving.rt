@@ -18,15 +18,15 @@ ghost use Rattle.chain_build.specs.Walking.{decided, decision_of};
 use crate::asking::{
     fill_query, header_reply, is_known_version, limit_of, opt_reply, reply_message, upper_code,
 };
+use crate::block_chain::{BlockChain, ChainRest};
 use crate::chain::Chain;
-use crate::compiling::BlockChain;
 use crate::ended::Ended;
 use crate::extras::NoExtras;
 use crate::front::{run_front, run_uncached};
 use crate::plans::Plans;
-use crate::room::{PluginRoom, Room};
+use crate::room::{Room, WalkRoom};
 use chain_meaning::{Served, Silence, number};
-use dns_data::{Buffer, NoMemory, Opt, Query, Slot, class, rcode};
+use dns_data::{Buffer, NoMemory, Query, Slot, class, rcode};
 use dns_wire::{AskedBeside, QueryFault, read_asked_into};
 use dns_write::{MessageParts, Tail, write_lent};
 use outside::{Datagram, Side};
@@ -87,19 +87,18 @@ fn reply<S: Side>(
         (S.state side.old) (S.state side.new) }
 {
     plans.tell();
-    let (class, opt) = (beside.class, beside.opt);
     fill_query(&mut room.query, datagram, beside);
-    let (query, plugins, slot) = (&room.query, &mut room.plugins, &mut room.slot);
-    let Ok(ended) = decide(alloc, opt, class, plans, query, side, plugins, slot) else {
+    let Ok(ended) = decide(alloc, beside, plans, &room.query, side, &mut room.walk) else {
         return Served::NoMemory;
     };
-    if !settle(ended, &mut room.slot) {
+    if !settle(ended, &mut room.walk.plugins.slot) {
         return Served::Silent(Silence::Dropped);
     }
     let free = room.take_reply(alloc);
-    let opt_back = opt_reply(upper_code(opt), opt);
-    let parts = reply_message(beside.id, class, opt_back, &room.query, &room.slot);
-    let limit = limit_of(datagram.by, opt);
+    let (class, slot) = (beside.class, &room.walk.plugins.slot);
+    let opt = opt_reply(upper_code(beside.opt), beside.opt);
+    let parts = reply_message(beside.id, class, opt, &room.query, slot);
+    let limit = limit_of(datagram.by, beside.opt);
     match write_whole(alloc, free, &parts, ended, limit) {
         Ok(bytes) => Served::Reply(bytes),
         Err(NoMemory) => Served::NoMemory,
@@ -164,21 +163,19 @@ fn set_code(slot: &mut Slot, rcode: u8)
 // What is decided for a query with this OPT record and class.
 fn decide<'a, S: Side>(
     alloc: Global,
-    opt: Option<Opt>,
-    class: u16,
+    beside: AskedBeside,
     plans: &'a Plans,
     query: &Query,
     side: &mut S,
-    room: &mut PluginRoom,
-    slot: &mut Slot,
+    room: &mut WalkRoom,
 ) -> Result<Ended<'a>, NoMemory>
     ensures { Takes
-        (query_decides opt class plans.now.bundle.files plans.now.blocks query.now)
-        (decided result slot.new) (S.state side.old) (S.state side.new) }
+        (query_decides beside.opt beside.class plans.now.bundle.files plans.now.blocks query.now)
+        (decided result room.new.plugins.slot) (S.state side.old) (S.state side.new) }
 {
-    slot.clear();
-    if is_known_version(opt) {
-        return decide_class(alloc, class, plans, query, side, room, slot);
+    room.plugins.slot.clear();
+    if is_known_version(beside.opt) {
+        return decide_class(alloc, beside.class, plans, query, side, room);
     }
     Ok(Ended::Reply)
 }
@@ -189,18 +186,17 @@ fn decide_class<'a, S: Side>(
     plans: &'a Plans,
     query: &Query,
     side: &mut S,
-    room: &mut PluginRoom,
-    slot: &mut Slot,
+    room: &mut WalkRoom,
 ) -> Result<Ended<'a>, NoMemory>
-    requires clear { slot.old ≡ no_answer }
+    requires clear { room.old.plugins.slot ≡ no_answer }
     ensures { Takes
         (class_decides class plans.now.bundle.files plans.now.blocks query.now)
-        (decided result slot.new) (S.state side.old) (S.state side.new) }
+        (decided result room.new.plugins.slot) (S.state side.old) (S.state side.new) }
 {
     if class == class::IN {
-        return decide_block(alloc, plans, query, side, room, slot);
+        return decide_block(alloc, plans, query, side, room);
     }
-    set_code(slot, rcode::REFUSED);
+    set_code(&mut room.plugins.slot, rcode::REFUSED);
     Ok(Ended::Reply)
 }
 
@@ -209,18 +205,17 @@ fn decide_block<'a, S: Side>(
     plans: &'a Plans,
     query: &Query,
     side: &mut S,
-    room: &mut PluginRoom,
-    slot: &mut Slot,
+    room: &mut WalkRoom,
 ) -> Result<Ended<'a>, NoMemory>
-    requires clear { slot.old ≡ no_answer }
+    requires clear { room.old.plugins.slot ≡ no_answer }
     ensures { Takes
         (block_decides plans.now.bundle.files (block_of plans.now.blocks query.now) query.now)
-        (decided result slot.new) (S.state side.old) (S.state side.new) }
+        (decided result room.new.plugins.slot) (S.state side.old) (S.state side.new) }
 {
     if let Some(steps) = chain_of(plans, query) {
-        return run_chain(alloc, steps, query, side, room, slot);
+        return run_chain(alloc, steps, query, side, room);
     }
-    set_code(slot, rcode::REFUSED);
+    set_code(&mut room.plugins.slot, rcode::REFUSED);
     Ok(Ended::Reply)
 }
 
@@ -243,20 +238,23 @@ fn run_chain<'a, S: Side>(
     chain: &'a BlockChain,
     query: &Query,
     side: &mut S,
-    room: &mut PluginRoom,
-    slot: &mut Slot,
+    room: &mut WalkRoom,
 ) -> Result<Ended<'a>, NoMemory>
-    requires clear { slot.old ≡ no_answer }
+    requires clear { room.old.plugins.slot ≡ no_answer }
     ensures { Takes (chain_decides (steps_in chain.now) query.now)
-        (decided result slot.new) (S.state side.old) (S.state side.new) }
+        (decided result room.new.plugins.slot) (S.state side.old) (S.state side.new) }
 {
     let front = chain.front.as_slice();
     if 0 < front.len() {
-        return run_front(alloc, front, chain, query, side, &mut NoExtras, room, slot);
+        let whole = ChainRest {
+            front,
+            behind: chain,
+        };
+        return run_front(alloc, whole, query, side, &mut NoExtras, room);
     }
     if 0 < chain.rewrites.len() || 0 < chain.back.len() {
-        return run_uncached(alloc, chain, query, side, room, slot);
+        return run_uncached(alloc, chain, query, side, room);
     }
-    set_code(slot, rcode::REFUSED);
+    set_code(&mut room.plugins.slot, rcode::REFUSED);
     Ok(Ended::Reply)
 }

@@ -1,8 +1,8 @@
 -- Which bundles are accepted: the first fault of the Corefile's language, and then, block by block
--- and directive by directive in the order of the text, a name that no plugin has, a second directive
--- of a name that may stand once, and what a directive's reader refuses, the faults of its file last.
--- What becomes of patterns is judged by their maker. This server's own rule.
-use Rattle.std.specs.Prelude.{◌≡◌, ℕ, ◌+◌, nat_eq, Bool, true, false, ◌&&◌, List, [], ◌∷◌, ◌++◌}
+-- and directive by directive in the order of the text, a name that no plugin has, a second
+-- directive of a name that may stand once, and what a directive's reader refuses, the faults of its
+-- file last. What becomes of patterns is judged by their maker. This server's own rule.
+use Rattle.std.specs.Prelude.{◌≡◌, ℕ, ◌+◌, nat_eq, Bool, ◌&&◌, List, [], ◌∷◌, ◌++◌}
 use Rattle.std.specs.Prelude.{length, Option, Some, None, Result, Ok, Err, if◌then◌else◌}
 use Rattle.std.specs.Cmp.Lexicographic.{pointwise}
 use Rattle.std.specs.List.{list_any}
@@ -15,7 +15,7 @@ use Rattle.corefile_blocks.specs.{blocks_of}
 use Rattle.dns_data.specs.declared.file.FileText.{FileText}
 use Rattle.file_plugin.specs.{file_fault}
 use Rattle.file_plugin.specs.declared.fault.FileFault.{FileFault}
-use Rattle.file_plugin.specs.declared.fault.FileFault.TheVariants as broken
+use Rattle.file_plugin.specs.declared.fault.FileFault.TheVariants as file
 use Rattle.acl_plugin.specs.{acl_fault}
 use Rattle.hosts_plugin.specs.{hosts_fault}
 use Rattle.pattern_judging.specs.{IsFault, IsWell, Judgement, Task}
@@ -35,21 +35,6 @@ use Rattle.template_plugin.specs.{template_fault}
 use Rattle.template_plugin.specs.{patterns_of as template_patterns}
 use Rattle.chain_meaning.specs.Steps.{Context, context_of, file_in, file_plans, plan_in}
 
--- the ranks whose plugins are built
-abbrev pub is_built : Rank → Bool
-is_built rank.Passive = true
-is_built rank.Reload = true
-is_built rank.Errors = true
-is_built rank.Log = true
-is_built rank.Acl = true
-is_built rank.Any = true
-is_built rank.Rewrite = true
-is_built rank.Template = true
-is_built rank.Hosts = true
-is_built rank.File = true
-is_built rank.Whoami = true
-is_built other = false
-
 -- whether one of these directives has the name
 abbrev pub stands_in : List Directive → List ℕ → Bool
 stands_in before name = list_any (λ d. pointwise nat_eq d.name name) before
@@ -60,13 +45,11 @@ refused_by (Some (fault.Why line why)) = Some (refusal.Directive line why)
 refused_by (Some (fault.TooMany what number)) = Some (refusal.TooMany what number)
 refused_by (Some fault.NoMemory) = None
 
--- the same of `file`
+-- the same of `file`, whose zone file may be at fault
 abbrev pub refused_by_file : Option FileFault → Option Refusal
 refused_by_file None = None
-refused_by_file (Some (broken.Why line why)) = Some (refusal.Directive line why)
-refused_by_file (Some (broken.Zone line at why)) = Some (refusal.Zone line at why)
-refused_by_file (Some (broken.TooMany what number)) = Some (refusal.TooMany what number)
-refused_by_file (Some broken.NoMemory) = None
+refused_by_file (Some (file.Directive refused)) = refused_by (Some refused)
+refused_by_file (Some (file.Zone line at why)) = Some (refusal.Zone line at why)
 
 -- the patterns in the words of a directive of this rank
 abbrev pub rank_patterns : Option Rank → Directive → List (List ℕ)
@@ -103,13 +86,18 @@ behind_one b d = record {
   context = b.context;
 }
 
--- what the reader of a directive without patterns refuses
+-- what the reader of a directive without patterns refuses. Four ranks have no reader yet, and their
+-- names are unknown.
 abbrev pub fixed_refusal : Rank → Behind → Directive → Option Refusal
 fixed_refusal rank.Acl b d = refused_by (acl_fault d b.context.zones)
 fixed_refusal rank.Hosts b d = refused_by (hosts_fault d b.context.zones)
 fixed_refusal rank.File b d =
     refused_by_file
     (file_fault (file_plans b.context b.before) d b.context.zones (file_in b.context.files d))
+fixed_refusal rank.Dns64 b d = Some (refusal.Unknown d.line)
+fixed_refusal rank.Extra b d = Some (refusal.Unknown d.line)
+fixed_refusal rank.Cache b d = Some (refusal.Unknown d.line)
+fixed_refusal rank.Forward b d = Some (refusal.Unknown d.line)
 fixed_refusal rank b d = refused_by (plain_fault rank d b.context.zones)
 
 -- what the reader of a directive refuses
@@ -129,9 +117,7 @@ read_refusal judgement second rank b d =
 abbrev pub rank_refusal : Judgement → Option Rank → Behind → Directive → Option Refusal
 rank_refusal judgement None b d = Some (refusal.Unknown d.line)
 rank_refusal judgement (Some rank) b d =
-    if is_built rank
-    then read_refusal judgement (is_once rank && stands_in b.before d.name) rank b d
-    else Some (refusal.Unknown d.line)
+    read_refusal judgement (is_once rank && stands_in b.before d.name) rank b d
 
 -- why a directive is refused
 abbrev pub directive_refusal : Judgement → Behind → Directive → Option Refusal
@@ -195,12 +181,19 @@ pub record IsAccepted (default_port : ℕ) (bundle : Bundle) (blocks : List Bloc
   pub read : blocks_of bundle default_port ≡ Ok blocks
   pub well : IsWell (blocks_task 0 bundle.files blocks)
 
--- why what was read of a bundle with these files is refused
-abbrev pub IsRefusedFor : List FileText → Result (List Block) CorefileFault → Refusal → Type 0
-IsRefusedFor files (Ok blocks) why = IsFault told (blocks_task 0 files blocks) why
-IsRefusedFor files (Err fault) why = why ≡ refusal.Corefile fault
+-- why what was read of a bundle with these files is refused, where the maker of patterns refused
+-- this text last
+abbrev pub IsRefusedFor : List FileText → Result (List Block) CorefileFault → Option (List ℕ)
+    → Refusal → Type 0
+IsRefusedFor files (Ok blocks) last why = IsFault told (blocks_task 0 files blocks) last why
+IsRefusedFor files (Err fault) last why = why ≡ refusal.Corefile fault
 
--- why a bundle is refused
+-- why a bundle is refused, where the maker of patterns refused this text last
+abbrev pub IsRefusedWith : ℕ → Bundle → Option (List ℕ) → Refusal → Type 0
+IsRefusedWith default_port bundle last why =
+    IsRefusedFor bundle.files (blocks_of bundle default_port) last why
+
+-- why a bundle is refused, whatever text was refused last
 abbrev pub IsRefused : ℕ → Bundle → Refusal → Type 0
 IsRefused default_port bundle why =
-    IsRefusedFor bundle.files (blocks_of bundle default_port) why
+    (last : Option (List ℕ)) × IsRefusedWith default_port bundle last why

@@ -1,5 +1,5 @@
 -- Laws of what is accepted and refused, for those who read directives one after another.
-use Rattle.std.proofs.Common.{◌≡◌, ◌∙◌, ℕ, ◌+◌, List, [], ◌∷◌, ◌++◌, length, map, refl, sym, ap, subst, append_assoc}
+use Rattle.std.proofs.Common.{◌≡◌, ◌∙◌, ℕ, ◌+◌, List, [], ◌∷◌, ◌++◌, length, map, Option, refl, sym, ap, subst, append_assoc}
 use Rattle.std.proofs.lemmas.List.{map-append}
 use Rattle.dns_data.specs.declared.block.Block.{Block}
 use Rattle.dns_data.specs.declared.directive.Directive.{Directive}
@@ -16,8 +16,8 @@ pub directives-on : (b : Behind) (d : Directive) (ds : List Directive) → IsWel
 directives-on b d ds w = carries-behind told (directive_task b d) (directives_task (behind_one b d) ds) refl w
 
 -- and one that is refused is the refusal of all
-pub directive-refused : (b : Behind) (d : Directive) (ds : List Directive) (why : Refusal) → IsFault told (directive_task b d) why → IsFault told (directives_task b (d ∷ ds)) why
-directive-refused b d ds why h = fault_first told (directive_task b d) (directives_task (behind_one b d) ds) why h
+pub directive-refused : (b : Behind) (d : Directive) (ds : List Directive) (last : Option (List ℕ)) (why : Refusal) → IsFault told (directive_task b d) last why → IsFault told (directives_task b (d ∷ ds)) last why
+directive-refused b d ds last why h = fault_first told (directive_task b d) (directives_task (behind_one b d) ds) last why h
 
 -- the same of blocks
 pub blocks-on : (patterns : ℕ) (files : List FileText) (block : Block) (blocks : List Block) → IsWell (block_task patterns files block)
@@ -25,10 +25,10 @@ pub blocks-on : (patterns : ℕ) (files : List FileText) (block : Block) (blocks
 blocks-on patterns files block blocks w =
     carries-behind told (block_task patterns files block) (blocks_task (patterns + length (patterns_in block.directives)) files blocks) refl w
 
-pub block-refused : (patterns : ℕ) (files : List FileText) (block : Block) (blocks : List Block) (why : Refusal) → IsFault told (block_task patterns files block) why
-    → IsFault told (blocks_task patterns files (block ∷ blocks)) why
-block-refused patterns files block blocks why h =
-    fault_first told (block_task patterns files block) (blocks_task (patterns + length (patterns_in block.directives)) files blocks) why h
+pub block-refused : (patterns : ℕ) (files : List FileText) (block : Block) (blocks : List Block) (last : Option (List ℕ)) (why : Refusal) → IsFault told (block_task patterns files block) last why
+    → IsFault told (blocks_task patterns files (block ∷ blocks)) last why
+block-refused patterns files block blocks last why h =
+    fault_first told (block_task patterns files block) (blocks_task (patterns + length (patterns_in block.directives)) files blocks) last why h
 
 -- behind a block without a fault, what becomes of the others becomes of all
 pub blocks_carried : (patterns next : ℕ) (files : List FileText) (rest : List Block) (block : Block) (behind : List Block) (whole : Task Refusal) → rest ≡ block ∷ behind

@@ -1,12 +1,16 @@
--- Why an answer is SERVFAIL. A decision whose RCODE is SERVFAIL is a code with its cause, or the reply of a template that has `rcode SERVFAIL`: no other step of this server answers so, and the chain of a block has no others.
-use Rattle.std.proofs.Common.{◌≡◌, ◌⊎◌, inl, inr, ℕ, Bool, true, false, List, [], ◌∷◌, Option, Some, None, refl, sym, ap, subst, ◌∙◌, ◌++◌, map, arith, if◌then◌else◌}
+-- Why an answer is SERVFAIL: a decision has that RCODE exactly where the chain has a cause for it. And the steps of a block's chain are this server's own.
+use Rattle.std.proofs.Common.{◌≡◌, ℕ, Bool, true, false, List, [], ◌∷◌, Option, Some, None, refl, sym, subst, ◌∙◌, ◌++◌, arith, if◌then◌else◌}
 use Rattle.std.specs.Cmp.Lexicographic.{pointwise}
-use Rattle.std.specs.Prelude.{◌==◌, cond, nat_eq, option_map}
+use Rattle.std.specs.Prelude.{◌↔◌, ◌==◌, cond, nat_eq, option_map}
+use Rattle.std.proofs.lemmas.Bool.{eqb-true}
 use Rattle.acl_plugin.specs.{acl_say}
 use Rattle.acl_plugin.specs.declared.plan.AclSay.{AclSay}
 use Rattle.acl_plugin.specs.declared.plan.AclSay.TheVariants as acl
 use Rattle.dns_data.specs.Message.{AnswerData}
 use Rattle.dns_data.specs.declared.block.Block.{Block}
+use Rattle.dns_data.specs.declared.class.TheConstants as classes
+use Rattle.dns_wire.specs.declared.asked.Asked.{Asked}
+use Rattle.outside.specs.declared.datagram.Datagram.{Datagram}
 use Rattle.dns_data.specs.declared.directive.Directive.{Directive}
 use Rattle.dns_data.specs.declared.file.FileText.{FileText}
 use Rattle.dns_data.specs.declared.query.Query.{Query}
@@ -38,54 +42,16 @@ use Rattle.rewrite_plugin.specs.Rewrite.{restored_by, written_at}
 use Rattle.rewrite_plugin.specs.declared.plan_data.Changed.{Changed}
 use Rattle.rewrite_plugin.specs.declared.steps.Step.{Step as Applied}
 use Rattle.rewrite_plugin.specs.declared.rule.Rule.TheVariants as kind
-use Rattle.plugin_api.specs.declared.verdict.Cause.{Cause}
-use Rattle.plugin_api.specs.declared.verdict.Code.TheVariants as code
 use Rattle.template_plugin.specs.{template_say}
 use Rattle.template_plugin.specs.{Said as TemplateSaid}
 use Rattle.template_plugin.specs.Template as template
 use Rattle.chain_meaning.specs.declared.decision.Decision.{Decision}
 use Rattle.chain_meaning.specs.declared.decision.Decision.TheVariants as decision
-use Rattle.chain_meaning.specs.Mean.{acl_answer, answer_of, any_answer, error_noted, hosts_answer, mean, number, or_rest, outcome_of, query_noted, reply_restored, restored_in, rule, take_note, template_answer}
+use Rattle.chain_meaning.specs.Causes.{AskedCause, HasCause, IsServFail, answer_cause, block_cause, chain_cause, hosts_cause, others_cause, rest_alone, template_cause}
+use Rattle.chain_meaning.specs.Serving.{asked_decides, block_decides, block_of, chain_decides, class_decides, is_known_version, query_of, refused}
+use Rattle.chain_meaning.specs.Mean.{acl_answer, answer_of, any_answer, error_noted, hosts_answer, mean, nothing, or_rest, outcome_of, query_noted, reply_restored, restored_in, rule, take_note, template_answer}
 use Rattle.chain_meaning.specs.Steps.{Answerer, Acl, Any, Template, Hosts, File, Whoami, Step, Errors, Log, Rewrite, Answers, Others}
-use Rattle.chain_meaning.specs.Steps.{acl_steps, any_steps, back_steps, context_of, error_steps, file_plans, file_steps, front_steps, hosts_plans, hosts_step, hosts_steps, key_zones, log_steps, plans_of, rewrite_steps, some_has, steps_of, template_steps, whoami_steps}
-
--- the step is one of these
-abbrev pub IsAmong : Step → List Step → Type 0
-IsAmong step [] = ⊥
-IsAmong step (other ∷ steps) = (other ≡ step) ⊎ IsAmong step steps
-
--- no step is one of plugins of others
-abbrev pub IsOwn : Step → Type 0
-IsOwn (Others says) = ⊥
-IsOwn Errors = Unit {0}
-IsOwn (Log plan) = Unit {0}
-IsOwn (Rewrite ds) = Unit {0}
-IsOwn (Answers plugin) = Unit {0}
-
-abbrev pub AreOwn : List Step → Type 0
-AreOwn [] = Unit {0}
-AreOwn (step ∷ steps) = IsOwn step × AreOwn steps
-
--- the RCODE of a decision is SERVFAIL
-abbrev pub IsServFail : Decision → Type 0
-IsServFail (decision.Reply a) = a.rcode ≡ rcodes.SERVFAIL
-IsServFail (decision.Code c cause) = number c ≡ rcodes.SERVFAIL
-IsServFail decision.Drop = ⊥
-
--- templates of a step answer a query with SERVFAIL, since one of them has `rcode SERVFAIL`
-pub record TemplateFails (steps : List Step) : Type 0 where
-  pub plans : List PlanData
-  pub stand : IsAmong (Answers (Template plans)) steps
-  pub query : Query
-  pub answer : AnswerData
-  pub said : template_say plans query ≡ template.reply answer
-  pub fails : answer.rcode ≡ rcodes.SERVFAIL
-
--- the cause of a decision that is SERVFAIL: that of its code, or templates
-abbrev pub HasCause : List Step → Decision → Type 0
-HasCause steps (decision.Reply a) = TemplateFails steps
-HasCause steps (decision.Code c cause) = c ≡ code.ServFail
-HasCause steps decision.Drop = ⊥
+use Rattle.chain_meaning.specs.Steps.{acl_steps, back_steps, context_of, file_plans, file_steps, front_steps, hosts_plans, hosts_steps, key_zones, log_steps, plans_of, rewrite_steps, some_has, steps_of, template_steps}
 
 -- what a meaning decides, where it decides
 abbrev Gives : {A : Type 0} → (A → Type 0) → Meaning A → Type 0
@@ -99,19 +65,18 @@ gives_onward P Q (Done v left) next p go = go v p left
 gives_onward P Q More next p go = tt
 gives_onward P Q Off next p go = tt
 
--- whatever stands behind it, a decision has a cause where it is SERVFAIL
-abbrev IsCaused : List Step → Decision → Type 0
-IsCaused steps v = IsServFail v → HasCause steps v
+gives_as : (P Q : Decision → Type 0) → ((v : Decision) → P v → Q v) → (x : Meaning Decision) → Gives P x → Gives Q x
+gives_as P Q go (Done v left) p = go v p
+gives_as P Q go More p = tt
+gives_as P Q go Off p = tt
 
-more_steps : (step : Step) (steps : List Step) (v : Decision) → IsCaused steps v → IsCaused (step ∷ steps) v
-more_steps step steps (decision.Reply a) is fails = let t = is fails in record { plans = t.plans; stand = inr t.stand; query = t.query; answer = t.answer; said = t.said; fails = t.fails }
-more_steps step steps (decision.Code c cause) is fails = is fails
-more_steps step steps decision.Drop is fails = is fails
+gives_if : (P : Decision → Type 0) (t : Bool) (x y : Meaning Decision) → (t ≡ true → Gives P x) → Gives P y → Gives P (if t then x else y)
+gives_if P true x y p q = p refl
+gives_if P false x y p q = q
 
-gives_more : (step : Step) (steps : List Step) (x : Meaning Decision) → Gives (IsCaused steps) x → Gives (IsCaused (step ∷ steps)) x
-gives_more step steps (Done v left) is = more_steps step steps v is
-gives_more step steps More is = tt
-gives_more step steps Off is = tt
+-- a decision has a cause where it is SERVFAIL
+abbrev IsCaused : List Step → Query → Decision → Type 0
+IsCaused steps q v = IsServFail v → HasCause steps q v
 
 if_same : (P : Decision → Type 0) (t : Bool) (v : Decision) (left : List Mark) → P v → Gives P (if t then Done v left else Off)
 if_same P true v left p = p
@@ -159,25 +124,39 @@ restored_rcode : (ds : List Directive) (steps : List Applied) (a : AnswerData) �
 restored_rcode ds [] a = refl
 restored_rcode ds (step ∷ steps) a = restored_rcode ds steps (restored_by (written_at ds step.rule) step a) ∙ by_rcode (written_at ds step.rule) step a
 
-rewrites_give : (ds : List Directive) (changed : Changed) (steps : List Step) (v : Decision) → IsCaused steps v → IsCaused steps (restored_in ds changed v)
-rewrites_give ds changed steps (decision.Reply a) is fails = is (sym (restored_rcode ds changed.steps a) ∙ fails)
-rewrites_give ds changed steps (decision.Code c cause) is fails = is fails
-rewrites_give ds changed steps decision.Drop is fails = is fails
+restored_fails : (ds : List Directive) (changed : Changed) (v : Decision) → IsServFail v → IsServFail (restored_in ds changed v)
+restored_fails ds changed (decision.Reply a) fails = restored_rcode ds changed.steps a ∙ fails
+restored_fails ds changed (decision.Code c cause) fails = fails
+restored_fails ds changed decision.Drop fails = fails
 
--- an answer of a plugin has a cause where it is SERVFAIL
-abbrev Answered : List Step → Option Decision → Type 0
-Answered steps None = Unit {0}
-Answered steps (Some v) = IsCaused steps v
+unrestored_fails : (ds : List Directive) (changed : Changed) (v : Decision) → IsServFail (restored_in ds changed v) → IsServFail v
+unrestored_fails ds changed (decision.Reply a) fails = sym (restored_rcode ds changed.steps a) ∙ fails
+unrestored_fails ds changed (decision.Code c cause) fails = fails
+unrestored_fails ds changed decision.Drop fails = fails
 
-acl_answered : (steps : List Step) (said : AclSay) → Answered steps (acl_answer said)
-acl_answered steps acl.GoOn = tt
-acl_answered steps acl.Block = λ fails. absurd (omega (arith, fails))
-acl_answered steps acl.Filter = λ fails. absurd (omega (arith, fails))
-acl_answered steps acl.Drop = λ fails. absurd fails
+-- what a plugin answers has its cause where it is SERVFAIL, and where it goes on the rest's is the cause
+abbrev Answered : (Type 0 → Decision → Type 0) → (Decision → Type 0) → Option Decision → Type 0
+Answered cause rest None = (v : Decision) → rest v → cause (rest v) v
+Answered cause rest (Some v) = IsServFail v → cause (rest v) v
 
-if_answered : (steps : List Step) (t : Bool) (v : Decision) → IsCaused steps v → Answered steps (if t then Some v else None)
-if_answered steps true v is = is
-if_answered steps false v is = tt
+-- a plugin that never answers with SERVFAIL
+abbrev NeverFails : Option Decision → Type 0
+NeverFails None = Unit {0}
+NeverFails (Some v) = IsServFail v → ⊥
+
+alone_answered : (rest : Decision → Type 0) (o : Option Decision) → NeverFails o → Answered (rest_alone o) rest o
+alone_answered rest None never = λ v h. h
+alone_answered rest (Some v) never = never
+
+acl_never : (said : AclSay) → NeverFails (acl_answer said)
+acl_never acl.GoOn = tt
+acl_never acl.Block = λ fails. absurd (omega (arith, fails))
+acl_never acl.Filter = λ fails. absurd (omega (arith, fails))
+acl_never acl.Drop = λ fails. fails
+
+if_never : (t : Bool) (v : Decision) → (IsServFail v → ⊥) → NeverFails (if t then Some v else None)
+if_never true v never = never
+if_never false v never = tt
 
 -- hosts answers with NOERROR
 abbrev IsWell : HostsSaid → Type 0
@@ -204,10 +183,10 @@ hosts_well plan q =
     let names = if_well (is_in q.name (plan_zones plan)) (name_say plan q) hosts.next (names_well plan q (listed_for q.name (plan_listings plan))) tt in
     if_well (q.kind == kinds.PTR) (address_say plan q) (if is_in q.name (plan_zones plan) then name_say plan q else hosts.next) pointers names
 
-hosts_answered : (steps : List Step) (said : HostsSaid) → IsWell said → Answered steps (hosts_answer said)
-hosts_answered steps (hosts.reply a) well = λ fails. absurd (omega (arith, fails, well))
-hosts_answered steps hosts.next well = tt
-hosts_answered steps hosts.unknown well = λ fails. refl
+hosts_answered : (rest : Decision → Type 0) (said : HostsSaid) → IsWell said → Answered (hosts_cause said) rest (hosts_answer said)
+hosts_answered rest (hosts.reply a) well = λ fails. absurd (omega (arith, fails, well))
+hosts_answered rest hosts.next well = λ v h. h
+hosts_answered rest hosts.unknown well = λ fails. refl
 
 -- a zone answers with NOERROR or NXDOMAIN
 absent_well : (absent : Bool) → cond absent rcodes.NXDOMAIN rcodes.NOERROR ≡ rcodes.SERVFAIL → ⊥
@@ -223,61 +202,146 @@ zone_well : (zone : Zone) (name : List (List ℕ)) (kind : ℕ) → (zone_answer
 unfolding zone_answer
 zone_well zone name kind fails = under_well zone name kind (cut_of zone name) fails
 
-from_zone : (steps : List Step) (q : Query) (zone : Option Zone) → Answered steps (option_map decision.Reply (answer_from q zone))
-from_zone steps q None = tt
-from_zone steps q (Some zone) = λ fails. absurd (zone_well zone q.name q.kind fails)
+zone_never : (q : Query) (zone : Option Zone) → NeverFails (option_map decision.Reply (answer_from q zone))
+zone_never q None = tt
+zone_never q (Some zone) = λ fails. zone_well zone q.name q.kind fails
 
-file_answered : (steps : List Step) (plans : List FileData) (q : Query) → Answered steps (option_map decision.Reply (file_say plans q))
+file_never : (plans : List FileData) (q : Query) → NeverFails (option_map decision.Reply (file_say plans q))
 unfolding file_say
-file_answered steps plans q = from_zone steps q (longest_of q.name None plans)
+file_never plans q = zone_never q (longest_of q.name None plans)
 
 -- templates fail by their `rcode`, or with a cause
-templates_answered : (plans : List PlanData) (rest : List Step) (q : Query) (said : TemplateSaid) → template_say plans q ≡ said
-    → Answered (Answers (Template plans) ∷ rest) (template_answer said)
-templates_answered plans rest q (template.reply a) is = λ fails. record { plans = plans; stand = inl refl; query = q; answer = a; said = is; fails = fails }
-templates_answered plans rest q template.next is = tt
-templates_answered plans rest q template.no_match is = λ fails. refl
-templates_answered plans rest q template.not_record is = λ fails. refl
+template_answered : (rest : Decision → Type 0) (said : TemplateSaid) → Answered (template_cause said) rest (template_answer said)
+template_answered rest (template.reply a) = λ fails. (refl, fails)
+template_answered rest template.next = λ v h. h
+template_answered rest template.no_match = λ fails. refl
+template_answered rest template.not_record = λ fails. refl
 
-answers_give : (plugin : Answerer) (rest : List Step) (q : Query) (marks : List Mark) → Gives (Answered (Answers plugin ∷ rest)) (answer_of plugin q marks)
+others_answered : (rest : Decision → Type 0) (o : Option Decision) → Answered (others_cause o) rest o
+others_answered rest None = λ v h. h
+others_answered rest (Some v) = λ fails. (refl, fails)
+
+answers_give : (plugin : Answerer) (rest : Decision → Type 0) (q : Query) (marks : List Mark) → Gives (Answered (answer_cause plugin q) rest) (answer_of plugin q marks)
 unfolding answer_of any_of whoami_of
-answers_give (Acl plans) rest q marks = acl_answered (Answers (Acl plans) ∷ rest) (acl_say plans q)
-answers_give Any rest q marks = if_answered (Answers Any ∷ rest) (is_any q) (decision.Reply (any_of q)) (λ fails. absurd (omega (arith, fails)))
-answers_give (Template plans) rest q marks = templates_answered plans rest q (template_say plans q) refl
-answers_give (Hosts plan) rest q marks = hosts_answered (Answers (Hosts plan) ∷ rest) (hosts_say plan q) (hosts_well plan q)
-answers_give (File plans) rest q marks = file_answered (Answers (File plans) ∷ rest) plans q
+answers_give (Acl plans) rest q marks = alone_answered rest (acl_answer (acl_say plans q)) (acl_never (acl_say plans q))
+answers_give Any rest q marks = alone_answered rest (any_answer q) (if_never (is_any q) (decision.Reply (any_of q)) (λ fails. absurd (omega (arith, fails))))
+answers_give (Template plans) rest q marks = template_answered rest (template_say plans q)
+answers_give (Hosts plan) rest q marks = hosts_answered rest (hosts_say plan q) (hosts_well plan q)
+answers_give (File plans) rest q marks = alone_answered rest (option_map decision.Reply (file_say plans q)) (file_never plans q)
 answers_give Whoami rest q marks = λ fails. absurd (omega (arith, fails))
 
 -- where a plugin goes on, the rest decides
-rest_gives : (plugin : Answerer) (steps : List Step) (rest : Query → List Mark → Meaning Decision) (q : Query) → ((marks : List Mark) → Gives (IsCaused steps) (rest q marks))
-    → (o : Option Decision) → Answered (Answers plugin ∷ steps) o → (left : List Mark) → Gives (IsCaused (Answers plugin ∷ steps)) (or_rest rest q o left)
-rest_gives plugin steps rest q gives (Some v) is left = is
-rest_gives plugin steps rest q gives None is left = gives_more (Answers plugin) steps (rest q left) (gives left)
+rest_gives : (cause : Type 0 → Decision → Type 0) (below : Decision → Type 0) (rest : Query → List Mark → Meaning Decision) (q : Query) → ((marks : List Mark) → Gives (λ v. IsServFail v → below v) (rest q marks))
+    → (o : Option Decision) → Answered cause below o → (left : List Mark) → Gives (λ v. IsServFail v → cause (below v) v) (or_rest rest q o left)
+rest_gives cause below rest q gives (Some v) is left = is
+rest_gives cause below rest q gives None is left = gives_as (λ v. IsServFail v → below v) (λ v. IsServFail v → cause (below v) v) (λ v h fails. is v (h fails)) (rest q left) (gives left)
 
-rule_gives : (step : Step) (steps : List Step) (rest : Query → List Mark → Meaning Decision) → IsOwn step → ((q : Query) (marks : List Mark) → Gives (IsCaused steps) (rest q marks))
-    → (q : Query) (marks : List Mark) → Gives (IsCaused (step ∷ steps)) (rule step rest q marks)
+rule_gives : (step : Step) (steps : List Step) (rest : Query → List Mark → Meaning Decision) → ((q : Query) (marks : List Mark) → Gives (IsCaused steps q) (rest q marks)) → (q : Query) (marks : List Mark)
+    → Gives (IsCaused (step ∷ steps) q) (rule step rest q marks)
 unfolding rule
-rule_gives Errors steps rest own gives q marks =
-    gives_onward (IsCaused (Errors ∷ steps)) (IsCaused (Errors ∷ steps)) (rest q marks) (error_noted q) (gives_more Errors steps (rest q marks) (gives q marks)) (errors_give (IsCaused (Errors ∷ steps)) q)
-rule_gives (Log plan) steps rest own gives q marks =
-    gives_onward (IsCaused (Log plan ∷ steps)) (IsCaused (Log plan ∷ steps)) (rest q marks) (query_noted plan q) (gives_more (Log plan) steps (rest q marks) (gives q marks))
-    (λ v is left. if_noted (IsCaused (Log plan ∷ steps)) (is_in q.name (plain_zones plan)) (log_line q (outcome_of v)) v is left)
-rule_gives (Rewrite ds) steps rest own gives q marks =
+rule_gives Errors steps rest gives q marks = gives_onward (IsCaused steps q) (IsCaused (Errors ∷ steps) q) (rest q marks) (error_noted q) (gives q marks) (errors_give (IsCaused (Errors ∷ steps) q) q)
+rule_gives (Log plan) steps rest gives q marks =
+    gives_onward (IsCaused steps q) (IsCaused (Log plan ∷ steps) q) (rest q marks) (query_noted plan q) (gives q marks)
+    (λ v is left. if_noted (IsCaused (Log plan ∷ steps) q) (is_in q.name (plain_zones plan)) (log_line q (outcome_of v)) v is left)
+rule_gives (Rewrite ds) steps rest gives q marks =
     let changed = changed_by ds q in
-    gives_onward (IsCaused (Rewrite ds ∷ steps)) (IsCaused (Rewrite ds ∷ steps)) (rest changed.query marks) (reply_restored ds changed)
-    (gives_more (Rewrite ds) steps (rest changed.query marks) (gives changed.query marks)) (λ v is left. rewrites_give ds changed (Rewrite ds ∷ steps) v is)
-rule_gives (Answers plugin) steps rest own gives q marks =
-    gives_onward (Answered (Answers plugin ∷ steps)) (IsCaused (Answers plugin ∷ steps)) (answer_of plugin q marks) (or_rest rest q) (answers_give plugin steps q marks) (rest_gives plugin steps rest q (gives q))
-rule_gives (Others says) steps rest own gives q marks = absurd own
+    gives_onward (IsCaused steps changed.query) (IsCaused (Rewrite ds ∷ steps) q) (rest changed.query marks) (reply_restored ds changed) (gives changed.query marks)
+    (λ v is left fails. record { rest = v; cause = is (unrestored_fails ds changed v fails); is = refl })
+rule_gives (Answers plugin) steps rest gives q marks =
+    gives_onward (Answered (answer_cause plugin q) (HasCause steps q)) (IsCaused (Answers plugin ∷ steps) q) (answer_of plugin q marks) (or_rest rest q) (answers_give plugin (HasCause steps q) q marks)
+    (rest_gives (answer_cause plugin q) (HasCause steps q) rest q (gives q))
+rule_gives (Others says) steps rest gives q marks = rest_gives (others_cause (says q)) (HasCause steps q) rest q (gives q) (says q) (others_answered (HasCause steps q) (says q)) marks
 
-mean_gives : (steps : List Step) → AreOwn steps → (q : Query) (marks : List Mark) → Gives (IsCaused steps) (mean steps q marks)
+mean_gives : (steps : List Step) (q : Query) (marks : List Mark) → Gives (IsCaused steps q) (mean steps q marks)
 unfolding mean
-mean_gives [] own q marks = λ fails. refl
-mean_gives (step ∷ steps) own q marks = rule_gives step steps (mean steps) own.0 (mean_gives steps own.1) q marks
+mean_gives [] q marks = λ fails. refl
+mean_gives (step ∷ steps) q marks = rule_gives step steps (mean steps) (mean_gives steps) q marks
 
--- each SERVFAIL of a chain of this server's own steps has a cause
-pub own_servfail_has_cause : (steps : List Step) → AreOwn steps → (q : Query) (marks left : List Mark) (v : Decision) → mean steps q marks ≡ Done v left → IsServFail v → HasCause steps v
-own_servfail_has_cause steps own q marks left v is = subst (Gives (IsCaused steps)) is (mean_gives steps own q marks)
+-- and a decision that has a cause is SERVFAIL
+alone_fails : (o : Option Decision) (rest : Type 0) (v : Decision) → (rest → IsServFail v) → rest_alone o rest v → IsServFail v
+alone_fails None rest v fails h = fails h
+alone_fails (Some answer) rest v fails h = absurd h
+
+template_fails : (said : TemplateSaid) (rest : Type 0) (v : Decision) → (rest → IsServFail v) → template_cause said rest v → IsServFail v
+template_fails (template.reply a) rest v fails h = subst IsServFail (sym h.0) h.1
+template_fails template.next rest v fails h = fails h
+template_fails template.no_match rest v fails h = subst IsServFail (sym h) refl
+template_fails template.not_record rest v fails h = subst IsServFail (sym h) refl
+
+hosts_fails : (said : HostsSaid) (rest : Type 0) (v : Decision) → (rest → IsServFail v) → hosts_cause said rest v → IsServFail v
+hosts_fails (hosts.reply a) rest v fails h = absurd h
+hosts_fails hosts.next rest v fails h = fails h
+hosts_fails hosts.unknown rest v fails h = subst IsServFail (sym h) refl
+
+others_fails : (o : Option Decision) (rest : Type 0) (v : Decision) → (rest → IsServFail v) → others_cause o rest v → IsServFail v
+others_fails None rest v fails h = fails h
+others_fails (Some answer) rest v fails h = subst IsServFail (sym h.0) h.1
+
+answer_fails : (plugin : Answerer) (q : Query) (rest : Type 0) (v : Decision) → (rest → IsServFail v) → answer_cause plugin q rest v → IsServFail v
+answer_fails (Acl plans) q rest v fails h = alone_fails (acl_answer (acl_say plans q)) rest v fails h
+answer_fails Any q rest v fails h = alone_fails (any_answer q) rest v fails h
+answer_fails (Template plans) q rest v fails h = template_fails (template_say plans q) rest v fails h
+answer_fails (Hosts plan) q rest v fails h = hosts_fails (hosts_say plan q) rest v fails h
+answer_fails (File plans) q rest v fails h = alone_fails (option_map decision.Reply (file_say plans q)) rest v fails h
+answer_fails Whoami q rest v fails h = absurd h
+
+cause_fails : (steps : List Step) (q : Query) (v : Decision) → HasCause steps q v → IsServFail v
+cause_fails [] q v h = subst IsServFail (sym h) refl
+cause_fails (Errors ∷ steps) q v h = cause_fails steps q v h
+cause_fails (Log plan ∷ steps) q v h = cause_fails steps q v h
+cause_fails (Rewrite ds ∷ steps) q v h = subst IsServFail (sym h.is) (restored_fails ds (changed_by ds q) h.rest (cause_fails steps (changed_by ds q).query h.rest h.cause))
+cause_fails (Answers plugin ∷ steps) q v h = answer_fails plugin q (HasCause steps q v) v (cause_fails steps q v) h
+cause_fails (Others says ∷ steps) q v h = others_fails (says q) (HasCause steps q v) v (cause_fails steps q v) h
+
+-- a decision of a chain is SERVFAIL exactly where the chain has a cause for it
+pub servfail_cause : (steps : List Step) (q : Query) (marks left : List Mark) (v : Decision) → mean steps q marks ≡ Done v left → IsServFail v ↔ HasCause steps q v
+servfail_cause steps q marks left v is = (subst (Gives (IsCaused steps q)) is (mean_gives steps q marks), cause_fails steps q v)
+
+-- and so is one for what a datagram asks
+chain_gives : (steps : List Step) (q : Query) (marks : List Mark) → Gives (λ v. IsServFail v → chain_cause steps q v) (chain_decides steps q marks)
+chain_gives [] q marks = λ fails. absurd (omega (arith, fails))
+chain_gives (step ∷ steps) q marks = mean_gives (step ∷ steps) q marks
+
+block_gives : (files : List FileText) (block : Option Block) (q : Query) (marks : List Mark) → Gives (λ v. IsServFail v → block_cause files block q v) (block_decides files block q marks)
+block_gives files None q marks = λ fails. absurd (omega (arith, fails))
+block_gives files (Some block) q marks = chain_gives (steps_of files block) q marks
+
+asked_gives : (files : List FileText) (blocks : List Block) (d : Datagram) (asked : Asked) (marks : List Mark) → Gives (λ v. IsServFail v → AskedCause files blocks d asked v) (asked_decides files blocks d asked marks)
+asked_gives files blocks d asked marks =
+    let q = query_of d asked in
+    let class = asked.question.class in
+    let P : Decision → Type 0 = λ v. IsServFail v → AskedCause files blocks d asked v in
+    gives_if P (is_known_version asked.opt) (class_decides class files blocks q marks) (Done (decision.Reply (nothing rcodes.NOERROR)) marks)
+    (λ known. gives_if P (nat_eq class classes.IN) (block_decides files (block_of blocks q) q marks) (Done refused marks)
+    (λ own. gives_as (λ v. IsServFail v → block_cause files (block_of blocks q) q v) P (λ v h fails. record { version = known; class = eqb-true class classes.IN own; cause = h fails })
+    (block_decides files (block_of blocks q) q marks) (block_gives files (block_of blocks q) q marks))
+    (λ fails. absurd (omega (arith, fails))))
+    (λ fails. absurd (omega (arith, fails)))
+
+chain_fails : (steps : List Step) (q : Query) (v : Decision) → chain_cause steps q v → IsServFail v
+chain_fails [] q v h = absurd h
+chain_fails (step ∷ steps) q v h = cause_fails (step ∷ steps) q v h
+
+block_fails : (files : List FileText) (block : Option Block) (q : Query) (v : Decision) → block_cause files block q v → IsServFail v
+block_fails files None q v h = absurd h
+block_fails files (Some block) q v h = chain_fails (steps_of files block) q v h
+
+pub asked_cause : (files : List FileText) (blocks : List Block) (d : Datagram) (asked : Asked) (marks left : List Mark) (v : Decision) → asked_decides files blocks d asked marks ≡ Done v left
+    → IsServFail v ↔ AskedCause files blocks d asked v
+asked_cause files blocks d asked marks left v is =
+    (subst (Gives (λ v. IsServFail v → AskedCause files blocks d asked v)) is (asked_gives files blocks d asked marks), λ h. block_fails files (block_of blocks (query_of d asked)) (query_of d asked) v h.cause)
+
+-- no step is one of plugins of others
+abbrev pub IsOwn : Step → Type 0
+IsOwn (Others says) = ⊥
+IsOwn Errors = Unit {0}
+IsOwn (Log plan) = Unit {0}
+IsOwn (Rewrite ds) = Unit {0}
+IsOwn (Answers plugin) = Unit {0}
+
+abbrev pub AreOwn : List Step → Type 0
+AreOwn [] = Unit {0}
+AreOwn (step ∷ steps) = IsOwn step × AreOwn steps
 
 own_append : (front back : List Step) → AreOwn front → AreOwn back → AreOwn (front ++ back)
 own_append [] back p q = q
@@ -328,8 +392,3 @@ own_steps files block =
     (own_append _ _ (own_hosts (hosts_plans context ds))
     (own_append _ _ (own_files (file_plans context ds))
     (own_if (some_has rank.Whoami ds) (Answers Whoami ∷ []) (tt, tt))))))
-
--- each SERVFAIL of a block's chain has a cause
-pub servfail_has_cause : (files : List FileText) (block : Block) (q : Query) (marks left : List Mark) (v : Decision) → mean (steps_of files block) q marks ≡ Done v left → IsServFail v
-    → HasCause (steps_of files block) v
-servfail_has_cause files block q marks left v is = own_servfail_has_cause (steps_of files block) (own_steps files block) q marks left v is

@@ -2,12 +2,14 @@ pub mod RefusalTexts
 pub mod Steps
 pub mod Mean
 pub mod MeanLaws
-pub mod CauseLaws
 pub mod Accepting
 pub mod AcceptingLaws
 pub mod Serving
+pub mod Causes
+pub mod CauseLaws
 -- what public clauses cite
-pub use Rattle.chain_meaning.specs.Accepting.{IsAccepted, IsRefused}
+pub use Rattle.chain_meaning.specs.Accepting.{IsAccepted, IsRefused, IsRefusedWith}
+pub use Rattle.chain_meaning.specs.Causes.{AskedCause, HasCause, IsServFail}
 pub use Rattle.chain_meaning.specs.Mean.{mean, nothing, number, outcome_of}
 pub use Rattle.chain_meaning.specs.RefusalTexts.{refusal_text}
 pub use Rattle.chain_meaning.specs.Serving.{Serves}

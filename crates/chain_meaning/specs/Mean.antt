@@ -1,5 +1,6 @@
--- What a list of steps means for a query and the marks of a side. Each step is a rule over the rest,
--- which is the meaning of the steps behind it. This server's own rule, in the manner of CoreDNS.
+-- What a list of steps means for a query and the marks of a side. Each step is a rule over the
+-- rest, which is the meaning of the steps behind it. This server's own rule, in the manner of
+-- CoreDNS.
 use Rattle.std.specs.Prelude.{ℕ, nat_eq, false, List, [], ◌∷◌, Option, Some, None}
 use Rattle.std.specs.Prelude.{option_map, if◌then◌else◌}
 use Rattle.std.specs.Cmp.Lexicographic.{pointwise}

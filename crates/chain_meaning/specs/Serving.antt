@@ -202,8 +202,8 @@ pub record AnswersFormErr (d : Datagram) (reply : List ℕ) : Type 0 where
   pub asks : IsMalformed d.bytes head
   pub bytes : reply ≡ header_reply head.id opcodes.QUERY head.rd rcodes.FORMERR
 
--- what a datagram means, and what its meaning takes of the marks. For want of memory the marks end too
--- early, or none is left.
+-- what a datagram means, and what its meaning takes of the marks. For want of memory the marks end
+-- too early, or none is left.
 abbrev pub Serves : Bundle → ℕ → Datagram → List Mark → Served → Type 0
 Serves bundle default_port d marks (Reply reply) =
     Decides bundle default_port d marks (Replies d reply)

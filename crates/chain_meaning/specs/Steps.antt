@@ -1,6 +1,6 @@
--- The chain of a block: a list of steps, each with what its plugin reads, directives and the zones of
--- the block's keys, and for `hosts` and `file` the file. All `acl` directives are one step, and so
--- are all those of `rewrite`, of `template` and of `file`.
+-- The chain of a block: a list of steps, each with what its plugin reads, directives and the zones
+-- of the block's keys, and for `hosts` and `file` the file. All `acl` directives are one step, and
+-- so are all those of `rewrite`, of `template` and of `file`.
 use Rattle.std.specs.Prelude.{ℕ, nat_eq, Bool, false, List, [], ◌∷◌, ◌++◌, map, Option, Some}
 use Rattle.std.specs.Prelude.{None, if◌then◌else◌}
 use Rattle.std.specs.List.{filter, list_any}
@@ -9,7 +9,7 @@ use Rattle.dns_data.specs.declared.directive.Directive.{Directive}
 use Rattle.dns_data.specs.declared.file.FileText.{FileText}
 use Rattle.dns_data.specs.declared.query.Query.{Query}
 use Rattle.corefile_blocks.specs.Blocks.{file_of}
-use Rattle.corefile_blocks.specs.WantedFiles.{hosts_default}
+use Rattle.corefile_blocks.specs.WantedFiles.{file_word, hosts_word}
 use Rattle.file_plugin.specs.{FileData}
 use Rattle.file_plugin.specs.Reading.{data_of}
 use Rattle.hosts_plugin.specs.{HostsData}
@@ -73,19 +73,9 @@ plan_in zones d = record { directive = d; zones = zones }
 abbrev pub plans_of : Rank → List (List (List ℕ)) → List Directive → List PlanData
 plans_of rank zones directives = map (plan_in zones) (filter (has_rank rank) directives)
 
--- the file that the words of a directive name
-abbrev pub file_word : List (List ℕ) → List ℕ
-file_word [] = []
-file_word (file ∷ words) = file
-
--- what that file has, where it isn't missing
+-- what the file of a `file` directive has, where it isn't missing
 abbrev pub file_in : List FileText → Directive → Option (List ℕ)
 file_in files d = file_of (file_word d.args) files
-
--- the file that the words of `hosts` name, or else /etc/hosts
-abbrev pub hosts_word : List (List ℕ) → List ℕ
-hosts_word [] = hosts_default
-hosts_word (file ∷ words) = file
 
 -- what the plan of a `hosts` directive reads: its file, where it isn't missing
 abbrev pub hosts_plan : Context → Directive → HostsData

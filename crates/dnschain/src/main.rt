@@ -1,5 +1,6 @@
 //! The program: `dnschain serve --conf FILE [--port N] [--workers N] [--queries N]`, over the
-//! sockets, files and streams of the system. It ends with a number that says how the run ended: README.md.
+//! sockets, files and streams of the system. It ends with a number that says how the run ended:
+//! README.md.
 #![tactic(auto)]
 
 mod endpoint;

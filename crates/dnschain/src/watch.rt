@@ -66,6 +66,8 @@ impl<R: Wait + Files + Clock + RandomSource + Eprint + Drop> PatternMaker for Fi
       refusals = w.maker.refused;
     } };
 
+    ghost last = { λ w. w.maker.last };
+
     fn make(&mut self, alloc: Global, text: &Text) -> Made {
         self.maker.make(alloc, text)
     }

@@ -9,6 +9,7 @@ use Rattle.dns_data.specs.declared.directive.Line.{Line}
 use Rattle.dns_data.specs.declared.limit.Limit.TheVariants as limit
 use Rattle.dns_data.specs.declared.limit.TheConstants as limits
 use Rattle.dns_data.specs.declared.zone.Zone.{Zone}
+use Rattle.plugin_api.specs.declared.fault.DirectiveFault.TheVariants as directive
 use Rattle.plugin_api.specs.declared.fault.DirectiveWhy.{DirectiveWhy}
 use Rattle.plugin_api.specs.declared.fault.DirectiveWhy.TheVariants as why
 use Rattle.zone_file.specs.declared.fault.ZoneFault.{ZoneFault}
@@ -43,8 +44,9 @@ double_why before origins = if some_has before origins then Some why.DoubleZone 
 -- the fault of a zone file, told at the line of the directive
 abbrev pub told_at : ℕ → ZoneFault → FileFault
 told_at line (zone_fault.Bad at why) = fault.Zone line at why
-told_at line zone_fault.TooMany = fault.TooMany limit.ZoneRecords (limits.ZONE_RECORDS + 1)
-told_at line zone_fault.NoMemory = fault.NoMemory
+told_at line zone_fault.TooMany =
+    fault.Directive (directive.TooMany limit.ZoneRecords (limits.ZONE_RECORDS + 1))
+told_at line zone_fault.NoMemory = fault.Directive directive.NoMemory
 
 abbrev pub refusal_in : {A : Type 0} → ℕ → Result A ZoneFault → Option FileFault
 refusal_in line (Ok zones) = None
@@ -52,12 +54,12 @@ refusal_in line (Err refused) = Some (told_at line refused)
 
 -- the fault of a file: it is missing, or refused for the first of these origins that refuses it
 abbrev pub text_fault : ℕ → List (List (List ℕ)) → Option (List ℕ) → Option FileFault
-text_fault line origins None = Some (fault.Why line why.NoFile)
+text_fault line origins None = Some (fault.Directive (directive.Why line why.NoFile))
 text_fault line origins (Some text) = refusal_in line (zones_from text [] origins)
 
 abbrev pub fault_at : ℕ → Option DirectiveWhy → Option FileFault
 fault_at line None = None
-fault_at line (Some why) = Some (fault.Why line why)
+fault_at line (Some why) = Some (fault.Directive (directive.Why line why))
 
 -- why the directive itself doesn't fit: by its words, its body, and then a zone that a plan before
 -- has
@@ -82,7 +84,7 @@ abbrev pub ReadsFile : List FileData → Directive → List (List (List ℕ)) �
     → Result FileData FileFault → Type 0
 ReadsFile before d zones file (Ok plan) =
     (file_fault before d zones file ≡ None) × (plan ≡ data_of d zones file)
-ReadsFile before d zones file (Err fault.NoMemory) = Unit {0}
+ReadsFile before d zones file (Err (fault.Directive directive.NoMemory)) = Unit {0}
 ReadsFile before d zones file (Err refused) = file_fault before d zones file ≡ Some refused
 
 -- the origins that words give, or why they don't fit
@@ -95,6 +97,6 @@ ReadsWords zones words (Err why) = words_why zones words ≡ Some why
 -- the zones of these origins in a text, or its fault
 abbrev pub ReadsText : ℕ → List ℕ → List (List (List ℕ)) → Result (List Zone) FileFault → Type 0
 ReadsText line text origins (Ok zones) = zones_from text [] origins ≡ Ok zones
-ReadsText line text origins (Err fault.NoMemory) = Unit {0}
+ReadsText line text origins (Err (fault.Directive directive.NoMemory)) = Unit {0}
 ReadsText line text origins (Err refused) =
     refusal_in line (zones_from text [] origins) ≡ Some refused

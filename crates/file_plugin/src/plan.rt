@@ -3,11 +3,13 @@ ghost use Rattle.std.specs.List.{list_any};
 ghost use Rattle.dns_data.specs.{is_same};
 ghost use Rattle.file_plugin.specs.Reading.{ReadsFile, has_zone, some_has};
 ghost use Rattle.file_plugin.specs.Zones.{file_zones};
+ghost use Rattle.file_plugin.specs.declared.fault.FileFault.TheVariants as fault;
+ghost use Rattle.plugin_api.specs.declared.fault.DirectiveFault.TheVariants as directive;
 
 use crate::fault::FileFault;
 use crate::reading::{body_why, read_text, read_words};
 use dns_data::{Bytes, Copies, Directive, Name, Names, Seq};
-use plugin_api::DirectiveWhy;
+use plugin_api::{DirectiveFault, DirectiveWhy};
 use std::alloc::Global;
 use std::marker::Model;
 use zone_lookup::ZoneStore;
@@ -54,18 +56,16 @@ impl FilePlan {
         let line = directive.line;
         let origins = match read_words(alloc, zones, directive.args.as_slice())? {
             Ok(origins) => origins,
-            Err(why) => return Err(FileFault::Why { line, why }),
+            Err(why) => return Err(refused(line, why)),
         };
         if let Some(why) = body_why(directive.body.as_slice()) {
-            return Err(FileFault::Why { line, why });
+            return Err(refused(line, why));
         }
         if some_has(before, origins.as_slice()) {
-            let why = DirectiveWhy::DoubleZone;
-            return Err(FileFault::Why { line, why });
+            return Err(refused(line, DirectiveWhy::DoubleZone));
         }
         let Some(text) = file else {
-            let why = DirectiveWhy::NoFile;
-            return Err(FileFault::Why { line, why });
+            return Err(refused(line, DirectiveWhy::NoFile));
         };
         let loaded = read_text(alloc, line, text, origins.as_slice())?;
         Ok(FilePlan {
@@ -89,6 +89,12 @@ impl FilePlan {
     {
         has_origin(self.zones(), origin)
     }
+}
+
+fn refused(line: u32, why: DirectiveWhy) -> FileFault
+    ensures { result ≡ fault.Directive (directive.Why line why) }
+{
+    FileFault::Directive(DirectiveFault::Why { line, why })
 }
 
 // Whether one of these zones has this origin.

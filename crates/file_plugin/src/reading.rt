@@ -5,7 +5,7 @@ ghost use Rattle.file_plugin.specs.Zones.{zones_from};
 
 use crate::fault::FileFault;
 use dns_data::{Limit, Line, Name, Names, NoMemory, Seq, Text, limit};
-use plugin_api::DirectiveWhy;
+use plugin_api::{DirectiveFault, DirectiveWhy};
 use std::alloc::Global;
 use zone_file::{ZoneFault, read_zone};
 use zone_tree::TreeZone;
@@ -74,10 +74,10 @@ fn told_at(line: u32, fault: ZoneFault) -> FileFault
 {
     match fault {
         ZoneFault::Bad { line: at, why } => FileFault::Zone { line, at, why },
-        ZoneFault::TooMany => FileFault::TooMany {
+        ZoneFault::TooMany => FileFault::Directive(DirectiveFault::TooMany {
             what: Limit::ZoneRecords,
             number: limit::ZONE_RECORDS as u64 + 1,
-        },
-        ZoneFault::NoMemory => FileFault::NoMemory,
+        }),
+        ZoneFault::NoMemory => FileFault::Directive(DirectiveFault::NoMemory),
     }
 }

@@ -8,16 +8,18 @@ use Rattle.dns_data.specs.declared.directive.Directive.{Directive}
 use Rattle.dns_data.specs.declared.file.FileText.{FileText}
 use Rattle.dns_data.specs.declared.message.Opt.{Opt}
 use Rattle.dns_data.specs.declared.query.Query.{Query}
+use Rattle.dns_data.specs.declared.rcode.TheConstants as rcodes
 use Rattle.outside.specs.Meanings.{Done}
 use Rattle.outside.specs.declared.mark.Mark.{Mark}
-use Rattle.chain_meaning.specs.Mean.{mean}
+use Rattle.chain_meaning.specs.Mean.{mean, nothing}
 use Rattle.chain_meaning.specs.Serving.{block_decides, block_of, chain_decides, is_known_version, query_decides, refused}
+use Rattle.chain_meaning.specs.declared.decision.Decision.TheVariants as decision
 use Rattle.chain_meaning.specs.Steps.{Step, steps_of}
 use Rattle.chain_build.specs.Compiled.{front_of, whole}
 use Rattle.chain_build.specs.Plans.{steps_in}
-use Rattle.chain_build.specs.declared.back.BackAnswerer.{BackAnswerer}
-use Rattle.chain_build.specs.declared.compiling.BlockChain.{BlockChain}
-use Rattle.chain_build.specs.declared.front.FrontStep.{FrontStep}
+use Rattle.chain_build.specs.declared.block_chain.BackAnswerer.{BackAnswerer}
+use Rattle.chain_build.specs.declared.block_chain.BlockChain.{BlockChain}
+use Rattle.chain_build.specs.declared.block_chain.FrontStep.{FrontStep}
 use Rattle.plain_chain.specs.Reading.{has_none}
 
 -- what was read of the block of a number
@@ -56,6 +58,15 @@ module _ (files : List FileText) (read : List BlockChain) (blocks : List Block) 
 pub asked-decides : (opt : Option Opt) (class : ℕ) (files : List FileText) (blocks : List Block) (q : Query) (marks : List Mark) → is_known_version opt ≡ true → nat_eq class classes.IN ≡ true
     → block_decides files (block_of blocks q) q marks ≡ query_decides opt class files blocks q marks
 asked-decides opt class files blocks q marks known own = rw (known, own) refl
+
+-- another version of EDNS gets no records, and another class is refused
+pub version-decides : (opt : Option Opt) (class : ℕ) (files : List FileText) (blocks : List Block) (q : Query) (marks : List Mark) → is_known_version opt ≡ false
+    → query_decides opt class files blocks q marks ≡ Done (decision.Reply (nothing rcodes.NOERROR)) marks
+version-decides opt class files blocks q marks other = rw other refl
+
+pub class-decides : (opt : Option Opt) (class : ℕ) (files : List FileText) (blocks : List Block) (q : Query) (marks : List Mark) → is_known_version opt ≡ true → nat_eq class classes.IN ≡ false
+    → query_decides opt class files blocks q marks ≡ Done refused marks
+class-decides opt class files blocks q marks known other = rw (known, other) refl
 
 -- a chain without a step refuses, and another means what its steps do
 pub none-refuses : (steps : List Step) (q : Query) (marks : List Mark) → has_none steps ≡ true → Done refused marks ≡ chain_decides steps q marks

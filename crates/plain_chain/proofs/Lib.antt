@@ -1,3 +1,5 @@
 pub mod Rules
-pub mod Tails
+pub mod Meaning
+pub mod Notes
 pub mod Chosen
+pub mod Turned

@@ -1,18 +1,17 @@
--- Reading directives anew: whether they are accepted, and the chain of each block.
-use Rattle.std.specs.Prelude.{◌≡◌, ℕ, Bool, true, false, List, [], ◌∷◌, map, Result, Ok, Err}
-use Rattle.std.specs.Prelude.{if◌then◌else◌}
-use Rattle.dns_data.specs.declared.block.Block.{Block}
-use Rattle.dns_data.specs.declared.file.FileText.{FileText}
+-- What is read of a bundle once, and what that leaves of the maker of patterns.
+use Rattle.std.specs.Prelude.{◌≡◌, ◌<◌, ℕ, ◌^◌, Bool, true, false, List, [], ◌∷◌, length, map}
+use Rattle.std.specs.Prelude.{Option, Result, Ok, Err, if◌then◌else◌}
+use Rattle.corefile_blocks.specs.declared.bundle.Bundle.{Bundle}
 use Rattle.outside.specs.{WatchState, raised, with_refusals}
-use Rattle.pattern_judging.specs.{IsFault, IsWell}
-use Rattle.chain_meaning.specs.Accepting.{blocks_task, told}
+use Rattle.chain_meaning.specs.Accepting.{IsAccepted, IsRefusedWith}
 use Rattle.chain_meaning.specs.Steps.{Step, steps_of}
 use Rattle.chain_build.specs.{is_of_pattern}
 use Rattle.chain_build.specs.Plans.{steps_in}
-use Rattle.chain_build.specs.declared.compiling.BlockChain.{BlockChain}
+use Rattle.chain_build.specs.declared.fault.CheckFault.{CheckFault}
+use Rattle.chain_build.specs.declared.fault.CheckFault.TheVariants as check
 use Rattle.plain_chain.specs.declared.fault.PlainFault.{PlainFault}
 use Rattle.plain_chain.specs.declared.fault.PlainFault.TheVariants as fault
-use Rattle.plain_chain.specs.declared.reading.Read.{Read}
+use Rattle.plain_chain.specs.declared.reading.PlainRead.{PlainRead}
 
 -- the refusals of a maker behind a fault: they rise by one where it refused a pattern
 abbrev pub refusals_behind : PlainFault → ℕ → ℕ
@@ -25,17 +24,23 @@ plain_behind (Ok x) state = state
 plain_behind (Err refused) state =
     with_refusals state (refusals_behind refused state.refusals)
 
--- reading the directives of all blocks
-abbrev pub ReadsChains : List FileText → List Block → Result (List BlockChain) PlainFault → Type 0
-ReadsChains files blocks (Ok chains) =
-    IsWell (blocks_task 0 files blocks) × (map steps_in chains ≡ map (steps_of files) blocks)
-ReadsChains files blocks (Err (fault.Refused why)) = IsFault told (blocks_task 0 files blocks) why
-ReadsChains files blocks (Err fault.Short) = ⊥
-ReadsChains files blocks (Err fault.NoMemory) = Unit {0}
+-- the chains are those of the blocks, which can be counted
+pub record IsWhole (read : PlainRead) : Type 0 where
+  pub few : length read.blocks < 2 ^ 32
+  pub chains : map steps_in read.chains ≡ map (steps_of read.files.now) read.blocks
 
--- the chains are those of the blocks
-abbrev pub AreChains : Read → Type 0
-AreChains read = map steps_in read.chains ≡ map (steps_of read.files.now) read.blocks
+-- this was read of a bundle, which is accepted
+pub record IsReadOf (bundle : Bundle) (default_port : ℕ) (read : PlainRead) : Type 0 where
+  pub accepted : IsAccepted default_port bundle read.blocks
+  pub files : read.files.now ≡ bundle.files
+  pub whole : IsWhole read
+
+-- reading a bundle, where the maker refused this text last
+abbrev pub ReadsPlain : Bundle → ℕ → Option (List ℕ) → Result PlainRead CheckFault → Type 0
+ReadsPlain bundle default_port last (Ok read) = IsReadOf bundle default_port read
+ReadsPlain bundle default_port last (Err (check.Refused why)) =
+    IsRefusedWith default_port bundle last why
+ReadsPlain bundle default_port last (Err check.NoMemory) = Unit {0}
 
 -- whether there is no step
 abbrev pub has_none : List Step → Bool

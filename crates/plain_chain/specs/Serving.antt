@@ -14,7 +14,7 @@ use Rattle.outside.specs.Meanings.{Done, More, Off}
 use Rattle.outside.specs.declared.datagram.Datagram.{Datagram}
 use Rattle.outside.specs.declared.mark.Mark.{Mark}
 use Rattle.corefile_blocks.specs.declared.bundle.Bundle.{Bundle}
-use Rattle.chain_meaning.specs.Accepting.{IsAccepted, IsRefused}
+use Rattle.chain_meaning.specs.Accepting.{IsAccepted, IsRefusedWith}
 use Rattle.chain_meaning.specs.Serving.{AnswersFormErr, AnswersNotImp, Replies, answer_in}
 use Rattle.chain_meaning.specs.Serving.{asked_decides}
 use Rattle.chain_meaning.specs.declared.decision.Decision.{Decision}
@@ -71,28 +71,21 @@ GivesReply files blocks d marks used None =
     ((used ≡ 0) × IsNoQuery d)
     ⊎ IsDecided files blocks d marks used (λ asked v. v ≡ decision.Drop)
 
--- what a datagram means under blocks that are accepted, in a bundle with these files
-abbrev pub BlocksServe : List FileText → List Block → Datagram → List Mark
-    → Result Plain PlainFault → Type 0
-BlocksServe files blocks d marks (Ok plain) =
-    GivesReply files blocks d marks plain.used plain.reply
-BlocksServe files blocks d marks (Err (fault.Refused why)) = ⊥
-BlocksServe files blocks d marks (Err fault.Short) = IsShort files blocks d marks
-BlocksServe files blocks d marks (Err fault.NoMemory) = Unit {0}
-
 -- a bundle is accepted, and this holds of its blocks
 pub record IsServed (bundle : Bundle) (default_port : ℕ) (P : List Block → Type 0) : Type 0 where
   pub blocks : List Block
   pub accepted : IsAccepted default_port bundle blocks
   pub is : P blocks
 
--- what a datagram means under a bundle by these marks
-abbrev pub PlainServes : Bundle → ℕ → Datagram → List Mark → Result Plain PlainFault → Type 0
-PlainServes bundle default_port d marks (Ok plain) =
+-- what a datagram means under a bundle by these marks, where the maker of patterns refused this
+-- text last
+abbrev pub PlainServes : Bundle → ℕ → Datagram → List Mark → Option (List ℕ)
+    → Result Plain PlainFault → Type 0
+PlainServes bundle default_port d marks last (Ok plain) =
     IsServed bundle default_port
     (λ blocks. GivesReply bundle.files blocks d marks plain.used plain.reply)
-PlainServes bundle default_port d marks (Err (fault.Refused why)) =
-    IsRefused default_port bundle why
-PlainServes bundle default_port d marks (Err fault.Short) =
+PlainServes bundle default_port d marks last (Err (fault.Refused why)) =
+    IsRefusedWith default_port bundle last why
+PlainServes bundle default_port d marks last (Err fault.Short) =
     IsServed bundle default_port (λ blocks. IsShort bundle.files blocks d marks)
-PlainServes bundle default_port d marks (Err fault.NoMemory) = Unit {0}
+PlainServes bundle default_port d marks last (Err fault.NoMemory) = Unit {0}

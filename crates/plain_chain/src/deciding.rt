@@ -3,13 +3,12 @@ ghost use Rattle.std.specs.Prelude.{slice_get};
 ghost use Rattle.plugin_api.specs.{picked};
 ghost use Rattle.chain_build.specs.Plans.{steps_in};
 ghost use Rattle.chain_meaning.specs.Serving.{chain_decides, query_decides};
-ghost use Rattle.plain_chain.specs.Meant.{Gives, meaning_of};
-ghost use Rattle.plain_chain.specs.Reading.{AreChains, has_none};
+ghost use Rattle.plain_chain.specs.Meant.{Means};
+ghost use Rattle.plain_chain.specs.Reading.{IsWhole, has_none};
 
 use crate::evaluating::evaluate;
-use crate::fault::PlainFault;
 use crate::meant::{Meant, bare};
-use crate::reading::Read;
+use crate::reading::PlainRead;
 use chain_build::{BlockChain, is_known_version};
 use dns_data::{NoMemory, Opt, Query, class, rcode};
 use outside::Mark;
@@ -19,16 +18,15 @@ use std::alloc::Global;
 /// What is decided for a query with this OPT record and class by what was read of a bundle.
 pub(crate) fn decide<'a>(
     alloc: Global,
-    read: &Read<'_>,
+    read: &PlainRead<'_>,
     opt: Option<Opt>,
     class: u16,
     query: &Query,
     marks: &'a [Mark],
-) -> Result<Meant<'a>, PlainFault>
-    requires few { length read.now.blocks < 2 ^ 32 }
-    requires read { AreChains read.now }
-    ensures { Gives
-        (query_decides opt class read.now.files.now read.now.blocks query.now marks.now) result }
+) -> Result<Meant<'a>, NoMemory>
+    requires { IsWhole read.now }
+    ensures { IfOk result
+        (Means (query_decides opt class read.now.files.now read.now.blocks query.now) marks.now) }
 {
     if !is_known_version(opt) {
         return Ok(bare(alloc, rcode::NOERROR, marks));
@@ -39,11 +37,11 @@ pub(crate) fn decide<'a>(
     let Some(chain) = chain_for(read, query) else {
         return Ok(bare(alloc, rcode::REFUSED, marks));
     };
-    Ok(decide_by(alloc, chain, query, marks)?)
+    decide_by(alloc, chain, query, marks)
 }
 
 // The chain of the block with the longest zone on the port at which the query came.
-fn chain_for<'a>(read: &'a Read<'_>, query: &Query) -> Option<&'a BlockChain>
+fn chain_for<'a>(read: &'a PlainRead<'_>, query: &Query) -> Option<&'a BlockChain>
     requires few { length read.now.blocks < 2 ^ 32 }
     ensures { option_map (λ chain. chain.now) result
         ≡ option_and_then (slice_get read.now.chains)
@@ -60,8 +58,7 @@ fn decide_by<'a>(
     query: &Query,
     marks: &'a [Mark],
 ) -> Result<Meant<'a>, NoMemory>
-    ensures { IfOk result (λ m. meaning_of m
-        ≡ chain_decides (steps_in chain.now) query.now marks.now) }
+    ensures { IfOk result (Means (chain_decides (steps_in chain.now) query.now) marks.now) }
 {
     if has_none(chain) {
         return Ok(bare(alloc, rcode::REFUSED, marks));

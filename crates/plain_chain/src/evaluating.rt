@@ -1,10 +1,10 @@
 //! What the steps of a block's chain mean, one after another: a plugin that answers decides, and a
 //! step round the rest takes or changes what stands behind what the rest meant.
 
-ghost use Rattle.std.specs.Prelude.{◌≡◌, IfOk, map};
+ghost use Rattle.std.specs.Prelude.{IfOk, map};
 ghost use Rattle.chain_build.specs.Compiled.{back_of, back_steps, whole};
 ghost use Rattle.chain_meaning.specs.Mean.{mean};
-ghost use Rattle.plain_chain.specs.Meant.{meaning_of};
+ghost use Rattle.plain_chain.specs.Meant.{Means};
 
 use crate::meant::Meant;
 use crate::noting::{behind_errors, behind_log};
@@ -26,8 +26,8 @@ pub(crate) fn evaluate<'a>(
     query: &Query,
     marks: &'a [Mark],
 ) -> Result<Meant<'a>, NoMemory>
-    ensures { IfOk result (λ m. meaning_of m
-        ≡ mean (whole front.now chain.now.rewrites chain.now.back) query.now marks.now) }
+    ensures { IfOk result
+        (Means (mean (whole front.now chain.now.rewrites chain.now.back) query.now) marks.now) }
 {
     let Some((step, rest)) = front.split_first() else {
         return evaluate_behind(alloc, chain, query, marks);
@@ -56,8 +56,8 @@ fn evaluate_behind<'a>(
     query: &Query,
     marks: &'a [Mark],
 ) -> Result<Meant<'a>, NoMemory>
-    ensures { IfOk result (λ m. meaning_of m
-        ≡ mean (back_steps chain.now.rewrites chain.now.back) query.now marks.now) }
+    ensures { IfOk result
+        (Means (mean (back_steps chain.now.rewrites chain.now.back) query.now) marks.now) }
 {
     let rules = chain.rewrites.as_slice();
     let back = chain.back.as_slice();
@@ -79,8 +79,7 @@ fn evaluate_back<'a>(
     query: &Query,
     marks: &'a [Mark],
 ) -> Result<Meant<'a>, NoMemory>
-    ensures { IfOk result
-        (λ m. meaning_of m ≡ mean (map back_of back.now) query.now marks.now) }
+    ensures { IfOk result (Means (mean (map back_of back.now) query.now) marks.now) }
 {
     let Some((plugin, rest)) = back.split_first() else {
         let decision = Decision::Code(Code::ServFail, Cause::EndOfChain);

@@ -1,5 +1,5 @@
-//! What a datagram means under a configuration by a list of marks, read off the texts anew for each
-//! datagram: slow, and apart from what serves, so that serving can be held against it.
+//! What a datagram means under a configuration by a list of marks: slow, and apart from what
+//! serves, so that serving can be held against it.
 #![tactic(auto)]
 
 mod deciding;
@@ -11,6 +11,9 @@ mod reading;
 mod restoring;
 mod saying;
 mod serving;
+mod turning;
 
 pub use fault::PlainFault;
+pub use reading::{PlainRead, plain_read};
 pub use serving::{Plain, plain_serve};
+pub use turning::{PlainTurn, plain_turn};

@@ -3,7 +3,7 @@ ghost use Rattle.std.specs.Prelude.{◌≡◌, ◌<◌};
 ghost use Rattle.outside.specs.Meanings.{Done};
 ghost use Rattle.chain_meaning.specs.Mean.{nothing};
 ghost use Rattle.chain_meaning.specs.declared.decision.Decision.TheVariants as decision;
-ghost use Rattle.plain_chain.specs.Meant.{meaning_of};
+ghost use Rattle.plain_chain.specs.Meant.{Means};
 
 use chain_meaning::Decision;
 use dns_data::{Answer, Records};
@@ -11,18 +11,18 @@ use outside::Mark;
 use std::alloc::Global;
 
 /// What a list of marks means: a decision and the marks that are left; that the marks end too
-/// early; or that one is another than what is taken there.
+/// early; or the marks from the first one on that is another than what is taken there.
 #[derive(Debug, Drop)]
 pub(crate) enum Meant<'a> {
     Done(Decision, &'a [Mark]),
     More,
-    Off,
+    Off(&'a [Mark]),
 }
 
 /// This RCODE without records, and no mark is taken.
 pub(crate) fn bare<'a>(alloc: Global, rcode: u8, marks: &'a [Mark]) -> Meant<'a>
     requires { rcode < limits.CODE_END }
-    ensures { meaning_of result ≡ Done (decision.Reply (nothing rcode)) marks.now }
+    ensures { Means (λ left. Done (decision.Reply (nothing rcode)) left) marks.now result }
 {
     Meant::Done(bare_reply(alloc, rcode), marks)
 }

@@ -1,7 +1,9 @@
-ghost use Rattle.std.specs.Prelude.{◌≡◌, IfOk};
-ghost use Rattle.outside.specs.Meanings.{onward};
+ghost use Rattle.std.specs.Prelude.{List, IfOk};
+ghost use Rattle.outside.specs.Meanings.{Meaning, onward};
+ghost use Rattle.outside.specs.declared.mark.Mark.{Mark};
+ghost use Rattle.chain_meaning.specs.declared.decision.Decision.{Decision};
 ghost use Rattle.chain_meaning.specs.Mean.{error_noted, query_noted, take_note};
-ghost use Rattle.plain_chain.specs.Meant.{meaning_of};
+ghost use Rattle.plain_chain.specs.Meant.{Means};
 
 use crate::meant::Meant;
 use chain_meaning::{Decision, outcome_of};
@@ -16,8 +18,9 @@ pub(crate) fn behind_errors<'a>(
     query: &Query,
     meant: Meant<'a>,
 ) -> Result<Meant<'a>, NoMemory>
-    ensures { IfOk result
-        (λ m. meaning_of m ≡ onward (meaning_of meant.entry) (error_noted query.now)) }
+    ensures { (means : List Mark → Meaning Decision) → (marks : List Mark)
+        → Means means marks meant.entry
+        → IfOk result (Means (λ some. onward (means some) (error_noted query.now)) marks) }
 {
     match meant {
         Meant::Done(decision, left) => match decision {
@@ -29,7 +32,7 @@ pub(crate) fn behind_errors<'a>(
             Decision::Drop => Ok(Meant::Done(Decision::Drop, left)),
         },
         Meant::More => Ok(Meant::More),
-        Meant::Off => Ok(Meant::Off),
+        Meant::Off(left) => Ok(Meant::Off(left)),
     }
 }
 
@@ -40,8 +43,10 @@ pub(crate) fn behind_log<'a>(
     query: &Query,
     meant: Meant<'a>,
 ) -> Result<Meant<'a>, NoMemory>
-    ensures { IfOk result
-        (λ m. meaning_of m ≡ onward (meaning_of meant.entry) (query_noted plan.now query.now)) }
+    ensures { (means : List Mark → Meaning Decision) → (marks : List Mark)
+        → Means means marks meant.entry
+        → IfOk result
+        (Means (λ some. onward (means some) (query_noted plan.now query.now)) marks) }
 {
     match meant {
         Meant::Done(decision, left) => {
@@ -52,13 +57,13 @@ pub(crate) fn behind_log<'a>(
             Ok(take_note(line.as_str().as_bytes(), decision, left))
         }
         Meant::More => Ok(Meant::More),
-        Meant::Off => Ok(Meant::Off),
+        Meant::Off(left) => Ok(Meant::Off(left)),
     }
 }
 
 // Takes the mark of this line, whether it went out or not.
 fn take_note<'a>(line: &[u8], decision: Decision, marks: &'a [Mark]) -> Meant<'a>
-    ensures { meaning_of result ≡ take_note line.now decision marks.now }
+    ensures { Means (take_note line.now decision) marks.now result }
 {
     let Some((mark, left)) = marks.split_first() else {
         return Meant::More;
@@ -68,9 +73,9 @@ fn take_note<'a>(line: &[u8], decision: Decision, marks: &'a [Mark]) -> Meant<'a
             if line == other.as_slice() {
                 Meant::Done(decision, left)
             } else {
-                Meant::Off
+                Meant::Off(marks)
             }
         }
-        _ => Meant::Off,
+        _ => Meant::Off(marks),
     }
 }

@@ -1,36 +1,37 @@
 ghost use Rattle.std.specs.Prelude.{◌≡◌};
-ghost use Rattle.std.specs.List.{All};
-ghost use Rattle.corefile_blocks.specs.Readable.{HasShortBytes};
-ghost use Rattle.plain_chain.specs.Reading.{ReadsChains, plain_behind};
+ghost use Rattle.chain_build.specs.{check_behind};
+ghost use Rattle.corefile_blocks.specs.{IsReadable};
+ghost use Rattle.plain_chain.specs.Reading.{ReadsPlain};
 
-use crate::fault::PlainFault;
-use chain_build::{BlockChain, CheckFault, block_chains};
-use dns_data::{Block, Blocks, FileText, Seq};
+use chain_build::{BlockChain, CheckFault, ReadBundle, read_bundle};
+use corefile_blocks::Bundle;
+use dns_data::{Blocks, FileText, Seq};
 use outside::PatternMaker;
 use std::alloc::Global;
 
-/// What was read of a bundle with these files: its blocks, and the chain of each.
+/// What was read of a bundle: its files, its blocks, and the chain of each.
 #[derive(Drop)]
-pub(crate) struct Read<'a> {
+pub struct PlainRead<'a> {
     pub files: &'a [FileText],
     pub blocks: Blocks,
     pub chains: Seq<BlockChain>,
 }
 
-/// Reads the directives of all blocks of a bundle with these files.
-pub(crate) fn read_chains<M: PatternMaker>(
+/// Reads a bundle, for any number of datagrams. The maker makes its patterns.
+pub fn plain_read<'a, M: PatternMaker>(
     alloc: Global,
-    files: &[FileText],
-    blocks: &[Block],
+    bundle: &'a Bundle,
+    default_port: u16,
     maker: &mut M,
-) -> Result<Seq<BlockChain>, PlainFault>
-    requires { All HasShortBytes files.now }
-    ensures read { ReadsChains files.now blocks.now result }
-    ensures maker { M.state maker.new ≡ plain_behind result (M.state maker.old) }
+) -> Result<PlainRead<'a>, CheckFault>
+    requires { IsReadable bundle.now }
+    ensures reads { ReadsPlain bundle.now default_port (M.last maker.new) result }
+    ensures maker { M.state maker.new ≡ check_behind result (M.state maker.old) }
 {
-    match block_chains(alloc, files, blocks, maker) {
-        Ok(chains) => Ok(chains),
-        Err(CheckFault::Refused(why)) => Err(PlainFault::Refused(why)),
-        Err(CheckFault::NoMemory) => Err(PlainFault::NoMemory),
-    }
+    let ReadBundle { blocks, chains } = read_bundle(alloc, bundle, default_port, maker)?;
+    Ok(PlainRead {
+        files: bundle.files.as_slice(),
+        blocks,
+        chains,
+    })
 }

@@ -1,7 +1,9 @@
-ghost use Rattle.std.specs.Prelude.{◌≡◌, IfOk};
-ghost use Rattle.outside.specs.Meanings.{onward};
+ghost use Rattle.std.specs.Prelude.{◌≡◌, List, IfOk};
+ghost use Rattle.outside.specs.Meanings.{Meaning, onward};
+ghost use Rattle.outside.specs.declared.mark.Mark.{Mark};
+ghost use Rattle.chain_meaning.specs.declared.decision.Decision.{Decision};
 ghost use Rattle.chain_meaning.specs.Mean.{reply_restored, restored_in};
-ghost use Rattle.plain_chain.specs.Meant.{meaning_of};
+ghost use Rattle.plain_chain.specs.Meant.{Means};
 
 use crate::meant::Meant;
 use chain_meaning::Decision;
@@ -17,15 +19,17 @@ pub(crate) fn behind_rewrite<'a>(
     room: &mut RewriteRoom,
     meant: Meant<'a>,
 ) -> Result<Meant<'a>, NoMemory>
-    ensures { IfOk result (λ m. meaning_of m
-        ≡ onward (meaning_of meant.entry) (reply_restored rules.now changed.now)) }
+    ensures { (means : List Mark → Meaning Decision) → (marks : List Mark)
+        → Means means marks meant.entry
+        → IfOk result
+        (Means (λ some. onward (means some) (reply_restored rules.now changed.now)) marks) }
 {
     match meant {
         Meant::Done(decision, left) => {
             Ok(Meant::Done(restored(alloc, rules, changed, room, decision)?, left))
         }
         Meant::More => Ok(Meant::More),
-        Meant::Off => Ok(Meant::Off),
+        Meant::Off(left) => Ok(Meant::Off(left)),
     }
 }
 

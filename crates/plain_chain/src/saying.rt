@@ -7,11 +7,10 @@ ghost use Rattle.chain_build.specs.Compiled.{back_answerer, front_answerer};
 ghost use Rattle.chain_build.specs.Walking.{decision_of};
 ghost use Rattle.chain_meaning.specs.Mean.{answer_of};
 
-use chain_build::{BackAnswerer, Ended, FrontAnswerer, back_answer, front_answer};
+use chain_build::{BackAnswerer, Ended, FrontAnswerer, PluginRoom, back_answer, front_answer};
 use chain_meaning::Decision;
 use dns_data::{NoMemory, Query, Slot};
 use std::alloc::Global;
-use template_plugin::TemplateRoom;
 
 /// Of a plugin in front of a cache.
 pub(crate) fn front_says(
@@ -38,10 +37,9 @@ pub(crate) fn back_says(
     ensures { IfOk result (λ said. (left : List Mark)
         → answer_of (back_answerer plugin.now) query.now left ≡ Done said left) }
 {
-    let mut room = TemplateRoom::new(alloc);
-    let mut slot = Slot::new(alloc);
-    match back_answer(alloc, plugin, query, &mut room, &mut slot)? {
-        Some(ended) => Ok(Some(decided(alloc, ended, &mut slot)?)),
+    let mut room = PluginRoom::new(alloc);
+    match back_answer(alloc, plugin, query, &mut room)? {
+        Some(ended) => Ok(Some(decided(alloc, ended, &mut room.slot)?)),
         None => Ok(None),
     }
 }

@@ -13,17 +13,17 @@ returns-in_default g t c = asks-nothing (mean (map back_of c.args.steps.now) c.a
 
 pub returns-in_err-ended : goal.returns-in_err-ended
 returns-in_err-ended g t c =
-    asks-starved (mean (map back_of c.args.steps.now) c.args.query.now) (decided-err _ c.back_answer.new.slot c.from_residual.ensures.0) (mean_nothing (map back_of c.args.steps.now) c.args.query.now)
+    asks-starved (mean (map back_of c.args.steps.now) c.args.query.now) (decided-err _ c.back_answer.new.room.slot c.from_residual.ensures.0) (mean_nothing (map back_of c.args.steps.now) c.args.query.now)
 
 pub returns-in-Some-2 : goal.returns-in-Some-2
 returns-in-Some-2 g t c =
     asks-as _ _ (back-answers c.in-Some.plugin.now c.in-Some.rest.now c.args.query.now c.in-Some.ensures.cases.0)
     (asks-nothing (λ left. onward (answer_of (back_answerer c.in-Some.plugin.now) c.args.query.now left) (or_rest (mean (map back_of c.in-Some.rest.now)) c.args.query.now))
-    (answers (back_answerer c.in-Some.plugin.now) (mean (map back_of c.in-Some.rest.now)) c.args.query.now _ c.back_answer.new.slot c.in-Some-2.ended c.in_ok-ended.ensures c.in-Some-2.is))
+    (answers (back_answerer c.in-Some.plugin.now) (mean (map back_of c.in-Some.rest.now)) c.args.query.now _ c.back_answer.new.room.slot c.in-Some-2.ended c.in_ok-ended.ensures c.in-Some-2.is))
 
 pub returns-in-None : goal.returns-in-None
 returns-in-None g t c =
     asks-as _ _ (back-answers c.in-Some.plugin.now c.in-Some.rest.now c.args.query.now c.in-Some.ensures.cases.0)
     (asks-as (mean (map back_of c.in-Some.rest.now) c.args.query.now) _
-    (goes (back_answerer c.in-Some.plugin.now) (mean (map back_of c.in-Some.rest.now)) c.args.query.now _ c.back_answer.new.slot c.in_ok-ended.ensures c.in-None.is)
+    (goes (back_answerer c.in-Some.plugin.now) (mean (map back_of c.in-Some.rest.now)) c.args.query.now _ c.back_answer.new.room.slot c.in_ok-ended.ensures c.in-None.is)
     c.run_back.ensures)

@@ -1,5 +1,5 @@
-use Rattle.std.proofs.Common.{map}
-use Rattle.outside.specs.TakingLaws.{asks-then}
+use Rattle.std.proofs.Common.{map, sym}
+use Rattle.outside.specs.TakingLaws.{asks-as, asks-then}
 use Rattle.rewrite_plugin.specs.{changed_by}
 use Rattle.chain_meaning.specs.Mean.{mean, reply_restored, rewritten}
 use Rattle.chain_build.specs.Compiled.{back_of}
@@ -9,14 +9,18 @@ use Rattle.chain_build.proofs.back.run_rewritten.Goals as goal
 
 pub returns-in_err-change : goal.returns-in_err-change
 returns-in_err-change g c =
-    let changed = changed_by c.args.rewrites.now c.args.query.now in
-    asks-starved (rewritten (mean (map back_of c.args.back.now)) c.args.rewrites.now changed) (decided-err c.from_residual.result c.args.slot.now c.from_residual.ensures.0) (rewritten_nothing c.args.back.now c.args.rewrites.now changed)
+    let chain = c.args.chain.now in
+    let changed = changed_by chain.rewrites c.args.query.now in
+    asks-starved (rewritten (mean (map back_of chain.back)) chain.rewrites changed) (decided-err c.from_residual.result c.args.room.now.plugins.slot c.from_residual.ensures.0) (rewritten_nothing chain.back chain.rewrites changed)
 
 pub returns : goal.returns
 returns g c =
-    let ds = c.args.rewrites.now in
-    let rest = mean (map back_of c.args.back.now) in
+    let ds = c.as_slice-rewrites.result.now in
+    let back = c.as_slice-back.result.now in
+    let rest = mean (map back_of back) in
     let changed = c.change.new.changed in
-    rw (← c.in_ok-change.ensures)
+    asks-as (rewritten rest ds (changed_by ds c.args.query.now)) _
+    (λ marks. λ i. rewritten (mean (map back_of (sym c.as_slice-back.ensures i))) (sym c.as_slice-rewrites.ensures i) (changed_by (sym c.as_slice-rewrites.ensures i) c.args.query.now) marks)
+    (rw (← c.in_ok-change.ensures)
     (asks-then (rest changed.query) (reply_restored ds changed) c.in_ok-ended.ensures
-    (restored-asks ds changed (decision_of c.in_ok-ended.ended c.run_back.new.slot) c.restore_reply.new.slot c.restore_reply.result c.restore_reply.ensures))
+    (restored-asks ds changed (decision_of c.in_ok-ended.ended c.run_back.new.room.slot) c.restore_reply.new.room.slot c.restore_reply.result c.restore_reply.ensures)))

@@ -10,7 +10,7 @@ pub returns-in_err-made-clause-made : goal.returns-in_err-made-clause-made
 returns-in_err-made-clause-made g c =
     let e = c.in_err-made.field-0.0 in
     let is : c.from_residual-in_err-made.result ≡ Err e = search rules in
-    rw is (blocks_err c.loop-block.patterns c.args.files.now c.args.blocks.now c.loop-block.rest.now c.in-Some.block.now c.in-Some.behind.now e c.in-Some.ensures.cases.0 c.loop-block.invariant.carried c.in_err-made.ensures.made)
+    rw is (blocks_err c.loop-block.patterns c.args.files.now c.args.blocks.now c.loop-block.rest.now c.in-Some.block.now c.in-Some.behind.now (g.M.PatternMaker.last c.block_chain.new.maker) e c.in-Some.ensures.cases.0 c.loop-block.invariant.carried c.in_err-made.ensures.made)
 
 pub loop-block-preserved : goal.loop-block-preserved
 loop-block-preserved g c =

@@ -19,8 +19,8 @@ returns-in_err-read_more-clause-reads g c =
     ap (λ zones. context_in zones c.args.files.now) (c.in_ok-zones.ensures ∙ ap (map (λ key. key.zone)) c.as_slice.ensures) in
     let e = c.in_err-read_more.field-0.0 in
     let is : c.from_residual-in_err-read_more.result ≡ Err e = search rules in
-    rw is (block_err c.args.patterns c.args.files.now c.args.block.now (context_in c.in_ok-zones.zones c.args.files.now) c.as_slice-all.result.now c.loop-index.index c.index-all-index.result c.loop-index.places c.read_more.new.places e
-    same c.loop-index-test.true c.index-all-index.is c.loop-index.invariant.carried c.in_err-read_more.ensures.reads)
+    rw is (block_err c.args.patterns c.args.files.now c.args.block.now (context_in c.in_ok-zones.zones c.args.files.now) c.as_slice-all.result.now c.loop-index.index c.index-all-index.result c.loop-index.places c.read_more.new.places
+    (g.M.PatternMaker.last c.read_more.new.maker) e same c.loop-index-test.true c.index-all-index.is c.loop-index.invariant.carried c.in_err-read_more.ensures.reads)
 
 pub loop-index-preserved : goal.loop-index-preserved
 loop-index-preserved g c =

@@ -27,7 +27,7 @@ returns-in-Err g c =
 pub returns-in-Ok-write_whole : goal.returns-in-Ok-write_whole
 returns-in-Ok-write_whole g c =
     let asked = asked_by c.args.room.now.query.name c.args.beside in
-    let v = decision_of c.in-Ok.ended c.decide.new.slot in
+    let v = decision_of c.in-Ok.ended c.decide.new.room.plugins.slot in
     let says : answer_in v ≡ Some (whole_answer c.in-Ok.ended c.settle.new.slot) = search rules in
     record {
       marks = c.in-Ok.ensures.marks;
@@ -40,7 +40,7 @@ returns-in-Ok-write_whole g c =
         queries = c.requires.asks;
         decision = v;
         took = λ left. subst (λ q. query_decides asked.opt asked.question.class c.args.plans.now.bundle.files c.args.plans.now.blocks q (c.in-Ok.ensures.marks ++ left) ≡ Done v left) c.fill_query.ensures (c.in-Ok.ensures.took left);
-        is = replied c.in-Ok.ended c.upper_code.ensures c.opt_reply-opt_back.ensures (ap (λ r. r.query) c.take_reply-free.ensures.rest ∙ c.fill_query.ensures) (ap (λ r. r.slot) c.take_reply-free.ensures.rest)
+        is = replied c.in-Ok.ended c.upper_code.ensures c.opt_reply-opt.ensures (ap (λ r. r.query) c.take_reply-free.ensures.rest ∙ c.fill_query.ensures) (ap (λ r. r.walk.plugins.slot) c.take_reply-free.ensures.rest)
             c.limit_of-limit.ensures.value c.reply_message-parts.ensures.message says c.in-Ok-write_whole.ensures;
       });
     }

@@ -3,12 +3,13 @@ use Rattle.chain_meaning.specs.Mean.{mean}
 use Rattle.chain_build.specs.Compiled.{whole}
 use Rattle.chain_build.specs.Plans.{steps_in}
 use Rattle.plain_chain.proofs.Chosen.{some-mean}
-use Rattle.plain_chain.proofs.Rules.{meant-as}
+use Rattle.plain_chain.proofs.Meaning.{meant-as}
 use Rattle.plain_chain.proofs.deciding.decide_by.Goals as goal
 
 pub returns : goal.returns
 returns c =
-    meant-as c.evaluate.result
-    (ap (λ front. mean (whole front c.args.chain.now.rewrites c.args.chain.now.back) c.args.query.now c.args.marks.now) c.as_slice.ensures
-    ∙ some-mean (steps_in c.args.chain.now) c.args.query.now c.args.marks.now (sym c.has_none.ensures ∙ c.if-has_none.false))
+    let chain = c.args.chain.now in
+    meant-as c.evaluate.result (mean (whole c.as_slice.result.now chain.rewrites chain.back) c.args.query.now) _ c.args.marks.now
+    (λ some. sym (ap (λ front. mean (whole front chain.rewrites chain.back) c.args.query.now some) c.as_slice.ensures
+    ∙ some-mean (steps_in chain) c.args.query.now some (sym c.has_none.ensures ∙ c.if-has_none.false)))
     c.evaluate.ensures

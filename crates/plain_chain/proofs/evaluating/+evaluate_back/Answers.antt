@@ -1,21 +1,25 @@
-use Rattle.std.proofs.Common.{map, sym, ◌∙◌}
+use Rattle.std.proofs.Common.{map, ◌∙◌}
 use Rattle.chain_meaning.specs.Mean.{mean}
 use Rattle.chain_build.specs.Compiled.{back_answerer, back_of}
 use Rattle.chain_build.specs.WalkingLaws.{back-answers, back-end}
-use Rattle.plain_chain.proofs.Rules.{goes-on, meant-as, says}
+use Rattle.plain_chain.proofs.Meaning.{done-at, meant-as}
+use Rattle.plain_chain.proofs.Rules.{goes-on, says}
 use Rattle.plain_chain.proofs.evaluating.+evaluate_back.Goals as goal
 
 pub returns-in_default : goal.returns-in_default
-returns-in_default t c = sym (back-end c.args.back.now c.args.query.now c.in_default.ensures.cases c.args.marks.now)
+returns-in_default t c = done-at _ c.args.marks.now _ (back-end c.args.back.now c.args.query.now c.in_default.ensures.cases)
 
 pub returns-in-Some-2 : goal.returns-in-Some-2
 returns-in-Some-2 t c =
     let rest = mean (map back_of c.in-Some.rest.now) in
-    says (back_answerer c.in-Some.plugin.now) rest c.args.query.now c.args.marks.now c.in_ok-decision.ensures c.in-Some-2.is
-    ∙ sym (back-answers c.in-Some.plugin.now c.in-Some.rest.now c.args.query.now c.in-Some.ensures.cases.0 c.args.marks.now)
+    done-at _ c.args.marks.now c.in-Some-2.decision
+    (λ left. back-answers c.in-Some.plugin.now c.in-Some.rest.now c.args.query.now c.in-Some.ensures.cases.0 left
+    ∙ says (back_answerer c.in-Some.plugin.now) rest c.args.query.now c.in_ok-decision.ensures c.in-Some-2.is left)
 
 pub returns-in-None : goal.returns-in-None
 returns-in-None t c =
     let rest = mean (map back_of c.in-Some.rest.now) in
-    meant-as c.evaluate_back.result (goes-on (back_answerer c.in-Some.plugin.now) rest c.args.query.now c.args.marks.now c.in_ok-decision.ensures c.in-None.is
-    ∙ sym (back-answers c.in-Some.plugin.now c.in-Some.rest.now c.args.query.now c.in-Some.ensures.cases.0 c.args.marks.now)) c.evaluate_back.ensures
+    meant-as c.evaluate_back.result (rest c.args.query.now) _ c.args.marks.now
+    (λ left. back-answers c.in-Some.plugin.now c.in-Some.rest.now c.args.query.now c.in-Some.ensures.cases.0 left
+    ∙ goes-on (back_answerer c.in-Some.plugin.now) rest c.args.query.now c.in_ok-decision.ensures c.in-None.is left)
+    c.evaluate_back.ensures

@@ -1,0 +1,261 @@
+-- A directive without patterns is never refused for one, so reading it leaves the maker as it was.
+use Rattle.std.proofs.Common.{◌≡◌, ℕ, Bool, true, false, List, [], ◌∷◌, Option, None, Some, Result, Ok, Err, refl, subst, if◌then◌else◌}
+use Rattle.std.specs.Prelude.{is_some, ◌||◌}
+use Rattle.std.specs.Option.{option_or}
+use Rattle.acl_plugin.specs.Acl.{acl_fault, body_fault, lines_fault as policies_fault}
+use Rattle.acl_plugin.specs.Lines as acl
+use Rattle.acl_plugin.specs.Lines.{line_why as policy_why}
+use Rattle.acl_plugin.specs.declared.part.Part.{Part}
+use Rattle.acl_plugin.specs.declared.part.Part.TheVariants as part
+use Rattle.dns_data.specs.{addr_of, net_of}
+use Rattle.dns_data.specs.declared.directive.Directive.{Directive}
+use Rattle.dns_data.specs.declared.directive.Line.{Line}
+use Rattle.file_plugin.specs.{FileData}
+use Rattle.file_plugin.specs.Reading as file
+use Rattle.file_plugin.specs.Reading.{file_fault}
+use Rattle.file_plugin.specs.Zones.{origins_of, origins_or, zones_from}
+use Rattle.file_plugin.specs.declared.fault.FileFault.{FileFault}
+use Rattle.file_plugin.specs.declared.fault.FileFault.TheVariants as broken
+use Rattle.hosts_plugin.specs.Hosts.{zones_behind}
+use Rattle.hosts_plugin.specs.Listings.{name_in}
+use Rattle.hosts_plugin.specs.Options.{ttl_in}
+use Rattle.hosts_plugin.specs.Reading as hosts
+use Rattle.hosts_plugin.specs.Reading.{hosts_fault}
+use Rattle.hosts_plugin.specs.declared.options.Opens.{Opens}
+use Rattle.hosts_plugin.specs.declared.options.Opens.TheVariants as opens
+use Rattle.hosts_plugin.specs.declared.options.Seen.{Seen}
+use Rattle.outside.specs.{WatchState}
+use Rattle.plain_plugins.specs.Plain as plain
+use Rattle.plain_plugins.specs.Plain.{plain_fault}
+use Rattle.plain_plugins.specs.Reload.{duration_why, reload_why}
+use Rattle.numbers.specs.{duration_of}
+use Rattle.plugin_api.specs.{empty_why, fallthrough_why, fault_at, unless}
+use Rattle.plugin_api.specs.Options.{every_zone}
+use Rattle.plugin_api.specs.declared.fault.DirectiveFault.{DirectiveFault}
+use Rattle.plugin_api.specs.declared.fault.DirectiveFault.TheVariants as fault
+use Rattle.plugin_api.specs.declared.fault.DirectiveWhy.{DirectiveWhy}
+use Rattle.plugin_api.specs.declared.fault.DirectiveWhy.TheVariants as why
+use Rattle.plugin_api.specs.declared.ranks.Rank.{Rank}
+use Rattle.plugin_api.specs.declared.ranks.Rank.TheVariants as rank
+use Rattle.type_names.specs.{kind_of_text}
+use Rattle.zone_file.specs.declared.fault.ZoneFault.{ZoneFault}
+use Rattle.zone_file.specs.declared.fault.ZoneFault.TheVariants as zone
+use Rattle.zone_words.specs.{zones_or}
+use Rattle.chain_meaning.specs.Accepting.{Behind, fixed_refusal, refused_by, refused_by_file}
+use Rattle.chain_meaning.specs.Steps.{file_in}
+use Rattle.chain_meaning.specs.declared.refusal.Refusal.{Refusal}
+use Rattle.chain_build.specs.declared.fault.CheckFault.{CheckFault}
+use Rattle.chain_build.specs.declared.fault.CheckFault.TheVariants as check
+use Rattle.chain_build.specs.declared.places.Places.{Places}
+use Rattle.chain_build.specs.Reading.{ReadsAs, check_behind, is_of_pattern}
+
+-- no reason of a pattern
+abbrev NoWhy : Option DirectiveWhy → Type 0
+NoWhy (Some why.Pattern) = ⊥
+NoWhy (Some why.PatternSize) = ⊥
+NoWhy other = Unit {0}
+
+abbrev NoFault : Option DirectiveFault → Type 0
+NoFault (Some (fault.Why line w)) = NoWhy (Some w)
+NoFault other = Unit {0}
+
+why_or : (a b : Option DirectiveWhy) → NoWhy a → NoWhy b → NoWhy (option_or a b)
+why_or None b p q = q
+why_or (Some w) b p q = p
+
+why_if : (t : Bool) (a b : Option DirectiveWhy) → NoWhy a → NoWhy b → NoWhy (if t then a else b)
+why_if true a b p q = p
+why_if false a b p q = q
+
+fault_or : (a b : Option DirectiveFault) → NoFault a → NoFault b → NoFault (option_or a b)
+fault_or None b p q = q
+fault_or (Some w) b p q = p
+
+at : (line : ℕ) (o : Option DirectiveWhy) → NoWhy o → NoFault (fault_at line o)
+at line None p = tt
+at line (Some w) p = p
+
+-- acl
+plain_no : (p : Part) (word : List ℕ) → NoWhy (acl.plain_why p word)
+plain_no part.Front word = tt
+plain_no part.Types word = why_if (acl.is_star word || is_some (kind_of_text word)) None (Some why.Kind) tt tt
+plain_no part.Nets word = why_if (acl.is_star word || is_some (net_of word)) None (Some why.Net) tt tt
+
+words_no : (p : Part) (words : List (List ℕ)) → NoWhy (acl.words_why p words)
+words_no p [] = tt
+words_no p (word ∷ words) =
+    why_or (acl.word_why p word) (acl.words_why (acl.part_behind p word) words) (why_if (is_some (acl.opened word)) None (acl.plain_why p word) tt (plain_no p word)) (words_no (acl.part_behind p word) words)
+
+policy_no : (words : List (List ℕ)) → NoWhy (policy_why words)
+unfolding policy_why
+policy_no [] = tt
+policy_no (word ∷ words) = why_or (acl.unless (is_some (acl.action_of word)) why.Option) (acl.words_why part.Front words) (why_if (is_some (acl.action_of word)) None (Some why.Option) tt tt) (words_no part.Front words)
+
+policies_no : (lines : List Line) → NoFault (policies_fault lines)
+policies_no [] = tt
+policies_no (line ∷ lines) = fault_or (fault_at line.number (policy_why line.words)) (policies_fault lines) (at line.number (policy_why line.words) (policy_no line.words)) (policies_no lines)
+
+body_no : (line : ℕ) (lines : List Line) → NoFault (body_fault line lines)
+body_no line [] = tt
+body_no line (first ∷ lines) = policies_no (first ∷ lines)
+
+acl_no : (d : Directive) (zones : List (List (List ℕ))) → NoFault (acl_fault d zones)
+unfolding acl_fault
+acl_no d zones =
+    let words = acl.unless (is_some (zones_or zones d.args)) why.Zone in
+    fault_or (fault_at d.line words) (body_fault d.line d.body) (at d.line words (why_if (is_some (zones_or zones d.args)) None (Some why.Zone) tt tt)) (body_no d.line d.body)
+
+-- hosts
+empty_no : (words : List (List ℕ)) → NoWhy (empty_why words)
+empty_no [] = tt
+empty_no (word ∷ words) = tt
+
+ttl_no : (words : List (List ℕ)) → NoWhy (hosts.ttl_why words)
+ttl_no [] = tt
+ttl_no (word ∷ words) = why_or (unless (is_some (ttl_in word)) why.Number) (empty_why words) (why_if (is_some (ttl_in word)) None (Some why.Number) tt tt) (empty_no words)
+
+names_no : (words : List (List ℕ)) → NoWhy (hosts.names_why words)
+names_no [] = tt
+names_no (word ∷ words) = why_or (unless (is_some (name_in word)) why.Zone) (hosts.names_why words) (why_if (is_some (name_in word)) None (Some why.Zone) tt tt) (names_no words)
+
+some_names_no : (words : List (List ℕ)) → NoWhy (hosts.some_names_why words)
+some_names_no [] = tt
+some_names_no (word ∷ words) = names_no (word ∷ words)
+
+opened_no : (seen : Seen) (o : Opens) (word : List ℕ) (words : List (List ℕ)) → NoWhy (hosts.why_by seen o word words)
+opened_no seen opens.Ttl word words = why_if seen.ttl (Some why.Args) (hosts.ttl_why words) tt (ttl_no words)
+opened_no seen opens.NoReverse word words = why_if seen.no_reverse (Some why.Args) (empty_why words) tt (empty_no words)
+opened_no seen opens.Fallthrough word words = why_if seen.fallthrough (Some why.Args) (fallthrough_why words) tt (why_if (is_some (zones_or every_zone words)) None (Some why.Zone) tt tt)
+opened_no seen opens.Addresses word words =
+    why_or (unless (is_some (addr_of word)) why.Net) (hosts.some_names_why words) (why_if (is_some (addr_of word)) None (Some why.Net) tt tt) (some_names_no words)
+
+line_no : (seen : Seen) (words : List (List ℕ)) → NoWhy (hosts.line_why seen words)
+line_no seen [] = tt
+line_no seen (word ∷ words) = opened_no seen (hosts.opened word) word words
+
+lines_no : (seen : Seen) (lines : List Line) → NoFault (hosts.lines_fault seen lines)
+lines_no seen [] = tt
+lines_no seen (line ∷ lines) =
+    fault_or (fault_at line.number (hosts.line_why seen line.words)) (hosts.lines_fault (hosts.seen_behind seen line.words) lines) (at line.number (hosts.line_why seen line.words) (line_no seen line.words))
+    (lines_no (hosts.seen_behind seen line.words) lines)
+
+hosts_no : (d : Directive) (zones : List (List (List ℕ))) → NoFault (hosts_fault d zones)
+unfolding hosts_fault
+hosts_no d zones =
+    let words = unless (is_some (zones_behind zones d.args)) why.Zone in
+    fault_or (fault_at d.line words) (hosts.lines_fault hosts.none_seen d.body) (at d.line words (why_if (is_some (zones_behind zones d.args)) None (Some why.Zone) tt tt)) (lines_no hosts.none_seen d.body)
+
+-- those without a body
+duration_no : (word : List ℕ) → NoWhy (duration_why word)
+duration_no word = why_if (is_some (duration_of word)) None (Some why.Number) tt tt
+
+reload_no : (words : List (List ℕ)) → NoWhy (reload_why words)
+reload_no [] = tt
+reload_no (a ∷ []) = duration_no a
+reload_no (a ∷ b ∷ []) = why_or (duration_why a) (duration_why b) (duration_no a) (duration_no b)
+reload_no (a ∷ b ∷ word ∷ words) = why_or (option_or (duration_why a) (duration_why b)) (Some why.Args) (why_or (duration_why a) (duration_why b) (duration_no a) (duration_no b)) tt
+
+none_no : (words : List (List ℕ)) → NoWhy (plain.no_words_why words)
+none_no [] = tt
+none_no (word ∷ words) = tt
+
+bare_no : (lines : List Line) → NoWhy (plain.no_body_why lines)
+bare_no [] = tt
+bare_no (line ∷ lines) = tt
+
+plain_words_no : (r : Rank) (zones : List (List (List ℕ))) (words : List (List ℕ)) → NoWhy (plain.words_why r zones words)
+plain_words_no rank.Reload zones words = reload_no words
+plain_words_no rank.Log zones words = why_if (is_some (zones_or zones words)) None (Some why.Zone) tt tt
+plain_words_no other zones words = none_no words
+
+plain_why_no : (r : Rank) (zones : List (List (List ℕ))) (d : Directive) → NoWhy (plain.plain_why r zones d)
+plain_why_no rank.Passive zones d = tt
+plain_why_no other zones d = why_or (plain.words_why other zones d.args) (plain.no_body_why d.body) (plain_words_no other zones d.args) (bare_no d.body)
+
+plain_fault_no : (r : Rank) (d : Directive) (zones : List (List (List ℕ))) → NoFault (plain_fault r d zones)
+unfolding plain_fault
+plain_fault_no r d zones = at d.line (plain.plain_why r zones d) (plain_why_no r zones d)
+
+-- file
+abbrev NoFile : Option FileFault → Type 0
+NoFile (Some (broken.Directive f)) = NoFault (Some f)
+NoFile other = Unit {0}
+
+file_or : (a b : Option FileFault) → NoFile a → NoFile b → NoFile (option_or a b)
+file_or None b p q = q
+file_or (Some w) b p q = p
+
+file_at : (line : ℕ) (o : Option DirectiveWhy) → NoWhy o → NoFile (file.fault_at line o)
+file_at line None p = tt
+file_at line (Some w) p = p
+
+told_no : (line : ℕ) (f : ZoneFault) → NoFile (Some (file.told_at line f))
+told_no line (zone.Bad number w) = tt
+told_no line zone.TooMany = tt
+told_no line zone.NoMemory = tt
+
+refusal_no : {A : Type 0} (line : ℕ) (read : Result A ZoneFault) → NoFile (file.refusal_in line read)
+refusal_no line (Ok zones) = tt
+refusal_no line (Err f) = told_no line f
+
+text_no : (line : ℕ) (origins : List (List (List ℕ))) (text : Option (List ℕ)) → NoFile (file.text_fault line origins text)
+text_no line origins None = tt
+text_no line origins (Some text) = refusal_no line (zones_from text [] origins)
+
+file_words_no : (zones : List (List (List ℕ))) (words : List (List ℕ)) → NoWhy (file.words_why zones words)
+file_words_no zones [] = tt
+file_words_no zones (word ∷ words) = why_if (is_some (origins_or zones (word ∷ words))) None (Some why.Zone) tt tt
+
+file_body_no : (lines : List Line) → NoWhy (file.body_why lines)
+file_body_no [] = tt
+file_body_no (line ∷ lines) = tt
+
+file_no : (before : List FileData) (d : Directive) (zones : List (List (List ℕ))) (text : Option (List ℕ)) → NoFile (file_fault before d zones text)
+unfolding file_fault
+file_no before d zones text =
+    let origins = origins_of zones d.args in
+    file_or (file.fault_at d.line (file.directive_why before d zones)) (file.text_fault d.line origins text)
+    (file_at d.line (file.directive_why before d zones)
+    (why_or (option_or (file.words_why zones d.args) (file.body_why d.body)) (file.double_why before origins) (why_or (file.words_why zones d.args) (file.body_why d.body) (file_words_no zones d.args) (file_body_no d.body))
+    (why_if (file.some_has before origins) (Some why.DoubleZone) None tt tt)))
+    (text_no d.line origins text)
+
+-- so no refusal is that of a pattern
+abbrev NoRefusal : Option Refusal → Type 0
+NoRefusal None = Unit {0}
+NoRefusal (Some refused) = is_of_pattern refused ≡ false
+
+why_refused : (line : ℕ) (w : DirectiveWhy) → NoWhy (Some w) → NoRefusal (refused_by (Some (fault.Why line w)))
+why_refused line why.Pattern p = absurd p
+why_refused line why.PatternSize p = absurd p
+why_refused line other p = refl
+
+refused_no : (o : Option DirectiveFault) → NoFault o → NoRefusal (refused_by o)
+refused_no None p = tt
+refused_no (Some (fault.Why line w)) p = why_refused line w p
+refused_no (Some (fault.TooMany what number)) p = refl
+refused_no (Some fault.NoMemory) p = tt
+
+refused_file_no : (o : Option FileFault) → NoFile o → NoRefusal (refused_by_file o)
+refused_file_no None p = tt
+refused_file_no (Some (broken.Directive f)) p = refused_no (Some f) p
+refused_file_no (Some (broken.Zone line number w)) p = refl
+
+fixed_no : (r : Rank) (b : Behind) (d : Directive) → NoRefusal (fixed_refusal r b d)
+fixed_no rank.Acl b d = refused_no (acl_fault d b.context.zones) (acl_no d b.context.zones)
+fixed_no rank.Hosts b d = refused_no (hosts_fault d b.context.zones) (hosts_no d b.context.zones)
+fixed_no rank.File b d = refused_file_no _ (file_no _ d b.context.zones (file_in b.context.files d))
+fixed_no rank.Dns64 b d = refl
+fixed_no rank.Extra b d = refl
+fixed_no rank.Cache b d = refl
+fixed_no rank.Forward b d = refl
+fixed_no other b d = refused_no (plain_fault other d b.context.zones) (plain_fault_no other d b.context.zones)
+
+refusals_same : (refused : Refusal) (state : WatchState) → is_of_pattern refused ≡ false → state ≡ check_behind {X = Unit {0}} (Err (check.Refused refused)) state
+refusals_same refused state e = rw e refl
+
+-- reading such a directive leaves the maker as it was
+pub fixed_maker : (r : Rank) (b : Behind) (d : Directive) (old new : Places) (result : Result (Unit {0}) CheckFault) → ReadsAs r b d old new result → (state : WatchState) → state ≡ check_behind result state
+fixed_maker r b d old new (Ok done) h state = refl
+fixed_maker r b d old new (Err (check.Refused refused)) h state = refusals_same refused state (subst NoRefusal h (fixed_no r b d))
+fixed_maker r b d old new (Err check.NoMemory) h state = refl

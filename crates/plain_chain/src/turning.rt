@@ -1,0 +1,102 @@
+ghost use Rattle.std.specs.Prelude.{◌≡◌, Some, None, IfOk};
+ghost use Rattle.dns_data.specs.Message.{no_answer};
+ghost use Rattle.dns_wire.specs.{QueriesThis};
+ghost use Rattle.plain_chain.specs.Reading.{IsWhole};
+ghost use Rattle.plain_chain.specs.Serving.{GivesAnswer};
+ghost use Rattle.plain_chain.specs.Turning.{Turns};
+
+use crate::deciding::decide;
+use crate::meant::Meant;
+use crate::reading::PlainRead;
+use chain_build::{header_reply, limit_of, opt_reply, query_of, reply_message, upper_code};
+use chain_meaning::{Decision, number};
+use dns_data::{Buffer, NoMemory, Slot, rcode};
+use dns_wire::{Asked, QueryFault, read_asked};
+use dns_write::write_parts;
+use outside::{Datagram, Mark};
+use std::alloc::Global;
+
+/// What a datagram means by a list of marks.
+#[derive(Debug, Drop)]
+pub enum PlainTurn<'a> {
+    /// The reply's bytes, where there is one, and the marks that are left.
+    Done(Option<Buffer>, &'a [Mark]),
+    /// The marks end too early.
+    More,
+    /// The marks from the first one on that is another than what is taken there.
+    Off(&'a [Mark]),
+}
+
+/// What a datagram means by a list of marks, under what was read of a bundle.
+pub fn plain_turn<'a>(
+    alloc: Global,
+    read: &PlainRead<'_>,
+    datagram: &Datagram,
+    marks: &'a [Mark],
+) -> Result<PlainTurn<'a>, NoMemory>
+    requires { IsWhole read.now }
+    ensures { Turns read.now.files.now read.now.blocks datagram.now marks.now result }
+{
+    match read_asked(alloc, datagram.bytes.as_slice()) {
+        Ok(asked) => reply(alloc, read, datagram, asked, marks),
+        Err(QueryFault::Short) => Ok(PlainTurn::Done(None, marks)),
+        Err(QueryFault::Response) => Ok(PlainTurn::Done(None, marks)),
+        Err(QueryFault::NotImp(head)) => {
+            let bytes = header_reply(alloc, head, rcode::NOTIMP)?;
+            Ok(PlainTurn::Done(Some(bytes), marks))
+        }
+        Err(QueryFault::FormErr(head)) => {
+            let bytes = header_reply(alloc, head, rcode::FORMERR)?;
+            Ok(PlainTurn::Done(Some(bytes), marks))
+        }
+        Err(QueryFault::NoMemory) => Err(NoMemory),
+    }
+}
+
+// The reply to what a query asks.
+fn reply<'a>(
+    alloc: Global,
+    read: &PlainRead<'_>,
+    datagram: &Datagram,
+    asked: Asked,
+    marks: &'a [Mark],
+) -> Result<PlainTurn<'a>, NoMemory>
+    requires whole { IsWhole read.now }
+    requires asks { QueriesThis datagram.now.bytes asked }
+    ensures { Turns read.now.files.now read.now.blocks datagram.now marks.now result }
+{
+    let (id, class, opt) = (asked.id, asked.question.class, asked.opt);
+    let limit = limit_of(datagram.by, opt);
+    let query = query_of(datagram, asked);
+    let (decision, left) = match decide(alloc, read, opt, class, &query, marks)? {
+        Meant::Done(decision, left) => (decision, left),
+        Meant::More => return Ok(PlainTurn::More),
+        Meant::Off(left) => return Ok(PlainTurn::Off(left)),
+    };
+    let mut slot = Slot::new(alloc);
+    if !fill(alloc, &decision, &mut slot)? {
+        return Ok(PlainTurn::Done(None, left));
+    }
+    let opt = opt_reply(upper_code(opt), opt);
+    let parts = reply_message(id, class, opt, &query, &slot);
+    let bytes = write_parts(alloc, Buffer::new(alloc), &parts, limit)?;
+    Ok(PlainTurn::Done(Some(bytes), left))
+}
+
+// Leaves the answer of a decision in the slot, where it has a reply.
+fn fill(alloc: Global, decision: &Decision, slot: &mut Slot) -> Result<bool, NoMemory>
+    requires clear { slot.old ≡ no_answer }
+    ensures { IfOk result (GivesAnswer decision.now slot.new) }
+{
+    match decision {
+        Decision::Reply(answer) => {
+            slot.fill(alloc, answer)?;
+            Ok(true)
+        }
+        Decision::Code(code, _) => {
+            slot.rcode = number(*code);
+            Ok(true)
+        }
+        Decision::Drop => Ok(false),
+    }
+}

@@ -4,8 +4,8 @@ use Rattle.std.specs.Prelude.{◌||◌}
 use Rattle.std.specs.List.{list_any, AllByRecursion}
 use Rattle.std.proofs.lemmas.Bool.{ltb-false}
 use Rattle.outside.specs.States.{SideState}
-use Rattle.query_worker.specs.declared.worker.WorkEnd.{WorkEnd}
-use Rattle.query_worker.specs.declared.worker.WorkEnd.TheVariants as ends
+use Rattle.run_meaning.specs.declared.work_end.WorkEnd.{WorkEnd}
+use Rattle.run_meaning.specs.declared.work_end.WorkEnd.TheVariants as ends
 use Rattle.dns_server.specs.declared.report.Done.{Done}
 use Rattle.dns_server.specs.Report.{NeverStarved, SomeFailed, TookAll, is_failed, is_starved}
 use Rattle.dns_server.specs.States.{side_runs}

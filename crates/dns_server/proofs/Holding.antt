@@ -19,12 +19,13 @@ use Rattle.pin_table.specs.Known.{fresh, last_below, serial_at, serials_by, seri
 use Rattle.pin_table.specs.Opening.{opened_plan}
 use Rattle.pin_table.specs.Shown.{IsSweep}
 use Rattle.query_worker.specs.{pinned_by}
-use Rattle.reload_watch.specs.declared.look_answer.Looking.{Looking}
-use Rattle.reload_watch.specs.declared.look_answer.Looking.TheVariants as looking
-use Rattle.reload_watch.specs.Look.{AnswersLook, Standing}
+use Rattle.run_meaning.specs.declared.looking.Looking.{Looking}
+use Rattle.run_meaning.specs.declared.looking.Looking.TheVariants as looking
+use Rattle.run_meaning.specs.Answers.{AnswersLook, Standing}
 use Rattle.reload_watch.specs.Placing.{IsPlaced}
 use Rattle.reload_watch.specs.Sweeps.{HasSwept, SweptFor}
-use Rattle.reload_watch.specs.WatchTurn.{WatchTurn, AreLooks, AreSwept, IsLook, IsSweptTurn, looked, starved, published_by}
+use Rattle.reload_watch.specs.WatchTurn.{AreSwept, IsSweptTurn}
+use Rattle.run_meaning.specs.WatchTurn.{WatchTurn, AreLooks, IsLook, looked, starved, published_by}
 use Rattle.dns_server.specs.Holding.{AreHeld, IsHeld, IsHeldFor, IsHeldTurn}
 
 -- once the first chains are published

@@ -17,10 +17,13 @@ use Rattle.pin_table.specs.declared.passes.Pass.{Pass}
 use Rattle.pin_table.specs.declared.views.PassView.{PassView}
 use Rattle.pin_table.specs.{AreGiven, Identity, Keeps, id_of, pass_of, views_of}
 use Rattle.pin_table.specs.Known.{filled_at}
-use Rattle.query_worker.specs.declared.worker.WorkEnd.{WorkEnd}
-use Rattle.query_worker.specs.declared.worker.WorkEnd.TheVariants as ends
+use Rattle.run_meaning.specs.declared.work_end.WorkEnd.{WorkEnd}
+use Rattle.run_meaning.specs.declared.work_end.WorkEnd.TheVariants as ends
 use Rattle.query_worker.specs.declared.worker.Worker.{Worker}
-use Rattle.query_worker.specs.{AreOf, IsLawful, IsOfPass, PastPin, WorkerRun, last_seen, lawful_of, pinned_by, run_as, worked_of}
+use Rattle.query_worker.specs.{AreOf, IsOfPass, PastPin, last_seen, lawful_of, pinned_by, run_as}
+use Rattle.query_worker.specs.{worked_of}
+use Rattle.run_meaning.specs.Turn.{IsLawful}
+use Rattle.run_meaning.specs.Workers.{WorkerRun}
 use Rattle.reload_watch.specs.{AreFilledBy}
 use Rattle.reload_watch.specs.Filled.{IsOf}
 use Rattle.dns_server.specs.declared.report.Done.{Done}

@@ -19,7 +19,9 @@ use Rattle.pin_core.specs.{OnePinRun, pin_marks}
 use Rattle.pin_table.specs.Closing.{IsClosed, IsTraced, joined_marks, joined_plan}
 use Rattle.pin_table.specs.Opening.{IsOpened}
 use Rattle.query_worker.specs.{pinned_by}
-use Rattle.reload_watch.specs.{AreFilledBy, AreLooks, EndsWatch, IsPlaced, all_starved}
+use Rattle.reload_watch.specs.{AreFilledBy, IsPlaced}
+use Rattle.run_meaning.specs.WatchTurn.{AreLooks, all_starved}
+use Rattle.run_meaning.specs.WatchRun.{EndsWatch}
 use Rattle.reload_watch.specs.declared.watcher.Watcher.{Watcher}
 use Rattle.dns_server.specs.declared.finishing.Opened.{Opened}
 use Rattle.dns_server.specs.declared.report.Done.{Done}

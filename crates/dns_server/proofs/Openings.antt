@@ -23,11 +23,15 @@ use Rattle.chain_meaning.specs.Accepting.{IsAccepted}
 use Rattle.chain_meaning.specs.declared.refusal.Refusal.{Refusal}
 use Rattle.reload_watch.specs.declared.fault.ReadFault.{ReadFault}
 use Rattle.reload_watch.specs.declared.fault.ReadFault.TheVariants as fault
-use Rattle.reload_watch.specs.declared.look_answer.Looking.{Looking}
-use Rattle.reload_watch.specs.declared.look_answer.Looking.TheVariants as looking
-use Rattle.reload_watch.specs.Look.{AnswersLook, Standing}
-use Rattle.reload_watch.specs.{AreLooks, EndsWatch, IsReading, ReadsFirst, ReadsPlans, RoseWithin, TellsLooks, all_refused, all_starved, bundles_of, refusals_first, published_by, refusals_by, watch_marks}
-use Rattle.reload_watch.specs.WatchTurn.{WatchTurn, IsLook, gathered, looked, published_as, starved}
+use Rattle.run_meaning.specs.declared.looking.Looking.{Looking}
+use Rattle.run_meaning.specs.declared.looking.Looking.TheVariants as looking
+use Rattle.run_meaning.specs.Answers.{AnswersLook, Standing}
+use Rattle.reload_watch.specs.{ReadsFirst, ReadsPlans, RoseWithin, all_refused, refusals_first}
+use Rattle.reload_watch.specs.{refusals_by}
+use Rattle.run_meaning.specs.WatchTurn.{AreLooks, all_starved, bundles_of, published_by}
+use Rattle.run_meaning.specs.WatchTurn.{watch_marks}
+use Rattle.run_meaning.specs.WatchRun.{EndsWatch, IsReading, TellsLooks}
+use Rattle.run_meaning.specs.WatchTurn.{WatchTurn, IsLook, gathered, looked, published_as, starved}
 use Rattle.dns_server.specs.declared.status.Status.{Status}
 use Rattle.dns_server.specs.declared.status.Status.TheVariants as status
 use Rattle.dns_server.specs.Opening.{BeginsSides, OpensAll, OpensSome, RefusesSides, TakesSides, scripts_of, side_count, sides_of, told_sides}

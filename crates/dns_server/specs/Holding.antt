@@ -2,9 +2,9 @@
 use Rattle.std.specs.Prelude.{◌≡◌, ◌≢◌, ◌⊎◌, ℕ, ◌-◌, List, [], ◌∷◌, ◌++◌, length, Some}
 use Rattle.corefile_blocks.specs.declared.bundle.Bundle.{Bundle}
 use Rattle.pin_table.specs.Known.{last_below}
-use Rattle.reload_watch.specs.declared.look_answer.Looking.{Looking}
-use Rattle.reload_watch.specs.declared.look_answer.Looking.TheVariants as looking
-use Rattle.reload_watch.specs.WatchTurn.{WatchTurn, looked, starved, published_by}
+use Rattle.run_meaning.specs.declared.looking.Looking.{Looking}
+use Rattle.run_meaning.specs.declared.looking.Looking.TheVariants as looking
+use Rattle.run_meaning.specs.WatchTurn.{WatchTurn, looked, starved, published_by}
 
 -- one of the workers pinned this serial last among those below `last`; these are the serials of
 -- each worker's pins, the last one first

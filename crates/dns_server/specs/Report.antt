@@ -18,16 +18,22 @@ use Rattle.corefile_blocks.specs.Ports.{ArePorts}
 use Rattle.corefile_bundle.specs.declared.fault.GatherFault.{GatherFault}
 use Rattle.corefile_bundle.specs.declared.fault.GatherFault.TheVariants as unread
 use Rattle.corefile_bundle.specs.Gathering.{GathersFrom, OneRead, marks_of}
-use Rattle.query_worker.specs.declared.worker.WorkEnd.{WorkEnd}
-use Rattle.query_worker.specs.declared.worker.WorkEnd.TheVariants as ends
+use Rattle.run_meaning.specs.declared.work_end.WorkEnd.{WorkEnd}
+use Rattle.run_meaning.specs.declared.work_end.WorkEnd.TheVariants as ends
 use Rattle.pin_core.specs.{OnePinRun, PinMark, pin_marks}
-use Rattle.query_worker.specs.{IsLawful, WorkerRun, last_seen}
+use Rattle.query_worker.specs.{last_seen}
+use Rattle.run_meaning.specs.Turn.{IsLawful}
+use Rattle.run_meaning.specs.Workers.{WorkerRun}
 use Rattle.reload_watch.specs.declared.fault.ReadFault.{ReadFault}
 use Rattle.reload_watch.specs.declared.fault.ReadFault.TheVariants as fault
 use Rattle.chain_build.specs.{PlansData}
-use Rattle.reload_watch.specs.WatchTurn.{WatchTurn}
-use Rattle.reload_watch.specs.{AreLooks, EndsWatch, ReadsPlans, Refuses, RoseWithin, WatchGoesOn}
-use Rattle.reload_watch.specs.{all_refused, all_starved, bundles_of, refusals_by, watch_marks}
+use Rattle.run_meaning.specs.WatchTurn.{WatchTurn}
+use Rattle.reload_watch.specs.{ReadsPlans, RoseWithin, WatchGoesOn}
+use Rattle.run_meaning.specs.WatchTurn.{AreLooks}
+use Rattle.run_meaning.specs.WatchRun.{EndsWatch}
+use Rattle.run_meaning.specs.Answers.{Refuses}
+use Rattle.reload_watch.specs.{all_refused, refusals_by}
+use Rattle.run_meaning.specs.WatchTurn.{all_starved, bundles_of, watch_marks}
 use Rattle.dns_server.specs.declared.report.Ran.{Ran}
 use Rattle.chain_meaning.specs.declared.refusal.Refusal.{Refusal}
 use Rattle.dns_server.specs.declared.status.Status.{Status}

@@ -14,11 +14,11 @@ use Rattle.pin_table.specs.declared.passes.Pass.{Pass}
 use Rattle.pin_table.specs.declared.table.PinTable.{PinTable}
 use Rattle.pin_table.specs.{ArePasses, IsPassOf, count_of, id_of, pass_of, plan_of}
 use Rattle.pin_table.specs.Opening.{new_pass}
-use Rattle.query_worker.specs.declared.worker.WorkEnd.{WorkEnd}
+use Rattle.run_meaning.specs.declared.work_end.WorkEnd.{WorkEnd}
 use Rattle.query_worker.specs.declared.worker.Worker.{Worker}
 use Rattle.query_worker.specs.{IsIdle, IsResting, WorksToEnd, worker_state}
 use Rattle.query_worker.specs as working
-use Rattle.reload_watch.specs.declared.turns.WatchEnd.{WatchEnd}
+use Rattle.run_meaning.specs.declared.watch_end.WatchEnd.{WatchEnd}
 use Rattle.reload_watch.specs.declared.watcher.Watcher.{Watcher}
 use Rattle.reload_watch.specs.{IsKeeping, Watches, source_data, watcher_state}
 use Rattle.dns_server.specs.declared.report.Done.{Done}

@@ -4,7 +4,7 @@ use Rattle.outside.specs.States.{SideState}
 use Rattle.command_line.specs.Command.{ServeData}
 use Rattle.corefile_words.specs.declared.word.Pair.{Pair}
 use Rattle.corefile_bundle.specs.Gathering.{Source}
-use Rattle.query_worker.specs.{Worked}
+use Rattle.run_meaning.specs.Workers.{Worked}
 use Rattle.reload_watch.specs.{source_data}
 use Rattle.dns_server.specs.declared.setup.Setup.{Setup}
 use Rattle.dns_server.specs.declared.report.Done.{Done}

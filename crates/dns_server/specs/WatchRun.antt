@@ -6,9 +6,12 @@ use Rattle.outside.specs.declared.mark.WatchMark.{WatchMark}
 use Rattle.outside.specs.Causes.{RoseJust}
 use Rattle.outside.specs.States.{WatchState}
 use Rattle.corefile_blocks.specs.declared.bundle.Bundle.{Bundle}
-use Rattle.reload_watch.specs.WatchTurn.{WatchTurn}
-use Rattle.reload_watch.specs.{AreLooks, IsReading, RoseWithin, TellsLooks}
-use Rattle.reload_watch.specs.{all_refused, all_starved, published_by}
+use Rattle.run_meaning.specs.WatchTurn.{WatchTurn}
+use Rattle.reload_watch.specs.{RoseWithin}
+use Rattle.run_meaning.specs.WatchTurn.{AreLooks}
+use Rattle.run_meaning.specs.WatchRun.{IsReading, TellsLooks}
+use Rattle.reload_watch.specs.{all_refused}
+use Rattle.run_meaning.specs.WatchTurn.{all_starved, published_by}
 use Rattle.dns_server.specs.States.{RunSetup}
 
 -- where the watch tells its journal, that is so

@@ -7,7 +7,7 @@ ghost use Rattle.dns_server.specs.States.{side_runs};
 use crate::report::Done;
 use crate::status::Status;
 use outside::Side;
-use query_worker::WorkEnd;
+use run_meaning::WorkEnd;
 
 /// The status of a run, by how its workers ended and how often they and the looks met want of
 /// memory.

@@ -15,8 +15,8 @@ mod status;
 mod telling;
 
 pub use chain_meaning::Refusal;
-pub use query_worker::WorkEnd;
 pub use report::{Done, Report};
+pub use run_meaning::WorkEnd;
 pub use running::run;
 pub use status::Status;
 pub use telling::tell_status;

@@ -1,6 +1,6 @@
 use crate::status::Status;
 use outside::Host;
-use query_worker::WorkEnd;
+use run_meaning::WorkEnd;
 
 /// A side whose worker has ended.
 #[derive(Drop)]

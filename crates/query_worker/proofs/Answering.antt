@@ -13,7 +13,7 @@ use Rattle.chain_meaning.specs.declared.served.Served.TheVariants.{Reply, Silent
 use Rattle.chain_build.specs.declared.chain.Chain.{Chain}
 use Rattle.chain_build.specs.{TellsServing, plans_of}
 use Rattle.query_worker.specs.declared.turn.Turned.{Turned}
-use Rattle.query_worker.specs.Turn.{replied, silenced, starved}
+use Rattle.run_meaning.specs.Turn.{replied, silenced, starved}
 use Rattle.query_worker.specs.Worker.{AddsTurn, SendsServed, pin_of}
 
 -- a pin of this serial gave the chain, and it came home: what the pass knows then

@@ -4,8 +4,8 @@ use Rattle.outside.specs.Causes.{Rose}
 use Rattle.query_worker.specs.declared.turn.Turned.{Turned}
 use Rattle.query_worker.specs.declared.turn.Turned.TheVariants as turned
 use Rattle.query_worker.specs.declared.worker.Tally.{Tally}
-use Rattle.query_worker.specs.declared.worker.WorkEnd.{WorkEnd}
-use Rattle.query_worker.specs.declared.worker.WorkEnd.TheVariants as ends
+use Rattle.run_meaning.specs.declared.work_end.WorkEnd.{WorkEnd}
+use Rattle.run_meaning.specs.declared.work_end.WorkEnd.TheVariants as ends
 use Rattle.query_worker.specs.Tally.{TurnEnds, IsIdle, tallied}
 
 -- what a worker counted, beside how often its side's `recv` failed

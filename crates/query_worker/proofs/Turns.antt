@@ -13,14 +13,18 @@ use Rattle.chain_build.specs.declared.chain.Chain.{Chain}
 use Rattle.query_worker.specs.declared.turn.Turned.{Turned}
 use Rattle.query_worker.specs.declared.turn.Turned.TheVariants as turned
 use Rattle.query_worker.specs.declared.worker.Tally.{Tally}
-use Rattle.query_worker.specs.declared.worker.WorkEnd.{WorkEnd}
-use Rattle.query_worker.specs.declared.worker.WorkEnd.TheVariants as ends
+use Rattle.run_meaning.specs.declared.work_end.WorkEnd.{WorkEnd}
+use Rattle.run_meaning.specs.declared.work_end.WorkEnd.TheVariants as ends
 use Rattle.query_worker.specs.Laws.{all_as}
-use Rattle.query_worker.specs.Pins.{PastPin, IsByPin, IsOfPass, TakeUnder, TellsPins, CountsPins, last_seen, pinned_by}
+use Rattle.query_worker.specs.Pins.{PastPin, IsByPin, IsOfPass, TakeUnder, TellsPins, CountsPins}
+use Rattle.query_worker.specs.Pins.{last_seen, pinned_by}
 use Rattle.query_worker.specs.States.{worked_of}
 use Rattle.query_worker.specs.Tally.{TurnEnds, IsIdle, tallied, with_miss, starved_in_row}
-use Rattle.query_worker.specs.Turn.{Turn, failed, unread, replied, silenced, starved, marks_of, datagrams, starved_in, serials, NeverFall, total}
-use Rattle.query_worker.specs.Worker.{TakesOne, AddsTurn, Ending, last_row, last_unread, HasNoLongRow, NoneBehind, AreTurns, WorkerRun, pin_of}
+use Rattle.run_meaning.specs.Turn.{Turn, failed, unread, replied, silenced, starved, marks_of}
+use Rattle.run_meaning.specs.Turn.{datagrams, starved_in, serials, NeverFall, total}
+use Rattle.query_worker.specs.Worker.{TakesOne, AddsTurn, pin_of}
+use Rattle.run_meaning.specs.Workers.{Ending, last_row, last_unread, HasNoLongRow, NoneBehind}
+use Rattle.run_meaning.specs.Workers.{AreTurns, WorkerRun}
 
 total-push : (count : Turn → ℕ) (turns : List Turn) (turn : Turn) → total count (turns ++ turn ∷ []) ≡ total count turns + count turn
 total-push count [] turn = omega arith

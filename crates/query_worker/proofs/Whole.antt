@@ -10,7 +10,7 @@ use Rattle.chain_build.specs.declared.chain.Chain.{Chain}
 use Rattle.query_worker.specs.declared.turn.Turned.{Turned}
 use Rattle.query_worker.specs.declared.turn.Turned.TheVariants as turned
 use Rattle.query_worker.specs.declared.worker.Tally.{Tally}
-use Rattle.query_worker.specs.declared.worker.WorkEnd.{WorkEnd}
+use Rattle.run_meaning.specs.declared.work_end.WorkEnd.{WorkEnd}
 use Rattle.query_worker.specs.States.{WorkerState}
 use Rattle.query_worker.specs.Tally.{TurnEnds, IsIdle}
 use Rattle.query_worker.specs.Worker.{AddsTurn, TakesTurn, WorksToEnd}

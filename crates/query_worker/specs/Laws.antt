@@ -15,10 +15,11 @@ use Rattle.chain_build.specs.declared.chain.Chain.{Chain}
 use Rattle.chain_build.specs.{chain_identity, chain_log, plans_of}
 use Rattle.query_worker.specs.declared.worker.Worker.{Worker}
 use Rattle.query_worker.specs.Pins.{PastPin, OfPin, IsPinFor, IsOfPass, IsOf, AreOf, IsReady}
-use Rattle.query_worker.specs.States.{Worked}
+use Rattle.run_meaning.specs.Workers.{Worked}
 use Rattle.query_worker.specs.Tally.{IsIdle}
-use Rattle.query_worker.specs.Turn.{Turn, failed, unread, replied, silenced, starved, IsLawful, IsPublished}
-use Rattle.query_worker.specs.Worker.{WorkerRun}
+use Rattle.run_meaning.specs.Turn.{Turn, failed, unread, replied, silenced, starved, IsLawful}
+use Rattle.run_meaning.specs.Turn.{IsPublished}
+use Rattle.run_meaning.specs.Workers.{WorkerRun}
 
 -- what holds of each holds of each in the other way too
 pub all_as : (P Q : Turn → Type 0) → ((turn : Turn) → P turn → Q turn) → (turns : List Turn)

@@ -1,5 +1,4 @@
 pub mod States
-pub mod Turn
 pub mod Tally
 pub mod Pins
 pub mod Worker
@@ -8,7 +7,6 @@ pub mod Laws
 pub use Rattle.query_worker.specs.Laws.{lawful_of, ready_of, run_as}
 pub use Rattle.query_worker.specs.Pins.{AreOf, CountsPins, IsOf, IsOfPass, IsReady, IsResting}
 pub use Rattle.query_worker.specs.Pins.{OfPin, PastPin, TellsPins, last_seen, pinned_by}
-pub use Rattle.query_worker.specs.States.{WorkerState, Worked, worked_of, worker_state}
+pub use Rattle.query_worker.specs.States.{WorkerState, worked_of, worker_state}
 pub use Rattle.query_worker.specs.Tally.{IsIdle}
-pub use Rattle.query_worker.specs.Turn.{IsLawful, IsPublished}
-pub use Rattle.query_worker.specs.Worker.{AddsTurn, TakesTurn, WorkerRun, WorksToEnd}
+pub use Rattle.query_worker.specs.Worker.{AddsTurn, TakesTurn, WorksToEnd}

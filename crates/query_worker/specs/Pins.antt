@@ -18,7 +18,7 @@ use Rattle.chain_build.specs.{chain_identity, chain_log, plans_of}
 use Rattle.query_worker.specs.declared.worker.Tally.{Tally}
 use Rattle.query_worker.specs.declared.worker.Worker.{Worker}
 use Rattle.query_worker.specs.Tally.{IsIdle}
-use Rattle.query_worker.specs.Turn.{Turn, failed, unread, replied, silenced, starved, marks_of}
+use Rattle.run_meaning.specs.Turn.{Turn, failed, unread, replied, silenced, starved, marks_of}
 
 -- the serials that a pass has pinned, the last one first
 abbrev pub pinned_by : PassView Chain → List ℕ

@@ -1,12 +1,12 @@
 -- What a worker is at a moment. Relations speak of it, before and after.
-use Rattle.std.specs.Prelude.{ℕ}
 use Rattle.outside.specs.States.{SideState}
 use Rattle.pin_table.specs.declared.views.PassView.{PassView}
 use Rattle.pin_table.specs.{pass_of}
 use Rattle.chain_build.specs.declared.chain.Chain.{Chain}
 use Rattle.query_worker.specs.declared.worker.Tally.{Tally}
-use Rattle.query_worker.specs.declared.worker.WorkEnd.{WorkEnd}
+use Rattle.run_meaning.specs.declared.work_end.WorkEnd.{WorkEnd}
 use Rattle.query_worker.specs.declared.worker.Worker.{Worker}
+use Rattle.run_meaning.specs.Workers.{Worked}
 
 -- a worker: its side, what its pass knows, and what it has counted
 pub record WorkerState : Type 0 where
@@ -17,14 +17,6 @@ pub record WorkerState : Type 0 where
 abbrev pub worker_state : {S : Type 0} → (S → SideState) → Worker S → WorkerState
 worker_state state worker =
     record { side = state worker.side; pass = pass_of worker.pass; tally = worker.tally }
-
--- how a worker ended: how many datagrams it took, each under a pin of its own, the last serial that
--- it has seen, and in how many turns it met want of memory
-pub record Worked : Type 0 where
-  pub taken : ℕ
-  pub seen : ℕ
-  pub starved : ℕ
-  pub end : WorkEnd
 
 abbrev pub worked_of : Tally → WorkEnd → Worked
 worked_of tally end =

@@ -4,8 +4,8 @@ use Rattle.dns_data.specs.declared.limit.TheConstants as limits
 use Rattle.query_worker.specs.declared.worker.Tally.{Tally}
 use Rattle.query_worker.specs.declared.turn.Turned.{Turned}
 use Rattle.query_worker.specs.declared.turn.Turned.TheVariants as turned
-use Rattle.query_worker.specs.declared.worker.WorkEnd.{WorkEnd}
-use Rattle.query_worker.specs.declared.worker.WorkEnd.TheVariants as ends
+use Rattle.run_meaning.specs.declared.work_end.WorkEnd.{WorkEnd}
+use Rattle.run_meaning.specs.declared.work_end.WorkEnd.TheVariants as ends
 
 -- a worker that has done nothing yet
 abbrev pub IsIdle : Tally → Type 0

@@ -8,5 +8,5 @@ mod working;
 
 pub use chain_build::{Chain, Room};
 pub use turn::{Turned, take_turn};
-pub use worker::{Tally, WorkEnd, Worker};
+pub use worker::{Tally, Worker};
 pub use working::{work, work_once};

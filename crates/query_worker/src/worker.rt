@@ -5,16 +5,8 @@ ghost use Rattle.query_worker.specs.Tally.{DatagramEnds, IsIdle, RowEnds, with_d
 use chain_build::{Chain, Room};
 use dns_data::limit;
 use pin_table::Pass;
+use run_meaning::WorkEnd;
 use std::alloc::Global;
-
-/// How a worker ended: it took the last datagram, it met 64 failing calls of `recv` in a row, or 64
-/// in a row failed or met want of memory, and at least one of them want of memory.
-#[derive(Clone, Copy, Debug, PartialEq, Eq)]
-pub enum WorkEnd {
-    End,
-    RecvFailed,
-    NoMemory,
-}
 
 /// What a worker counts.
 #[derive(Clone, Copy, Debug, PartialEq, Eq)]

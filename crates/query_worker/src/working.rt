@@ -6,10 +6,11 @@ ghost use Rattle.query_worker.specs.States.{worker_state};
 ghost use Rattle.query_worker.specs.Worker.{TakesTurn, WorksToEnd};
 
 use crate::turn::{Turned, take_turn};
-use crate::worker::{WorkEnd, Worker};
+use crate::worker::Worker;
 use chain_build::Chain;
 use outside::Side;
 use pin_table::PinTable;
+use run_meaning::WorkEnd;
 use std::alloc::Global;
 use std::sync::Wait;
 

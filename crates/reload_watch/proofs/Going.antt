@@ -11,8 +11,8 @@ use Rattle.chain_meaning.specs.declared.refusal.Refusal.{Refusal}
 use Rattle.chain_build.specs.{PlansData, is_of_pattern}
 use Rattle.reload_watch.specs.declared.found.Found.{Found}
 use Rattle.reload_watch.specs.declared.found.Found.TheVariants.{Kept}
-use Rattle.reload_watch.specs.declared.look_answer.Looking.{Looking}
-use Rattle.reload_watch.specs.declared.look_answer.Looking.TheVariants as looking
+use Rattle.run_meaning.specs.declared.looking.Looking.{Looking}
+use Rattle.run_meaning.specs.declared.looking.Looking.TheVariants as looking
 use Rattle.reload_watch.specs.Going.{CountsRefusals, WatchGoesOn, found_behind, refusals_by}
 use Rattle.reload_watch.specs.Look.{NotesLook, PublishesNext}
 use Rattle.reload_watch.specs.States.{Serving}

@@ -8,13 +8,16 @@ use Rattle.corefile_blocks.specs.declared.bundle.Bundle.{Bundle}
 use Rattle.corefile_bundle.specs.declared.fault.GatherFault.{GatherFault}
 use Rattle.corefile_bundle.specs.Gathering.{Source, TellsGathering, marks_of}
 use Rattle.chain_build.specs.{PlansData}
-use Rattle.reload_watch.specs.declared.look_answer.Looking.{Looking}
-use Rattle.reload_watch.specs.declared.look_answer.Looking.TheVariants as looking
+use Rattle.run_meaning.specs.declared.looking.Looking.{Looking}
+use Rattle.run_meaning.specs.declared.looking.Looking.TheVariants as looking
 use Rattle.chain_meaning.specs.Accepting.{IsAccepted}
-use Rattle.reload_watch.specs.Reloads.{reloads}
+use Rattle.run_meaning.specs.Reloads.{reloads}
 use Rattle.reload_watch.specs.States.{Serving}
-use Rattle.reload_watch.specs.Look.{AnswersLook, standing_of, note_marks, publication, ServesBehind, ServesGathered, LooksOver, Starves, LooksOnce, AnswersKept, IsNext, IsNoted, NotesLook, PublishesNext}
-use Rattle.reload_watch.specs.Messages.{look_text}
+use Rattle.reload_watch.specs.Look.{standing_of, ServesBehind, ServesGathered, LooksOver, Starves}
+use Rattle.reload_watch.specs.Look.{LooksOnce, AnswersKept, IsNext, IsNoted, NotesLook}
+use Rattle.reload_watch.specs.Look.{PublishesNext}
+use Rattle.run_meaning.specs.Answers.{AnswersLook, note_marks, publication}
+use Rattle.run_meaning.specs.Messages.{look_text}
 
 -- a look that publishes nothing
 over : {source : Source} {old : Serving} {before mid after : WatchState} {gives : Result Bundle GatherFault} (answer : Looking) → publication answer ≡ []

@@ -5,7 +5,8 @@ use Rattle.outside.specs.Causes.{raised}
 use Rattle.chain_meaning.specs.declared.refusal.Refusal.{Refusal}
 use Rattle.chain_build.specs.{is_of_pattern}
 use Rattle.reload_watch.specs.Going.{RoseWithin, pattern_refused, refusals_by}
-use Rattle.reload_watch.specs.WatchTurn.{WatchTurn, all_refused, look_refused}
+use Rattle.reload_watch.specs.WatchTurn.{all_refused, look_refused}
+use Rattle.run_meaning.specs.WatchTurn.{WatchTurn}
 
 -- a count that stays, and one that a refusal or none at all raised
 pub stays_within : (more n m : ℕ) → m ≡ n → RoseWithin 0 more n m

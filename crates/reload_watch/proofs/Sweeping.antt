@@ -13,8 +13,8 @@ use Rattle.pin_table.specs.Freeing.{IsFreed, answer_of, saw_current}
 use Rattle.pin_table.specs.Known.{serial_at}
 use Rattle.pin_table.specs.Steps.{count_of, look_at, swept_plan}
 use Rattle.pin_table.specs.Sweeping.{IsSwept}
-use Rattle.reload_watch.specs.declared.look_answer.Looking.{Looking}
-use Rattle.reload_watch.specs.declared.look_answer.Looking.TheVariants as looking
+use Rattle.run_meaning.specs.declared.looking.Looking.{Looking}
+use Rattle.run_meaning.specs.declared.looking.Looking.TheVariants as looking
 use Rattle.reload_watch.specs.Look.{SearchesFirst}
 use Rattle.reload_watch.specs.Placing.{IsPlaced}
 use Rattle.reload_watch.specs.Sweeps.{KeepsSweeps, SweptFor, SweptThree}

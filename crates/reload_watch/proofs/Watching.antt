@@ -17,16 +17,22 @@ use Rattle.corefile_bundle.specs.Gathering.{GathersFrom, OneRead, Source}
 use Rattle.chain_meaning.specs.Accepting.{IsAccepted}
 use Rattle.chain_build.specs.declared.chain.Chain.{Chain}
 use Rattle.chain_build.specs.{ArePlans, PlansData, plans_of}
-use Rattle.reload_watch.specs.declared.look_answer.Looking.{Looking}
-use Rattle.reload_watch.specs.declared.look_answer.Looking.TheVariants as looking
+use Rattle.run_meaning.specs.declared.looking.Looking.{Looking}
+use Rattle.run_meaning.specs.declared.looking.Looking.TheVariants as looking
 use Rattle.reload_watch.specs.Filled.{AreFilledBy, EndsWith, IsOf}
-use Rattle.reload_watch.specs.Look.{AnswersLook, standing_of, LooksOver, LooksOnce, Starves, ServesGathered, look_marks, starved_by}
+use Rattle.reload_watch.specs.Look.{standing_of, LooksOver, LooksOnce, Starves, ServesGathered}
+use Rattle.reload_watch.specs.Look.{starved_by}
+use Rattle.run_meaning.specs.Answers.{AnswersLook, look_marks}
 use Rattle.reload_watch.specs.Going.{CountsRefusals, RoseWithin}
-use Rattle.reload_watch.specs.Reloads.{reloads, times_of}
+use Rattle.run_meaning.specs.Reloads.{reloads, times_of}
 use Rattle.pin_table.specs.declared.views.Sweep.{Sweep}
 use Rattle.reload_watch.specs.States.{Serving, WatcherState}
 use Rattle.reload_watch.specs.Sweeps.{KeepsSweeps, SweptFor}
-use Rattle.reload_watch.specs.WatchTurn.{WatchTurn, looked, starved, watch_marks, published_by, bundles_of, answer_refused, look_refused, look_starved, all_refused, all_starved, IsLooked, IsLook, AreLooks, IsSweptTurn, AreSwept}
+use Rattle.reload_watch.specs.WatchTurn.{answer_refused, look_refused, all_refused, IsSweptTurn}
+use Rattle.reload_watch.specs.WatchTurn.{AreSwept}
+use Rattle.run_meaning.specs.WatchTurn.{WatchTurn, looked, starved, watch_marks, published_by}
+use Rattle.run_meaning.specs.WatchTurn.{bundles_of, look_starved, all_starved, IsLooked, IsLook}
+use Rattle.run_meaning.specs.WatchTurn.{AreLooks}
 use Rattle.reload_watch.specs.Watcher.{TakesLook}
 use Rattle.reload_watch.proofs.Refusing.{all_refused-push, refused_within, starved_within, stays_within}
 

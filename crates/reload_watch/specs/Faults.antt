@@ -4,8 +4,8 @@ use Rattle.corefile_bundle.specs.declared.fault.GatherFault.TheVariants as unrea
 use Rattle.chain_meaning.specs.declared.refusal.Refusal.TheVariants as refusal
 use Rattle.reload_watch.specs.declared.fault.ReadFault.{ReadFault}
 use Rattle.reload_watch.specs.declared.fault.ReadFault.TheVariants as fault
-use Rattle.reload_watch.specs.declared.look_answer.Looking.{Looking}
-use Rattle.reload_watch.specs.declared.look_answer.Looking.TheVariants as looking
+use Rattle.run_meaning.specs.declared.looking.Looking.{Looking}
+use Rattle.run_meaning.specs.declared.looking.Looking.TheVariants as looking
 
 -- why there is nothing to serve by, where a gathering came to this
 abbrev pub read_fault : GatherFault → ReadFault

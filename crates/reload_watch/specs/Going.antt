@@ -8,8 +8,8 @@ use Rattle.reload_watch.specs.declared.fault.ReadFault.{ReadFault}
 use Rattle.reload_watch.specs.declared.fault.ReadFault.TheVariants as first
 use Rattle.reload_watch.specs.declared.found.Found.{Found}
 use Rattle.reload_watch.specs.declared.found.Found.TheVariants.{Kept}
-use Rattle.reload_watch.specs.declared.look_answer.Looking.{Looking}
-use Rattle.reload_watch.specs.declared.look_answer.Looking.TheVariants as looking
+use Rattle.run_meaning.specs.declared.looking.Looking.{Looking}
+use Rattle.run_meaning.specs.declared.looking.Looking.TheVariants as looking
 
 -- no count fell, the script is as it was, and no refusal of a pattern is gone
 pub record WatchGoesOn (before after : WatchState) : Type 0 where

@@ -4,11 +4,9 @@ pub mod Going
 pub mod Keeping
 pub mod Look
 pub mod Looked
-pub mod Messages
 pub mod Opening
 pub mod Placing
 pub mod Publishing
-pub mod Reloads
 pub mod States
 pub mod Sweeps
 pub mod Watcher
@@ -21,13 +19,10 @@ pub use Rattle.reload_watch.specs.Going.{refusals_by, refusals_first}
 pub use Rattle.reload_watch.specs.Keeping.{IsCleared, IsKeeping}
 pub use Rattle.reload_watch.specs.Look.{LooksOnce, SearchesFirst, starved_by}
 pub use Rattle.reload_watch.specs.Looked.{HasLooked}
-pub use Rattle.reload_watch.specs.Messages.{look_text}
-pub use Rattle.reload_watch.specs.Opening.{GathersThat, IsReading, ReadsFirst, ReadsPlans, Refuses}
+pub use Rattle.reload_watch.specs.Opening.{GathersThat, ReadsFirst, ReadsPlans}
 pub use Rattle.reload_watch.specs.Placing.{IsPlaced}
-pub use Rattle.reload_watch.specs.Reloads.{reloads, times_of}
 pub use Rattle.reload_watch.specs.States.{Serving, WatcherState, serving_of, source_data}
 pub use Rattle.reload_watch.specs.States.{watcher_state}
 pub use Rattle.reload_watch.specs.Sweeps.{HasSwept, SweptFor, SweptThree}
-pub use Rattle.reload_watch.specs.WatchRun.{EndsWatch, StopsLooking, TellsLooks, Watches}
-pub use Rattle.reload_watch.specs.WatchTurn.{AreLooks, AreSwept, all_refused, all_starved}
-pub use Rattle.reload_watch.specs.WatchTurn.{bundles_of, published_by, watch_marks}
+pub use Rattle.reload_watch.specs.WatchRun.{Watches}
+pub use Rattle.reload_watch.specs.WatchTurn.{AreSwept, all_refused}

@@ -1,49 +1,31 @@
--- One look for a changed configuration: what it answers, the marks that it leaves, and what serves
--- behind it. This server's own rule. The answers are tried in the order in which they stand here.
+-- One look for a changed configuration: what it finds, and what serves behind it. This server's own
+-- rule.
 use Rattle.std.specs.Prelude.{◌≡◌, ◌≢◌, ◌<◌, ◌⊎◌, ℕ, ◌+◌, Bool, true, false}
 use Rattle.std.specs.Prelude.{List, [], ◌∷◌, ◌++◌, Result, Ok, Err}
 use Rattle.std.specs.List.{All}
-use Rattle.dns_data.specs.declared.block.Block.{Block}
 use Rattle.pin_core.specs.declared.slots.TheConstants as pins
 use Rattle.pin_table.specs.declared.free_slots.FreeSlot.TheVariants as found
 use Rattle.pin_table.specs.declared.free_slots.Left.{Left}
 use Rattle.pin_table.specs.declared.views.Plan.{Plan}
 use Rattle.pin_table.specs.{IsFreed, IsPinnedSlot}
-use Rattle.outside.specs.declared.mark.WatchMark.{WatchMark}
-use Rattle.outside.specs.declared.mark.WatchMark.TheVariants.{Noted, Published}
+use Rattle.outside.specs.declared.mark.WatchMark.TheVariants.{Published}
 use Rattle.outside.specs.Causes.{raised}
 use Rattle.outside.specs.States.{WatchState}
 use Rattle.outside.specs.WatchMarks.{AddsWatch}
 use Rattle.corefile_blocks.specs.declared.bundle.Bundle.{Bundle}
-use Rattle.corefile_blocks.specs.Ports.{ArePorts}
 use Rattle.corefile_bundle.specs.declared.fault.GatherFault.{GatherFault}
-use Rattle.corefile_bundle.specs.declared.fault.GatherFault.TheVariants as unread
-use Rattle.corefile_bundle.specs.Gathering.{GathersFrom, OneRead, Source, marks_of}
+use Rattle.corefile_bundle.specs.Gathering.{GathersFrom, OneRead, Source}
 use Rattle.chain_build.specs.declared.chain.Chain.{Chain}
 use Rattle.chain_build.specs.{ArePlans, PlansData, plans_of}
 use Rattle.reload_watch.specs.declared.found.Found.{Found}
 use Rattle.reload_watch.specs.declared.found.Found.TheVariants.{Kept, Next}
-use Rattle.reload_watch.specs.declared.look_answer.Looking.{Looking}
-use Rattle.reload_watch.specs.declared.look_answer.Looking.TheVariants as looking
-use Rattle.chain_meaning.specs.Accepting.{IsAccepted}
-use Rattle.reload_watch.specs.Messages.{look_text}
-use Rattle.reload_watch.specs.Opening.{GathersThat, Refuses}
-use Rattle.reload_watch.specs.Reloads.{reloads}
+use Rattle.run_meaning.specs.declared.looking.Looking.{Looking}
+use Rattle.run_meaning.specs.declared.looking.Looking.TheVariants as looking
+use Rattle.run_meaning.specs.Messages.{look_text}
+use Rattle.reload_watch.specs.Opening.{GathersThat}
+use Rattle.run_meaning.specs.Reloads.{reloads}
 use Rattle.reload_watch.specs.States.{Serving}
-
--- two lists of blocks have the same ports
-pub record SamePorts (a b : List Block) : Type 0 where
-  pub ports : List ℕ
-  pub first : ArePorts a ports
-  pub second : ArePorts b ports
-
--- what serves, as far as a look's answer depends on it: the bundle, its blocks with this default
--- port, and how many generations were published
-pub record Standing : Type 0 where
-  pub default_port : ℕ
-  pub bundle : Bundle
-  pub blocks : List Block
-  pub published : ℕ
+use Rattle.run_meaning.specs.Answers.{AnswersLook, SamePorts, Standing, look_marks, note_marks}
 
 abbrev pub standing_of : PlansData → ℕ → Standing
 standing_of plans published = record {
@@ -52,61 +34,6 @@ standing_of plans published = record {
   blocks = plans.blocks;
   published = published;
 }
-
--- the gathering gave a bundle that is accepted and isn't the one that serves
-pub record GaveOther (standing : Standing) (gives : Result Bundle GatherFault)
-    (P : List Block → Type 0) : Type 0 where
-  pub bundle : Bundle
-  pub got : gives ≡ Ok bundle
-  pub differs : bundle ≢ standing.bundle
-  pub blocks : List Block
-  pub accepted : IsAccepted standing.default_port bundle blocks
-  pub is : P blocks
-
--- another bundle could be published, and each of these slots had open pins
-pub record FoundPinned (standing : Standing) (other : List Block) (first second third : Left)
-    : Type 0 where
-  pub ports : SamePorts other standing.blocks
-  pub few : standing.published < pins.MOST_SERIALS
-  pub one : IsPinnedSlot first
-  pub two : IsPinnedSlot second
-  pub three : IsPinnedSlot third
-
--- what a look answers where the gathering came to this
-abbrev pub AnswersLook : Standing → Result Bundle GatherFault → Looking → Type 0
-AnswersLook standing gives looking.NoReload = ⊥
-AnswersLook standing gives (looking.ReadFailed name) = gives ≡ Err (unread.ReadFailed name)
-AnswersLook standing gives looking.Same = gives ≡ Ok standing.bundle
-AnswersLook standing gives (looking.Refused why) =
-    Refuses standing.default_port gives why × (gives ≢ Ok standing.bundle)
-AnswersLook standing gives (looking.PortsDiffer kept read) =
-    GaveOther standing gives
-    (λ other. ArePorts standing.blocks kept × ArePorts other read × (kept ≢ read))
-AnswersLook standing gives looking.SerialsSpent =
-    GaveOther standing gives
-    (λ other. SamePorts other standing.blocks × (standing.published ≡ pins.MOST_SERIALS))
-AnswersLook standing gives (looking.AllPinned first second third) =
-    GaveOther standing gives (λ other. FoundPinned standing other first second third)
-AnswersLook standing gives (looking.Published serial) =
-    GaveOther standing gives
-    (λ other. SamePorts other standing.blocks
-    × (standing.published < pins.MOST_SERIALS) × (serial ≡ standing.published))
-AnswersLook standing gives looking.NoMemory = ⊥
-
--- an empty line is not noted
-abbrev pub note_marks : List ℕ → Bool → List WatchMark
-note_marks [] flag = []
-note_marks (byte ∷ bytes) flag = Noted (byte ∷ bytes) flag ∷ []
-
-abbrev pub publication : Looking → List WatchMark
-publication (looking.Published serial) = Published serial ∷ []
-publication other = []
-
--- the marks of a look: its reads, its publication, and the line that notes it, with whether that
--- went out
-abbrev pub look_marks : List OneRead → Looking → Bool → List WatchMark
-look_marks reads answer flag =
-    marks_of reads ++ (publication answer ++ note_marks (look_text answer) flag)
 
 -- a further generation serves: the bundle that was read, by a chain for each worker
 pub record Replaces (old new : Serving) (bundle : Bundle) : Type 0 where

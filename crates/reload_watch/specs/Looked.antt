@@ -4,8 +4,8 @@ use Rattle.outside.specs.Causes.{Rose}
 use Rattle.outside.specs.States.{WatchState}
 use Rattle.corefile_bundle.specs.Gathering.{Source}
 use Rattle.pin_table.specs.{SamePublisher, plan_of}
-use Rattle.reload_watch.specs.declared.look_answer.Looking.{Looking}
-use Rattle.reload_watch.specs.declared.look_answer.Looking.TheVariants as looking
+use Rattle.run_meaning.specs.declared.looking.Looking.{Looking}
+use Rattle.run_meaning.specs.declared.looking.Looking.TheVariants as looking
 use Rattle.reload_watch.specs.declared.watcher.Watcher.{Watcher}
 use Rattle.reload_watch.specs.Going.{CountsRefusals, WatchGoesOn}
 use Rattle.reload_watch.specs.Look.{LooksOnce, SearchesFirst}

@@ -1,25 +1,15 @@
--- The reads that give the first bundle. This server's own rule.
-use Rattle.std.specs.Prelude.{◌≡◌, ℕ, List, Result, Ok, Err}
-use Rattle.outside.specs.declared.mark.WatchMark.{WatchMark}
+-- What reading the first bundle answers. This server's own rule.
+use Rattle.std.specs.Prelude.{◌≡◌, ℕ, Result, Ok, Err}
 use Rattle.outside.specs.Causes.{Rose}
 use Rattle.outside.specs.States.{WatchState}
 use Rattle.corefile_blocks.specs.declared.bundle.Bundle.{Bundle}
 use Rattle.corefile_bundle.specs.declared.fault.GatherFault.{GatherFault}
 use Rattle.corefile_bundle.specs.declared.fault.GatherFault.TheVariants as unread
-use Rattle.corefile_bundle.specs.Gathering.{GathersFrom, OneRead, Source, TellsGathering, marks_of}
+use Rattle.corefile_bundle.specs.Gathering.{Source, TellsGathering}
 use Rattle.chain_build.specs.{ArePlans, PlansData}
 use Rattle.reload_watch.specs.declared.fault.ReadFault.{ReadFault}
 use Rattle.reload_watch.specs.declared.fault.ReadFault.TheVariants as fault
-use Rattle.chain_meaning.specs.declared.refusal.Refusal.{Refusal}
-use Rattle.chain_meaning.specs.declared.refusal.Refusal.TheVariants as refusal
-use Rattle.chain_meaning.specs.Accepting.{IsRefused}
-
--- the reads of a gathering, whatever it came to
-pub record IsReading (source : Source) (journal : List WatchMark) : Type 0 where
-  pub reads : List OneRead
-  pub gives : Result Bundle GatherFault
-  pub gathers : GathersFrom source reads gives
-  pub is : journal ≡ marks_of reads
+use Rattle.run_meaning.specs.Answers.{Refuses}
 
 -- a gathering that was told, and a fact of what it came to
 pub record GathersThat (source : Source) (before after : WatchState)
@@ -27,14 +17,6 @@ pub record GathersThat (source : Source) (before after : WatchState)
   pub gives : Result Bundle GatherFault
   pub tells : TellsGathering source before after gives
   pub is : P gives
-
--- what a gathering gave is refused for this
-abbrev pub Refuses : ℕ → Result Bundle GatherFault → Refusal → Type 0
-Refuses default_port (Ok bundle) why = IsRefused default_port bundle why
-Refuses default_port (Err unread.NoCorefile) why = why ≡ refusal.NoCorefile
-Refuses default_port (Err (unread.ReadFailed name)) why = ⊥
-Refuses default_port (Err (unread.TooMany what number)) why = why ≡ refusal.TooMany what number
-Refuses default_port (Err unread.NoMemory) why = ⊥
 
 -- what the first bundle serves by, and the marks that its reading adds to the watch's journal
 pub record ReadsPlans (source : Source) (default_port : ℕ) (old new : WatchState)

@@ -2,8 +2,8 @@
 use Rattle.std.specs.Prelude.{◌≡◌, ◌≢◌, ◌<◌, ◌⊎◌, ℕ, ◌-◌, List, [], ◌∷◌}
 use Rattle.pin_table.specs.declared.free_slots.Left.{Left}
 use Rattle.pin_table.specs.declared.views.Sweep.{Sweep}
-use Rattle.reload_watch.specs.declared.look_answer.Looking.{Looking}
-use Rattle.reload_watch.specs.declared.look_answer.Looking.TheVariants as looking
+use Rattle.run_meaning.specs.declared.looking.Looking.{Looking}
+use Rattle.run_meaning.specs.declared.looking.Looking.TheVariants as looking
 
 -- one of these sweeps saw of a serial as many pins ended of as many, while another was the last
 -- published

@@ -1,64 +1,13 @@
--- One turn of the watch, as a value: a look for a changed configuration, and the marks by which the
--- watch tells it. This server's own rule.
-use Rattle.std.specs.Prelude.{◌≡◌, ℕ, ◌+◌, Bool, true, List, [], ◌∷◌, ◌++◌, length}
-use Rattle.std.specs.Prelude.{Result, Ok, Err}
-use Rattle.std.specs.List.{flat_map}
-use Rattle.dns_data.specs.declared.block.Block.{Block}
-use Rattle.outside.specs.declared.mark.WatchMark.{WatchMark}
-use Rattle.outside.specs.declared.mark.WatchMark.TheVariants.{Look}
+-- What turns of a watch did besides what its marks tell: the refusals of patterns that they noted,
+-- and the sweeps of those that found no free slot. This server's own rule.
+use Rattle.std.specs.Prelude.{ℕ, ◌+◌, List, [], ◌∷◌, ◌++◌, length}
 use Rattle.corefile_blocks.specs.declared.bundle.Bundle.{Bundle}
-use Rattle.corefile_bundle.specs.declared.fault.GatherFault.{GatherFault}
-use Rattle.corefile_bundle.specs.Gathering.{GathersFrom, OneRead, Source, marks_of}
-use Rattle.reload_watch.specs.declared.look_answer.Looking.{Looking}
-use Rattle.reload_watch.specs.declared.look_answer.Looking.TheVariants as looking
-use Rattle.chain_meaning.specs.Accepting.{IsAccepted}
+use Rattle.run_meaning.specs.declared.looking.Looking.{Looking}
+use Rattle.run_meaning.specs.declared.looking.Looking.TheVariants as looking
 use Rattle.pin_table.specs.declared.views.Sweep.{Sweep}
-use Rattle.plain_plugins.specs.declared.reload.ReloadTimes.{ReloadTimes}
-use Rattle.reload_watch.specs.Look.{AnswersLook, look_marks}
 use Rattle.reload_watch.specs.Going.{pattern_refused}
-use Rattle.reload_watch.specs.Reloads.{reloads, times_of}
 use Rattle.reload_watch.specs.Sweeps.{SweptFor}
-
--- a look, with the times by which it was waited for, its reads and what they came to, its answer,
--- and whether its note went out; or a look that met want of memory, with its times, the reads
--- before that, and what they came to
-pub data WatchTurn : Type 0 where
-  looked : ReloadTimes → List OneRead → Result Bundle GatherFault → Looking → Bool → WatchTurn
-  starved : ReloadTimes → List OneRead → Result Bundle GatherFault → WatchTurn
-
--- the marks of a turn of the watch
-abbrev pub watch_marks : WatchTurn → List WatchMark
-watch_marks (looked times reads gives answer flag) =
-    Look times.interval times.jitter ∷ look_marks reads answer flag
-watch_marks (starved times reads gives) = Look times.interval times.jitter ∷ marks_of reads
-
--- the bundle that a gathering gave
-abbrev pub gathered : Result Bundle GatherFault → List Bundle
-gathered (Ok bundle) = bundle ∷ []
-gathered (Err fault) = []
-
-abbrev pub published_as : Result Bundle GatherFault → Looking → List Bundle
-published_as gives (looking.Published serial) = gathered gives
-published_as gives other = []
-
--- the bundle that a turn published, where it published one
-abbrev pub published_by : WatchTurn → List Bundle
-published_by (looked times reads gives answer flag) = published_as gives answer
-published_by (starved times reads gives) = []
-
--- the bundles that were published: the first, and those that the turns published
-abbrev pub bundles_of : Bundle → List WatchTurn → List Bundle
-bundles_of first looks = first ∷ flat_map published_by looks
-
--- 1 for a turn that met want of memory
-abbrev pub look_starved : WatchTurn → ℕ
-look_starved (looked times reads gives answer flag) = 0
-look_starved (starved times reads gives) = 1
-
--- how many of the turns met want of memory
-abbrev pub all_starved : List WatchTurn → ℕ
-all_starved [] = 0
-all_starved (turn ∷ turns) = look_starved turn + all_starved turns
+use Rattle.run_meaning.specs.WatchTurn.{WatchTurn, looked, published_by, starved}
 
 -- 1 for an answer that is the refusal of a pattern
 abbrev pub answer_refused : Looking → ℕ
@@ -74,40 +23,6 @@ look_refused (starved times reads gives) = 0
 abbrev pub all_refused : List WatchTurn → ℕ
 all_refused [] = 0
 all_refused (turn ∷ turns) = look_refused turn + all_refused turns
-
--- the last bundle that was published is accepted, has these blocks, and is to be looked at again,
--- at the times of its own
-pub record IsLooked (default_port : ℕ) (bundles : List Bundle) (times : ReloadTimes)
-    (P : Bundle → List Block → Type 0) : Type 0 where
-  pub before : List Bundle
-  pub last : Bundle
-  pub last_is : bundles ≡ before ++ last ∷ []
-  pub blocks : List Block
-  pub accepted : IsAccepted default_port last blocks
-  pub again : reloads blocks ≡ true
-  pub at : times ≡ times_of blocks
-  pub is : P last blocks
-
--- the turn came to what a look behind these published bundles comes to
-abbrev pub IsLook : Source → ℕ → List Bundle → WatchTurn → Type 0
-IsLook source default_port bundles (looked times reads gives answer flag) =
-    GathersFrom source reads gives × IsLooked default_port bundles times (λ last blocks. AnswersLook
-    (record {
-      default_port = default_port;
-      bundle = last;
-      blocks = blocks;
-      published = length bundles;
-    }) gives answer)
-IsLook source default_port bundles (starved times reads gives) =
-    GathersFrom source reads gives
-    × IsLooked default_port bundles times (λ last blocks. Unit {0})
-
--- turns one after another, behind these published bundles
-abbrev pub AreLooks : Source → ℕ → List Bundle → List WatchTurn → Type 0
-AreLooks source default_port bundles [] = Unit {0}
-AreLooks source default_port bundles (turn ∷ turns) =
-    IsLook source default_port bundles turn
-    × AreLooks source default_port (bundles ++ published_by turn) turns
 
 -- the sweeps of a turn that found no free slot, behind so many published generations
 abbrev pub IsSweptTurn : List Sweep → ℕ → WatchTurn → Type 0

@@ -5,13 +5,13 @@ use Rattle.outside.specs.declared.mark.WatchMark.TheVariants.{Look, End}
 use Rattle.outside.specs.States.{WatchState}
 use Rattle.outside.specs.WatchMarks.{AddsWatch}
 use Rattle.corefile_bundle.specs.Gathering.{Source}
-use Rattle.reload_watch.specs.declared.look_answer.Looking.{Looking}
-use Rattle.reload_watch.specs.declared.look_answer.Looking.TheVariants as looking
-use Rattle.reload_watch.specs.declared.turns.WatchEnd.{WatchEnd}
-use Rattle.reload_watch.specs.declared.turns.WatchEnd.TheVariants as ends
+use Rattle.run_meaning.specs.declared.looking.Looking.{Looking}
+use Rattle.run_meaning.specs.declared.looking.Looking.TheVariants as looking
+use Rattle.run_meaning.specs.declared.watch_end.WatchEnd.{WatchEnd}
+use Rattle.run_meaning.specs.declared.watch_end.WatchEnd.TheVariants as ends
 use Rattle.reload_watch.specs.Look.{LooksOnce, starved_by}
 use Rattle.reload_watch.specs.Going.{CountsRefusals}
-use Rattle.reload_watch.specs.Reloads.{reloads, times_of}
+use Rattle.run_meaning.specs.Reloads.{reloads, times_of}
 use Rattle.reload_watch.specs.States.{WatcherState}
 use Rattle.reload_watch.specs.Sweeps.{KeepsSweeps, SweptFor}
 

@@ -2,10 +2,10 @@
 ghost use Rattle.std.specs.Prelude.{◌≡◌};
 ghost use Rattle.reload_watch.specs.Faults.{answer_to, read_fault};
 
-use crate::look_answer::Looking;
 use chain_meaning::Refusal;
 use corefile_bundle::GatherFault;
 use dns_data::Text;
+use run_meaning::Looking;
 
 /// Why there is nothing to serve by.
 #[derive(Debug, Drop)]

@@ -7,12 +7,12 @@ ghost use Rattle.reload_watch.specs.Going.{found_behind};
 ghost use Rattle.reload_watch.specs.Look.{Finds};
 
 use crate::fault::{answer_to, read_fault};
-use crate::look_answer::{Looking, Ports};
 use chain_build::{CheckFault, Plans, check};
 use corefile_blocks::Bundle;
 use corefile_bundle::GatherFault;
 use dns_data::{NoMemory, Seq};
 use outside::Watch;
+use run_meaning::{Looking, Ports};
 use std::alloc::Global;
 
 /// What a gathering comes to: the answer of the look, or what is to serve next.

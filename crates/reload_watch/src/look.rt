@@ -6,7 +6,6 @@ ghost use Rattle.reload_watch.specs.Looked.{HasLooked};
 ghost use Rattle.reload_watch.specs.States.{source_data};
 
 use crate::found::{Found, find};
-use crate::look_answer::Looking;
 use crate::publishing::{note_look, publish_next};
 use crate::reloads::reloads;
 use crate::source::Source;
@@ -15,6 +14,7 @@ use chain_build::Chain;
 use corefile_bundle::gather;
 use outside::Watch;
 use pin_table::PinTable;
+use run_meaning::Looking;
 use std::alloc::Global;
 
 /// Looks once for a changed configuration: reads the Corefile and the files that it names,

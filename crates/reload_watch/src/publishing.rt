@@ -15,12 +15,12 @@ ghost use Rattle.reload_watch.specs.Publishing.{AddsGeneration, KeepsPast};
 ghost use Rattle.reload_watch.specs.States.{serving_of};
 ghost use Rattle.reload_watch.specs.Sweeps.{KeepsSweeps};
 
-use crate::look_answer::Looking;
 use crate::watcher::Watcher;
 use chain_build::{Chain, Plans, build};
 use outside::Watch;
 use pin_core::MOST_SERIALS;
 use pin_table::{FreeSlot, PinTable, Published, Publisher};
+use run_meaning::Looking;
 use std::alloc::Global;
 use std::sync::Arc;
 

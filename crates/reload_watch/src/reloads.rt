@@ -1,6 +1,6 @@
 //! Whether blocks are to be looked at again, and how often.
 ghost use Rattle.std.specs.Prelude.{◌≡◌};
-ghost use Rattle.reload_watch.specs.Reloads.{has_reload, is_reload, reloads, times_in, times_of};
+ghost use Rattle.run_meaning.specs.Reloads.{has_reload, is_reload, reloads, times_in, times_of};
 
 use dns_data::{Block, Directive};
 use plain_plugins::{ReloadTimes, reload_times};

@@ -14,16 +14,9 @@ use crate::watcher::Watcher;
 use chain_build::Chain;
 use outside::{Look, Watch};
 use pin_table::PinTable;
+use run_meaning::WatchEnd;
 use std::alloc::Global;
 use std::sync::Wait;
-
-/// Why no further look for a changed configuration is made: the watch has ended, or what serves has
-/// no `reload`.
-#[derive(Clone, Copy, Debug, PartialEq, Eq)]
-pub enum WatchEnd {
-    End,
-    NoReload,
-}
 
 /// Looks again and again, each time after the wait that the first `reload` of what serves says,
 /// until the watch ends or what serves has no `reload`.

@@ -25,6 +25,8 @@ impl PatternMaker for StagedWatch {
       refusals = 0;
     } };
 
+    ghost last = { λ _. None };
+
     fn make(&mut self, _alloc: Global, _text: &Text) -> Made {
         Made::NoMemory
     }

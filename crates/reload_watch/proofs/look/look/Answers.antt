@@ -4,7 +4,7 @@ use Rattle.chain_build.specs.{PlansData}
 use Rattle.reload_watch.specs.declared.found.Found.TheVariants.{Kept, Next}
 use Rattle.reload_watch.specs.Going.{CountsRefusals}
 use Rattle.reload_watch.specs.Look.{AnswersKept, IsNext}
-use Rattle.reload_watch.specs.Reloads.{reloads}
+use Rattle.run_meaning.specs.Reloads.{reloads}
 use Rattle.reload_watch.specs.States.{serving_of, source_data}
 use Rattle.reload_watch.proofs.Going.{found_goes, goes_then, next_counts, noted_counts, stays_goes, tells_found}
 use Rattle.reload_watch.proofs.Looks.{kept_looks, next_looks}

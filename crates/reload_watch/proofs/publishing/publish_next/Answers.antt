@@ -2,9 +2,9 @@ use Rattle.std.proofs.Common.{◌≡◌, ℕ, List, ◌∷◌, rules, subst, ◌
 use Rattle.outside.specs.declared.mark.WatchMark.TheVariants.{Published}
 use Rattle.outside.specs.Journals.{watch-adds-then}
 use Rattle.outside.specs.WatchMarks.{AddsWatch}
-use Rattle.reload_watch.specs.declared.look_answer.Looking.TheVariants as answer
-use Rattle.reload_watch.specs.Look.{note_marks}
-use Rattle.reload_watch.specs.Messages.{look_text}
+use Rattle.run_meaning.specs.declared.looking.Looking.TheVariants as answer
+use Rattle.run_meaning.specs.Answers.{note_marks}
+use Rattle.run_meaning.specs.Messages.{look_text}
 use Rattle.reload_watch.proofs.publishing.publish_next.Goals as goal
 
 pub returns-in-Free-clause-publishes : goal.returns-in-Free-clause-publishes

@@ -1,5 +1,5 @@
 use Rattle.std.proofs.Common.{◌≡◌, length}
-use Rattle.reload_watch.specs.Reloads.{times_in}
+use Rattle.run_meaning.specs.Reloads.{times_in}
 use Rattle.reload_watch.proofs.reloads.times_in.Given as goal
 
 abbrev pub invariant-loop-directive : goal.invariant-loop-directive

@@ -1,5 +1,5 @@
 use Rattle.std.proofs.Common.{◌≡◌, length}
-use Rattle.reload_watch.specs.Reloads.{first_times}
+use Rattle.run_meaning.specs.Reloads.{first_times}
 use Rattle.reload_watch.proofs.reloads.times_of.Given as goal
 
 abbrev pub invariant-loop-block : goal.invariant-loop-block

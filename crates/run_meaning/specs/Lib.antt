@@ -1,0 +1,16 @@
+pub mod Turn
+pub mod Workers
+pub mod Reloads
+pub mod Messages
+pub mod Answers
+pub mod WatchTurn
+pub mod WatchRun
+-- what public clauses cite
+pub use Rattle.run_meaning.specs.Answers.{AnswersLook, Refuses, Standing}
+pub use Rattle.run_meaning.specs.Messages.{look_text}
+pub use Rattle.run_meaning.specs.Reloads.{reloads, times_of}
+pub use Rattle.run_meaning.specs.Turn.{IsLawful, IsPublished}
+pub use Rattle.run_meaning.specs.WatchRun.{EndsWatch, IsReading, StopsLooking, TellsLooks}
+pub use Rattle.run_meaning.specs.WatchTurn.{AreLooks, all_starved, bundles_of, published_by}
+pub use Rattle.run_meaning.specs.WatchTurn.{watch_marks}
+pub use Rattle.run_meaning.specs.Workers.{Worked, WorkerRun}

@@ -1,8 +1,8 @@
 //! Addresses: `addr TEXT`, `addrtext 4|6 ADDRESS`, `net TEXT`, `holds NET ADDRESS`.
 
 use crate::case::Case;
-use crate::fault::CaseFault;
-use crate::fields::{addr_fields, bytes_field, flag_field, read_addr, read_bytes};
+use crate::fields::{addr_fields, flag_field, read_addr};
+use case_fields::{CaseFault, bytes_field, read_bytes};
 use dns_data::{Addr, Net};
 use std::alloc::Global;
 

@@ -1,8 +1,8 @@
 //! The order of directives, and which block serves a name: `rank TEXT`, `pick BLOCKS PORT:NAME`.
 
 use crate::case::Case;
-use crate::fault::CaseFault;
-use crate::fields::{read_name, read_text};
+use crate::fields::read_name;
+use case_fields::{CaseFault, read_text};
 use dns_data::{Block, BlockKey, BlockKeys, Blocks, Directives};
 use plugin_api::{BlockIndex, pick, rank};
 use std::alloc::Global;

@@ -1,6 +1,5 @@
-use crate::fault::CaseFault;
-
 /// A case: a call and its arguments. The answer that is expected stands in the file of answers, and
+use case_fields::CaseFault;
 /// isn't read.
 #[derive(Clone, Copy, Debug)]
 pub struct Case<'a> {

@@ -2,8 +2,8 @@
 
 use crate::case::Case;
 use crate::corefile::read_environment;
-use crate::fault::CaseFault;
-use crate::fields::{bytes_field, read_bytes, read_text, text_field};
+use crate::fields::text_field;
+use case_fields::{CaseFault, bytes_field, read_bytes, read_text};
 use chain_build::{CheckFault, check as check_bundle};
 use chain_meaning::Refusal;
 use corefile_blocks::Bundle;

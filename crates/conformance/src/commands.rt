@@ -1,8 +1,7 @@
 //! The words of the command line: `cli WORD..`.
 
 use crate::case::Case;
-use crate::fault::CaseFault;
-use crate::fields::{bytes_field, read_text};
+use case_fields::{CaseFault, bytes_field, read_text};
 use command_line::{Command, Serve, read_command};
 use dns_data::{Seq, Texts};
 use std::alloc::Global;

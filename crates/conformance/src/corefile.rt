@@ -1,8 +1,7 @@
 //! Corefiles: `words TEXT ENVIRONMENT`, `wants TEXT`.
 
 use crate::case::Case;
-use crate::fault::CaseFault;
-use crate::fields::{bytes_field, read_bytes, read_text};
+use case_fields::{CaseFault, bytes_field, read_bytes, read_text};
 use corefile_blocks::{Bundle, wants};
 use corefile_words::{Pair, Pairs, Word, WordLine, WordsFault, read_words};
 use dns_data::{Bytes, FileTexts};

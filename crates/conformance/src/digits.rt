@@ -1,8 +1,8 @@
 //! Numbers: `number TEXT MOST`, `duration TEXT`.
 
 use crate::case::Case;
-use crate::fault::CaseFault;
-use crate::fields::{number_field, read_bytes};
+use crate::fields::number_field;
+use case_fields::{CaseFault, read_bytes};
 use numbers::{read_digits, read_duration};
 use std::alloc::Global;
 

@@ -1,36 +1,9 @@
 //! The fields of a case: bytes in hexadecimal, names in wire format, and addresses.
 
-use crate::fault::CaseFault;
+use case_fields::{CaseFault, bytes_field, read_bytes};
 use dns_data::limit::{LABEL_BYTES, NAME_BYTES};
 use dns_data::{Addr, Name, Text};
 use std::alloc::Global;
-
-/// The bytes of a field, of which `-` has none.
-pub fn read_bytes(alloc: Global, field: &str) -> Result<Vec<u8>, CaseFault> {
-    if field == "-" {
-        return Ok(Vec::new(alloc));
-    }
-    if field.is_empty() {
-        return Err(CaseFault::Bad);
-    }
-    Ok(hex::decode(alloc, field)?)
-}
-
-/// The field of bytes.
-pub fn bytes_field(alloc: Global, bytes: &[u8]) -> Result<String, CaseFault> {
-    if bytes.is_empty() {
-        return Ok(String::from_str(alloc, "-")?);
-    }
-    Ok(hex::encode(alloc, bytes)?)
-}
-
-/// The text of a field.
-pub fn read_text(alloc: Global, field: &str) -> Result<Text, CaseFault> {
-    match String::from_utf8(read_bytes(alloc, field)?) {
-        Ok(text) => Ok(Text::of(text)),
-        Err(_) => Err(CaseFault::Bad),
-    }
-}
 
 /// The name of a field in wire format, its zero byte included.
 pub fn read_name(alloc: Global, field: &str) -> Result<Name, CaseFault> {

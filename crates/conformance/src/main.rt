@@ -1,6 +1,5 @@
 //! Reads cases from standard input, one a line, `CALL ARGUMENTS = ANSWER`, makes each call, and
-//! prints each line with the answer that it got; the lines from `case` to `end` are a whole run,
-//! whose outcome it prints. So what disagrees shows as a line that differs.
+//! prints each line with the answer that it got. So what disagrees shows as a line that differs.
 #![tactic(auto)]
 
 mod addresses;
@@ -10,99 +9,41 @@ mod checks;
 mod commands;
 mod corefile;
 mod digits;
-mod fault;
 mod fields;
-mod marks;
+mod loads;
 mod messages;
 mod names;
 mod parsed;
 mod patterns;
-mod plain;
 mod records;
-mod reports;
-mod runs;
 mod streams;
 mod zones;
 
 use case::Case;
-use fault::CaseFault;
-use runs::RunCase;
+use case_fields::CaseFault;
 use std::alloc::Global;
 use std::io::{BufRead, BufReader, BufWriter, Write};
-use std::sync::Wait;
-use std::thread::Threads;
 use std::{io, str};
 
 fn main(rt: HostRuntime) -> io::Result<()> {
     let alloc = rt.alloc();
     let mut lines = BufReader::new(alloc, rt.reader())?;
     let mut out = BufWriter::new(alloc, io::writer(&rt))?;
-    print_all(&rt, alloc, &mut lines, &mut out)?;
+    print_all(alloc, &mut lines, &mut out)?;
     out.flush()
 }
 
-fn print_all<R: Threads + Wait + Sync, I: BufRead, W: Write>(
-    rt: &R,
-    alloc: Global,
-    lines: &mut I,
-    out: &mut W,
-) -> io::Result<()> {
+fn print_all<I: BufRead, W: Write>(alloc: Global, lines: &mut I, out: &mut W) -> io::Result<()> {
     let mut line = Vec::new(alloc);
-    let mut case = None;
     for _ in 0..u64::MAX {
         line.clear();
         if lines.read_until(b'\n', &mut line)? == 0 {
             break;
         }
-        case = take_line(rt, alloc, out, case, &line)?;
+        // Behind ` = ` of a case there may be nothing, so its line is taken as it is.
+        print(alloc, out, str::from_utf8(&line).unwrap_or(""))?;
     }
     Ok(())
-}
-
-// Takes in a line, and prints what it asks for.
-fn take_line<R: Threads + Wait + Sync, W: Write>(
-    rt: &R,
-    alloc: Global,
-    out: &mut W,
-    case: Option<RunCase>,
-    line: &[u8],
-) -> io::Result<Option<RunCase>> {
-    // Behind ` = ` of a case there may be nothing, so its line is taken as it is.
-    let whole = str::from_utf8(line).unwrap_or("");
-    let text = whole.trim_end();
-    if let Some(seed) = text.strip_prefix("case ") {
-        writeln!(out, "case {seed}")?;
-        return Ok(Some(RunCase::new(alloc)));
-    }
-    match case {
-        Some(case) => take_of_run(rt, alloc, out, case, text),
-        None => {
-            print(alloc, out, whole)?;
-            Ok(None)
-        }
-    }
-}
-
-// Takes in a line of a run, and prints the outcome once its last line has come.
-fn take_of_run<R: Threads + Wait + Sync, W: Write>(
-    rt: &R,
-    alloc: Global,
-    out: &mut W,
-    mut case: RunCase,
-    text: &str,
-) -> io::Result<Option<RunCase>> {
-    if text == "end" {
-        reports::print(rt, alloc, out, case)?;
-        return Ok(None);
-    }
-    match case.take(alloc, text) {
-        Ok(()) => Ok(Some(case)),
-        Err(CaseFault::Bad) => {
-            writeln!(out, "bad case")?;
-            Ok(None)
-        }
-        Err(CaseFault::NoMemory) => Err(io::ErrorKind::OutOfMemory.into()),
-    }
 }
 
 // Prints a line with its answer, or that it is no case.
@@ -188,6 +129,7 @@ fn of_zones(alloc: Global, case: &Case<'_>) -> Option<Result<String, CaseFault>>
 fn of_corefiles(alloc: Global, case: &Case<'_>) -> Result<String, CaseFault> {
     match case.call {
         "cli" => commands::command(alloc, case),
+        "load" => loads::data(alloc, case),
         "words" => corefile::words(alloc, case),
         "wants" => corefile::wanted(alloc, case),
         "blocks" => parsed::blocks(alloc, case),

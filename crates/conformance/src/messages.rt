@@ -1,8 +1,7 @@
 //! Messages: `query BYTES`, `asked BYTES`, `reply BYTES`, `cut BYTES LIMIT`.
 
 use crate::case::Case;
-use crate::fault::CaseFault;
-use crate::fields::{bytes_field, read_bytes};
+use case_fields::{CaseFault, bytes_field, read_bytes};
 use dns_data::Message;
 use dns_data::limit::{MESSAGE_BYTES, UDP_BYTES};
 use dns_wire::{QueryFault, WireFault, read_asked, read_query, read_reply};

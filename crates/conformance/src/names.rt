@@ -2,10 +2,8 @@
 //! `reverse 4|6 ADDRESS`, `reversed NAME`, `zoneword TEXT`.
 
 use crate::case::Case;
-use crate::fault::CaseFault;
-use crate::fields::{
-    addr_fields, bytes_field, flag_field, name_field, read_addr, read_bytes, read_name, text_field,
-};
+use crate::fields::{addr_fields, flag_field, name_field, read_addr, read_name, text_field};
+use case_fields::{CaseFault, bytes_field, read_bytes};
 use dns_data::{Name, NameFault};
 use std::alloc::Global;
 use zone_words::read_zone;

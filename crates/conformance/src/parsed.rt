@@ -2,8 +2,8 @@
 
 use crate::case::Case;
 use crate::checks::read_bundle;
-use crate::fault::CaseFault;
-use crate::fields::{bytes_field, name_field, text_field};
+use crate::fields::{name_field, text_field};
+use case_fields::{CaseFault, bytes_field};
 use corefile_blocks::read_blocks;
 use dns_data::{Block, BlockKey, Directive, Line, Texts};
 use std::alloc::Global;

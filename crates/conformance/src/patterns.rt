@@ -1,8 +1,8 @@
 //! Patterns: `find PATTERN TEXT`, `patterntext PATTERN`.
 
 use crate::case::Case;
-use crate::fault::CaseFault;
-use crate::fields::{bytes_field, read_text, text_field};
+use crate::fields::text_field;
+use case_fields::{CaseFault, bytes_field, read_text};
 use outside::{Made, PatternMaker, RegexMaker};
 use pattern::{Pattern, Scratch};
 use std::alloc::Global;

@@ -2,8 +2,8 @@
 //! `rcodetext RCODE`.
 
 use crate::case::Case;
-use crate::fault::CaseFault;
-use crate::fields::{bytes_field, name_field, read_bytes, read_name};
+use crate::fields::{name_field, read_name};
+use case_fields::{CaseFault, bytes_field, read_bytes};
 use dns_data::limit::TTL_END;
 use dns_data::{Name, Rdata, Record, Soa, Strings};
 use record_text::{RecordFault, read_record};

@@ -1,8 +1,7 @@
 //! Streams: `stream SIZE BYTES`.
 
 use crate::case::Case;
-use crate::fault::CaseFault;
-use crate::fields::{bytes_field, read_bytes};
+use case_fields::{CaseFault, bytes_field, read_bytes};
 use dns_data::Buffer;
 use std::alloc::Global;
 use stream_connection::{Connection, Next};

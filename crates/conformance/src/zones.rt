@@ -1,9 +1,9 @@
 //! Zones: `zone TEXT ORIGIN`, `lookup TEXT ORIGIN NAME TYPE`.
 
 use crate::case::Case;
-use crate::fault::CaseFault;
-use crate::fields::{bytes_field, read_bytes, read_name};
+use crate::fields::read_name;
 use crate::records::record_field;
+use case_fields::{CaseFault, bytes_field, read_bytes};
 use chain_build::reply_message;
 use dns_data::limit::MESSAGE_BYTES;
 use dns_data::{Buffer, Query, Slot, class};

@@ -1,0 +1,5 @@
+use Rattle.std.proofs.Common.{length}
+use Rattle.run_conformance.proofs.plain.bundle_of.Given as goal
+
+abbrev pub decreases-loop-mark : goal.decreases-loop-mark
+decreases-loop-mark l = length l.rest

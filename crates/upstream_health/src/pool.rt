@@ -1,10 +1,6 @@
-ghost use Rattle.std.specs.Prelude.{◌≡◌, ℕ, ◌+◌, ◌-◌, ◌≤◌, ◌<◌, ◌++◌, ◌∷◌, [], IfOk, Some};
-ghost use Rattle.ruled_lock.specs.Calls.{met_calls, own_calls};
-ghost use Rattle.ruled_lock.specs.Held.{owned};
-ghost use Rattle.ruled_lock.specs.Places.{once_below};
-ghost use Rattle.std.specs.Prelude.{length};
-ghost use Rattle.upstream_health.specs.Pools.{Legal, drew_event, noted_event};
-ghost use Rattle.upstream_health.specs.Seats.{Calls, IsSeatOf};
+ghost use Rattle.std.specs.Prelude.{◌≡◌, ◌≤◌, ◌<◌, IfOk};
+ghost use Rattle.upstream_health.specs.Pools.{drew_event, noted_event};
+ghost use Rattle.upstream_health.specs.Seats.{Calls, IsNewView, IsSeatOf, IsWhole, Meets, Splits};
 
 use crate::Drawn;
 use crate::state::{Health, PoolAsk, PoolTold};
@@ -43,8 +39,7 @@ impl Pool {
         requires parts { 0 < parts }
         ensures own { IfOk result (λ r. r.1.seat.seat.table_id ≡ r.0.lock.table.shared.table_id) }
         ensures fresh { IfOk result (λ r. IsSeatOf most size r.1.seat.seat.me.0) }
-        ensures whole { IfOk result (λ r. (r.1.seat.seat.me.0.parts ≡ parts)
-            × (r.1.seat.seat.me.0.all ≡ parts) × (r.1.seat.seat.me.0.seen ≡ [])) }
+        ensures new { IfOk result (λ r. IsNewView parts r.1.seat.seat.me.0) }
     {
         match Health::new(alloc, size, most) {
             Ok(health) => match Locked::new(alloc, health, parts) {
@@ -90,13 +85,8 @@ impl Pool {
         requires parts { 1 < seat.old.seat.seat.me.0.parts }
         ensures own { (seat.new.seat.seat.table_id ≡ seat.old.seat.seat.table_id)
             × (result.seat.seat.table_id ≡ seat.old.seat.seat.table_id) }
-        ensures seats { (most size : ℕ) → IsSeatOf most size seat.old.seat.seat.me.0
-            → IsSeatOf most size seat.new.seat.seat.me.0
-            × IsSeatOf most size result.seat.seat.me.0 }
-        ensures parts { (seat.new.seat.seat.me.0.parts ≡ seat.old.seat.seat.me.0.parts - 1)
-            × (result.seat.seat.me.0.parts ≡ 1) }
-        ensures calls { (own_calls seat.new.seat.seat.me.0 ≡ own_calls seat.old.seat.seat.me.0)
-            × (own_calls result.seat.seat.me.0 ≡ []) }
+        ensures splits { Splits seat.old.seat.seat.me.0 seat.new.seat.seat.me.0
+            result.seat.seat.me.0 }
     {
         PoolSeat {
             seat: self.lock.split(&mut seat.seat),
@@ -108,30 +98,21 @@ impl Pool {
         requires own { (seat.old.seat.seat.table_id ≡ self.now.lock.table.shared.table_id)
             × (other.seat.seat.table_id ≡ self.now.lock.table.shared.table_id) }
         ensures own { seat.new.seat.seat.table_id ≡ seat.old.seat.seat.table_id }
-        ensures seats { (most size : ℕ) → IsSeatOf most size seat.old.seat.seat.me.0
-            → IsSeatOf most size seat.new.seat.seat.me.0 }
-        ensures parts { (seat.new.seat.seat.me.0.parts
-            ≡ seat.old.seat.seat.me.0.parts + other.seat.seat.me.0.parts)
-            × (seat.new.seat.seat.me.0.all ≡ seat.old.seat.seat.me.0.all) }
-        ensures calls { (own_calls seat.new.seat.seat.me.0 ≡ own_calls seat.old.seat.seat.me.0)
-            × (met_calls seat.new.seat.seat.me.0 ≡ met_calls seat.old.seat.seat.me.0
-            ++ own_calls other.seat.seat.me.0 ∷ met_calls other.seat.seat.me.0) }
+        ensures meets { Meets seat.old.seat.seat.me.0 other.seat.seat.me.0
+            seat.new.seat.seat.me.0 }
     {
         let PoolSeat { seat: other } = other;
         self.lock.meet(&mut seat.seat, other);
     }
 
-    /// The whole history of a pool whose seats have all met is legal, and each call of it stands in
-    /// the list of one seat, once.
+    /// The whole history of a pool whose seats have all met is legal, and it is the calls of these
+    /// seats, put together: each stands in it once, in the order of its seat.
     pub fn whole(&self, seat: &mut PoolSeat)
         requires own { seat.old.seat.seat.table_id ≡ self.now.lock.table.shared.table_id }
         requires all { seat.old.seat.seat.me.0.parts ≡ seat.old.seat.seat.me.0.all }
         ensures own { seat.new.seat.seat.table_id ≡ seat.old.seat.seat.table_id }
         ensures same { seat.new.seat.seat.me.0 ≡ seat.old.seat.seat.me.0 }
-        ensures legal { (most size : ℕ) → IsSeatOf most size seat.old.seat.seat.me.0
-            → Legal most size seat.old.seat.seat.me.0.seen }
-        ensures once { (p : ℕ) → owned p seat.old.seat.seat.me.0
-            ≡ once_below p (length seat.old.seat.seat.me.0.seen) }
+        ensures whole { IsWhole seat.old.seat.seat.me.0 }
     {
         self.lock.whole(&mut seat.seat);
     }

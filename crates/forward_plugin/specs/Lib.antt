@@ -1,0 +1,16 @@
+pub mod Options
+pub mod Replies
+pub mod Forward
+pub mod Made
+pub mod Reading
+pub mod Judged
+pub mod PoolUses
+pub mod Taking
+pub mod Laws
+-- what public clauses cite
+pub use Rattle.forward_plugin.specs.Forward.{Said, all_failed, forward_means, next, reply}
+pub use Rattle.forward_plugin.specs.Options.{ForwardData, fails_of, is_pooled}
+pub use Rattle.forward_plugin.specs.PoolUses.{IsOwn, SameBut, Uses, UsesAt}
+pub use Rattle.forward_plugin.specs.PoolUses.{calls_by, pool_count, pool_place}
+pub use Rattle.forward_plugin.specs.Reading.{forward_read}
+pub use Rattle.forward_plugin.specs.Taking.{Forwards, ForwardState, pool_calls, said, state_at}

@@ -1,0 +1,26 @@
+//! The plugin `forward`: other servers are asked, and the first answer that agrees is passed on.
+#![tactic(auto)]
+
+mod ask;
+mod deciding;
+mod making;
+mod numbered;
+mod options;
+mod plan;
+mod pool_calls;
+mod pool_use;
+mod reading;
+mod reply;
+mod rounds;
+mod say;
+mod seen;
+mod side_calls;
+mod turn;
+
+pub use deciding::{ForwardQuery, decide};
+pub use numbered::Numbered;
+pub use options::Policy;
+pub use plan::ForwardPlan;
+pub use pool_use::PoolUse;
+pub use say::ForwardSay;
+pub use turn::Turn;

@@ -5,3 +5,4 @@ pub mod CallLaws
 pub mod SeatLists
 pub mod Merging
 pub mod Crossings
+pub mod Sharings

@@ -2,11 +2,14 @@
 #![tactic(auto)]
 
 mod counting;
+mod crowd;
+mod deeds;
 mod making;
 mod rows;
 mod running;
 mod weights;
 
+use crowd::run_at_once;
 use dns_data::NoMemory;
 use rows::{ends, lifetimes, three_in_two};
 use running::{Room, history};
@@ -61,7 +64,17 @@ fn main(rt: HostRuntime) -> io::Result<()> {
         }
     }
     match faults(&rt, rt.alloc(), 100_000) {
-        Ok(faults) => println!(rt; "faults of 300000 calls {faults}"),
+        Ok(faults) => println!(rt; "faults of 300000 calls {faults}")?,
+        Err(_) => println!(rt; "no memory")?,
+    }
+    match run_at_once(&rt, rt.alloc()) {
+        Ok(ended) => {
+            let done = &ended.done;
+            println!(rt; "puts of four workers at once {}", done.puts)?;
+            println!(rt; "some hits {}", done.is_hit)?;
+            println!(rt; "hits that no worker put so {}", done.strange)?;
+            println!(rt; "faults {}", done.faults)
+        }
         Err(_) => println!(rt; "no memory"),
     }
 }

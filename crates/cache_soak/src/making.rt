@@ -12,16 +12,18 @@ use std::alloc::Global;
 pub struct Anything;
 
 impl Judge for Anything {
-    ghost just = { λ judge entry. Unit {0} };
+    ghost use Rattle.cache_soak.specs.Judging.{is_any};
+
+    ghost just = { is_any };
 }
 
 /// A class, when it was made, how long it lives, and a number by which it is told apart.
-#[derive(Clone, Copy)]
+#[derive(Clone, Copy, Debug, PartialEq, Eq)]
 pub struct Made {
     pub class: Class,
     pub born: u64,
     pub life: u32,
-    pub number: u16,
+    pub number: u32,
 }
 
 /// An entry without records.
@@ -48,12 +50,26 @@ pub fn entry(alloc: Global, made: Made) -> Entry
             cd: false,
             rd: true,
             edns: false,
-            client: Addr::V4(0),
-            port: made.number,
+            client: Addr::V4(made.number),
+            port: 4000,
             by: Transport::Udp,
             local: 53,
         },
         inner: Seq::new(alloc),
+    }
+}
+
+/// What an entry was made of.
+pub fn made_of(entry: &Entry) -> Made {
+    let number = match entry.origin.client {
+        Addr::V4(number) => number,
+        Addr::V6(_) => u32::MAX,
+    };
+    Made {
+        class: entry.class,
+        born: entry.born,
+        life: entry.life,
+        number,
     }
 }
 

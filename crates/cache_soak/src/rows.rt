@@ -1,8 +1,9 @@
 //! Gets, each with a put behind a miss, by hand.
 ghost use Rattle.std.specs.Prelude.{◌<◌, ◌^◌};
-ghost use Rattle.cache_shards.specs.Seats.{IsSeatOf};
+ghost use Rattle.cache_shards.specs.Seats.{IsSeatOf, views_of};
+ghost use Rattle.cache_soak.specs.Shares.{KeepsParts};
 
-use crate::making::{Anything, Made, entry, key, plan};
+use crate::making::{Anything, Made, entry, key, made_of, plan};
 use cache_shards::{Cache, CacheSeat, Kept, Looked};
 use dns_data::NoMemory;
 use outside::{Class, Key};
@@ -10,7 +11,7 @@ use seeded_hash::Seed;
 use std::alloc::Global;
 use std::sync::{Arc, Wait};
 
-/// A get: the number of the entry, or none.
+/// A get: what the entry was made of, or none.
 pub fn get<R: Wait>(
     rt: &R,
     alloc: Global,
@@ -18,12 +19,13 @@ pub fn get<R: Wait>(
     seat: &mut CacheSeat<Anything>,
     key: &Key,
     now: u64,
-) -> Result<Option<u16>, NoMemory>
+) -> Result<Option<Made>, NoMemory>
     requires own { IsSeatOf cache.now seat.old.seats.items }
     ensures own { IsSeatOf cache.now seat.new.seats.items }
+    ensures parts { KeepsParts (views_of seat.old.seats.items) (views_of seat.new.seats.items) }
 {
     match cache.get(alloc, rt, seat, key, now) {
-        Looked::Hit(entry) => Ok(Some(entry.origin.port)),
+        Looked::Hit(entry) => Ok(Some(made_of(&entry))),
         Looked::Miss => Ok(None),
         Looked::NoMemory => Err(NoMemory),
     }
@@ -41,6 +43,7 @@ pub fn put<R: Wait>(
     requires own { IsSeatOf cache.now seat.old.seats.items }
     requires life { made.life < 2 ^ 31 }
     ensures own { IsSeatOf cache.now seat.new.seats.items }
+    ensures parts { KeepsParts (views_of seat.old.seats.items) (views_of seat.new.seats.items) }
 {
     let entry = Arc::new(alloc, entry(alloc, made))?;
     match cache.put(rt, seat, key, entry) {

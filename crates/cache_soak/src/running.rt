@@ -118,7 +118,7 @@ impl Next {
             class,
             born: self.now,
             life: (self.word / 70_368_744_177_664 % 4) as u32,
-            number: (self.word % 65_536) as u16,
+            number: (self.word % 65_536) as u32,
         }
     }
 }
@@ -158,7 +158,7 @@ fn turn<R: Wait>(
     match counts.found(number, next.now) {
         Some(made) => {
             counts.note(number, made, false)?;
-            Ok(got == Some(made.number))
+            Ok(got == Some(made))
         }
         None => Ok(got.is_none()),
     }

@@ -1,4 +1,4 @@
-"""tools/check-corefile over the built program: that what it shows and its statuses are the program's."""
+"""tools/check-corefile over the built program: that what it shows and its statuses are the program's. The widths and drawings of the repository."""
 import os
 import subprocess
 import sys
@@ -93,10 +93,27 @@ def drawings(rows):
         rows.equal(f"{title}: drawn from what it shows", (ran.returncode, ran.stdout), (0, ""))
 
 
+def page_commands():
+    """The commands of docs/TESTING.md that print nothing where no line is too wide and nothing takes too many arguments."""
+    with open(os.path.join(TOP, "docs", "TESTING.md"), encoding="utf-8") as file:
+        section = file.read().partition("\n## Widths and arguments\n")[2].partition("\n## ")[0]
+    block = section.partition("```text\n")[2].partition("```")[0]
+    return ["\n".join(lines.splitlines()) for lines in ("\n" + block).split("\n$ ")[1:]]
+
+
+def widths(rows):
+    commands = page_commands()
+    rows.equal("docs/TESTING.md has its commands of widths and arguments", len(commands), 4)
+    for command in commands:
+        done = subprocess.run(["bash", "-c", command], cwd=TOP, capture_output=True, text=True, env={**os.environ, "LC_ALL": "C.UTF-8"})
+        rows.equal(f"{command.splitlines()[0][:60]} .. prints nothing", done.stdout + done.stderr, "")
+
+
 def main():
     needs_program()
     rows = Rows()
     drawings(rows)
+    widths(rows)
     with tempfile.TemporaryDirectory() as room:
         if checked(corefile(room, ""))[0] == NO_PLACE:
             print("skipped: no network of its own can be made here")

@@ -1,5 +1,0 @@
-use Rattle.std.proofs.Common.{length}
-use Rattle.conformance.proofs.plain.count_differences.Given as goal
-
-abbrev pub decreases-loop-mark : goal.decreases-loop-mark
-decreases-loop-mark l = length l.rest

@@ -1,6 +1,0 @@
-use Rattle.std.specs.List.{All}
-use Rattle.outside_mem.specs.Unused.{IsUnusedSide}
-use Rattle.conformance.proofs.reports.unused_sides.Given as goal
-
-abbrev pub invariant-loop-script : goal.invariant-loop-script
-invariant-loop-script l = All IsUnusedSide l.sides.items

@@ -24,9 +24,9 @@ WORD = r'''fn word(words: &[String], index: usize) -> &str {
 '''
 
 
-def built(folder, name, crates, needs, source, words):
+def built(folder, name, crates, needs, source, words, files=None):
     """The program NAME of a source that needs some of these crates, each behind those below it, proved and built in a repository of
-    its own, and run once by these words."""
+    its own, and run once by these words. `files` has the text of each further file of it, by its path."""
     crate = os.path.join(folder, "crates", name)
     os.makedirs(os.path.join(crate, "src"))
     for below in crates:
@@ -35,15 +35,22 @@ def built(folder, name, crates, needs, source, words):
         lines = [line for line in file if line.split(":")[0] in crates]
     with open(os.path.join(folder, "crates.txt"), "w") as file:
         file.writelines([*lines, f"{name}: {' '.join(needs)}\n"])
+    shutil.copy(os.path.join(TOP, "HANDLES"), folder)
     with open(os.path.join(crate, "src", "main.rt"), "w") as file:
         file.write(source)
+    for path, text in (files or {}).items():
+        place = os.path.join(crate, path)
+        os.makedirs(os.path.dirname(place), exist_ok=True)
+        with open(place, "w") as file:
+            file.write(text)
     subprocess.run(["rt", "fmt"], cwd=crate, check=True, stdout=subprocess.DEVNULL)
     subprocess.run(["rt", "run", "--", *words], cwd=crate, check=True, stdout=subprocess.DEVNULL)
     return os.path.join(crate, "out", name)
 
 
-def cost(folder, program, *words):
-    """User instructions of one run by these words, and what it printed."""
+def cost(folder, program, *words, within=()):
+    """User instructions of one run by these words, and what it printed. Of functions alone, where some are named."""
     out = os.path.join(folder, "callgrind.out")
-    done = subprocess.run([*under(out), program, *map(str, words)], check=True, capture_output=True, text=True)
+    options = [f"--toggle-collect={name}*" for name in within]
+    done = subprocess.run([*under(out, *options), program, *map(str, words)], check=True, capture_output=True, text=True)
     return collected(done.stderr), done.stdout

@@ -1,3 +1,4 @@
+pub mod Extras
 pub mod Index
 pub mod KeyLaws
 pub mod Laws
@@ -8,6 +9,7 @@ pub mod PositionLaws
 pub mod Ranks
 pub mod Texts
 -- what public clauses cite
+pub use Rattle.plugin_api.specs.Extras.{Obey, Obeys, Sayings, Takings, set_to}
 pub use Rattle.plugin_api.specs.Index.{IndexData, IsIndexOf}
 pub use Rattle.plugin_api.specs.Picking.{Picks, picked}
 pub use Rattle.plugin_api.specs.Laws.{picked_is}

@@ -6,6 +6,7 @@ pub mod Blocks
 pub mod Readable
 pub mod Reader
 pub mod Ports
+pub mod PortsLaws
 pub mod Texts
 pub mod GrowingLaws
 -- what public clauses cite

@@ -1,5 +1,5 @@
 ghost use Rattle.std.specs.Prelude.{◌≡◌};
-ghost use Rattle.command_line.specs.Options.{with_choice};
+ghost use Rattle.command_line.specs.Options.{once, with_choice};
 
 use crate::choice::Choice;
 
@@ -17,33 +17,33 @@ impl<'a> Given<'a> {
     pub fn with(self, choice: Choice<'a>) -> Option<Given<'a>>
         ensures { result ≡ with_choice self.entry choice.entry }
     {
-        let mut given = self;
         match choice {
             Choice::Conf(file) => {
-                if given.conf.is_some() {
-                    return None;
-                }
-                given.conf = Some(file);
+                let conf = Some(file);
+                once(self.conf, Given { conf, ..self })
             }
             Choice::Port(port) => {
-                if given.port.is_some() {
-                    return None;
-                }
-                given.port = Some(port);
+                let port = Some(port);
+                once(self.port, Given { port, ..self })
             }
             Choice::Workers(workers) => {
-                if given.workers.is_some() {
-                    return None;
-                }
-                given.workers = Some(workers);
+                let workers = Some(workers);
+                once(self.workers, Given { workers, ..self })
             }
             Choice::Queries(queries) => {
-                if given.queries.is_some() {
-                    return None;
-                }
-                given.queries = Some(queries);
+                let queries = Some(queries);
+                once(self.queries, Given { queries, ..self })
             }
         }
-        Some(given)
     }
+}
+
+// What is given, unless the further one was given before.
+fn once<'a, T: Drop>(before: Option<T>, given: Given<'a>) -> Option<Given<'a>>
+    ensures { result ≡ once before given.entry }
+{
+    if before.is_some() {
+        return None;
+    }
+    Some(given)
 }

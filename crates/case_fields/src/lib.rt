@@ -3,6 +3,8 @@
 
 mod fault;
 mod fields;
+mod putting;
 
 pub use fault::CaseFault;
 pub use fields::{bytes_field, read_bytes, read_text};
+pub use putting::{put_bytes, put_number, put_word};

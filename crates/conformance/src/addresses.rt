@@ -1,46 +1,52 @@
 //! Addresses: `addr TEXT`, `addrtext 4|6 ADDRESS`, `net TEXT`, `holds NET ADDRESS`.
 
 use crate::case::Case;
-use crate::fields::{addr_fields, flag_field, read_addr};
-use case_fields::{CaseFault, bytes_field, read_bytes};
+use crate::fields::{put_addr, put_flag, read_addr};
+use case_fields::{CaseFault, put_bytes, put_number, put_word, read_bytes};
 use dns_data::{Addr, Net};
 use std::alloc::Global;
 
 /// The address that a text spells, or `bad`.
-pub fn read(alloc: Global, case: &Case<'_>) -> Result<String, CaseFault> {
-    let text = read_bytes(alloc, case.argument()?)?;
-    match Addr::read(&text) {
-        Some(addr) => addr_fields(alloc, addr),
-        None => Ok(String::from_str(alloc, "bad")?),
+pub fn read(alloc: Global, case: &Case<'_>, out: &mut String) -> Result<(), CaseFault> {
+    match addr_in(alloc, case.argument()?)? {
+        Some(addr) => put_addr(alloc, out, addr),
+        None => put_word(out, "bad"),
     }
 }
 
 /// The text of an address.
-pub fn print(alloc: Global, case: &Case<'_>) -> Result<String, CaseFault> {
+pub fn print(alloc: Global, case: &Case<'_>, out: &mut String) -> Result<(), CaseFault> {
     let (family, digits) = case.arguments()?;
     let addr = read_addr(alloc, family, digits)?;
-    bytes_field(alloc, addr.text(alloc)?.as_str().as_bytes())
+    put_bytes(alloc, out, addr.text(alloc)?.as_str().as_bytes())
 }
 
 /// The net that a text spells, as an address and how many of its bits, or `bad`.
-pub fn net(alloc: Global, case: &Case<'_>) -> Result<String, CaseFault> {
-    let text = read_bytes(alloc, case.argument()?)?;
-    match Net::read(&text) {
-        Some(net) => {
-            let addr = addr_fields(alloc, net.addr)?;
-            Ok(format!(in alloc; "{} {}", addr.as_str(), net.bits)?)
-        }
-        None => Ok(String::from_str(alloc, "bad")?),
-    }
+pub fn net(alloc: Global, case: &Case<'_>, out: &mut String) -> Result<(), CaseFault> {
+    let Some(net) = net_in(alloc, case.argument()?)? else {
+        return put_word(out, "bad");
+    };
+    put_addr(alloc, out, net.addr)?;
+    put_word(out, " ")?;
+    put_number(out, u64::from(net.bits))
 }
 
 /// Whether the net that a text spells holds the address that another one spells.
-pub fn holds(alloc: Global, case: &Case<'_>) -> Result<String, CaseFault> {
+pub fn holds(alloc: Global, case: &Case<'_>, out: &mut String) -> Result<(), CaseFault> {
     let (net, addr) = case.arguments()?;
-    let net = read_bytes(alloc, net)?;
-    let addr = read_bytes(alloc, addr)?;
-    match (Net::read(&net), Addr::read(&addr)) {
-        (Some(net), Some(addr)) => flag_field(alloc, net.holds(&addr)),
-        _ => Err(CaseFault::Bad),
-    }
+    let Some(net) = net_in(alloc, net)? else {
+        return Err(CaseFault::Bad);
+    };
+    let Some(addr) = addr_in(alloc, addr)? else {
+        return Err(CaseFault::Bad);
+    };
+    put_flag(out, net.holds(&addr))
+}
+
+fn addr_in(alloc: Global, field: &str) -> Result<Option<Addr>, CaseFault> {
+    Ok(Addr::read(&read_bytes(alloc, field)?))
+}
+
+fn net_in(alloc: Global, field: &str) -> Result<Option<Net>, CaseFault> {
+    Ok(Net::read(&read_bytes(alloc, field)?))
 }

@@ -2,23 +2,26 @@
 
 use crate::case::Case;
 use crate::fields::read_name;
-use case_fields::{CaseFault, read_text};
+use case_fields::{CaseFault, put_number, put_word, read_text};
 use dns_data::{Block, BlockKey, BlockKeys, Blocks, Directives};
-use plugin_api::{BlockIndex, pick, rank};
+use plugin_api::{BlockIndex, Rank, pick, rank};
 use std::alloc::Global;
 
 /// The place of a name's rank in a chain and whether it may stand once or more often, or `none`.
-pub fn order(alloc: Global, case: &Case<'_>) -> Result<String, CaseFault> {
-    let name = read_text(alloc, case.argument()?)?;
-    let Some(rank) = rank(&name) else {
-        return Ok(String::from_str(alloc, "none")?);
-    };
-    let often = if rank.is_once() { "once" } else { "more" };
-    Ok(format!(in alloc; "{} {often}", rank.order())?)
+pub fn order(alloc: Global, case: &Case<'_>, out: &mut String) -> Result<(), CaseFault> {
+    match rank(&read_text(alloc, case.argument()?)?) {
+        Some(rank) => put_rank(out, rank),
+        None => put_word(out, "none"),
+    }
+}
+
+fn put_rank(out: &mut String, rank: Rank) -> Result<(), CaseFault> {
+    put_number(out, u64::from(rank.order()))?;
+    put_word(out, if rank.is_once() { " once" } else { " more" })
 }
 
 /// The number of the block that serves a name, or `none`: from the list, and from its index.
-pub fn picked(alloc: Global, case: &Case<'_>) -> Result<String, CaseFault> {
+pub fn picked(alloc: Global, case: &Case<'_>, out: &mut String) -> Result<(), CaseFault> {
     let (blocks, asked) = case.arguments()?;
     let blocks = read_blocks(alloc, blocks)?;
     let asked = read_key(alloc, asked)?;
@@ -26,15 +29,15 @@ pub fn picked(alloc: Global, case: &Case<'_>) -> Result<String, CaseFault> {
         return Err(CaseFault::Bad);
     }
     let index = BlockIndex::new(alloc, &blocks)?;
-    let listed = picked_field(alloc, pick(&blocks, asked.port, &asked.zone))?;
-    let found = picked_field(alloc, index.find(asked.port, &asked.zone))?;
-    Ok(format!(in alloc; "{} {}", listed.as_str(), found.as_str())?)
+    put_picked(out, pick(&blocks, asked.port, &asked.zone))?;
+    put_word(out, " ")?;
+    put_picked(out, index.find(asked.port, &asked.zone))
 }
 
-fn picked_field(alloc: Global, block: Option<u32>) -> Result<String, CaseFault> {
+fn put_picked(out: &mut String, block: Option<u32>) -> Result<(), CaseFault> {
     match block {
-        Some(number) => Ok(format!(in alloc; "{number}")?),
-        None => Ok(String::from_str(alloc, "none")?),
+        Some(number) => put_number(out, u64::from(number)),
+        None => put_word(out, "none"),
     }
 }
 
@@ -45,14 +48,18 @@ fn read_blocks(alloc: Global, field: &str) -> Result<Blocks, CaseFault> {
         return Ok(blocks);
     }
     for block in field.split(';') {
-        let mut keys = BlockKeys::new(alloc);
-        for key in block.split(',') {
-            keys.push(read_key(alloc, key)?)?;
-        }
-        let directives = Directives::new(alloc);
-        blocks.push(Block { keys, directives })?;
+        blocks.push(read_block(alloc, block)?)?;
     }
     Ok(blocks)
+}
+
+fn read_block(alloc: Global, field: &str) -> Result<Block, CaseFault> {
+    let mut keys = BlockKeys::new(alloc);
+    for key in field.split(',') {
+        keys.push(read_key(alloc, key)?)?;
+    }
+    let directives = Directives::new(alloc);
+    Ok(Block { keys, directives })
 }
 
 // A port, and a name in wire format: `53:00`.

@@ -1,5 +1,6 @@
-/// A case: a call and its arguments. The answer that is expected stands in the file of answers, and
 use case_fields::CaseFault;
+
+/// A case: a call and its arguments. The answer that is expected stands in the file of answers, and
 /// isn't read.
 #[derive(Clone, Copy, Debug)]
 pub struct Case<'a> {
@@ -29,40 +30,36 @@ impl<'a> Case<'a> {
 
     /// The arguments of a call that has two.
     pub fn arguments(&self) -> Result<(&'a str, &'a str), CaseFault> {
-        let Some((first, second)) = self.fields.split_once(' ') else {
-            return Err(CaseFault::Bad);
-        };
+        let (first, second) = first_field(self.fields)?;
         Ok((first, only_field(second)?))
     }
 
     /// The arguments of a call that has three.
     pub fn three_arguments(&self) -> Result<(&'a str, &'a str, &'a str), CaseFault> {
-        let Some((first, others)) = self.fields.split_once(' ') else {
-            return Err(CaseFault::Bad);
-        };
-        let Some((second, third)) = others.split_once(' ') else {
-            return Err(CaseFault::Bad);
-        };
+        let (first, others) = first_field(self.fields)?;
+        let (second, third) = first_field(others)?;
         Ok((first, second, only_field(third)?))
     }
 
     /// The arguments of a call that has four.
     pub fn four_arguments(&self) -> Result<(&'a str, &'a str, &'a str, &'a str), CaseFault> {
-        let Some((first, others)) = self.fields.split_once(' ') else {
-            return Err(CaseFault::Bad);
-        };
-        let Some((second, others)) = others.split_once(' ') else {
-            return Err(CaseFault::Bad);
-        };
-        let Some((third, fourth)) = others.split_once(' ') else {
-            return Err(CaseFault::Bad);
-        };
+        let (first, others) = first_field(self.fields)?;
+        let (second, others) = first_field(others)?;
+        let (third, fourth) = first_field(others)?;
         Ok((first, second, third, only_field(fourth)?))
     }
 
     /// The arguments of a call that has any number of them, with spaces between them.
     pub fn fields(&self) -> &'a str {
         self.fields
+    }
+}
+
+// The first of several fields, and the others.
+fn first_field(fields: &str) -> Result<(&str, &str), CaseFault> {
+    match fields.split_once(' ') {
+        Some(parts) => Ok(parts),
+        None => Err(CaseFault::Bad),
     }
 }
 

@@ -2,8 +2,7 @@
 
 use crate::case::Case;
 use crate::corefile::read_environment;
-use crate::fields::text_field;
-use case_fields::{CaseFault, bytes_field, read_bytes, read_text};
+use case_fields::{CaseFault, put_bytes, put_word, read_bytes, read_text};
 use chain_build::{CheckFault, check as check_bundle};
 use chain_meaning::Refusal;
 use corefile_blocks::Bundle;
@@ -12,22 +11,22 @@ use outside::RegexMaker;
 use std::alloc::Global;
 
 /// `ok`, or `refused` and the line that an operator sees.
-pub fn check(alloc: Global, case: &Case<'_>) -> Result<String, CaseFault> {
+pub fn check(alloc: Global, case: &Case<'_>, out: &mut String) -> Result<(), CaseFault> {
     let (bundle, port) = read_bundle(alloc, case)?;
     if !bundle.is_readable() {
         return Err(CaseFault::Bad);
     }
     match check_bundle(alloc, bundle, port, &mut RegexMaker::new()) {
-        Ok(_) => text_field(alloc, "ok"),
-        Err(CheckFault::Refused(refusal)) => refused_field(alloc, &refusal),
+        Ok(_) => put_word(out, "ok"),
+        Err(CheckFault::Refused(refusal)) => put_refusal(alloc, out, &refusal),
         Err(CheckFault::NoMemory) => Err(CaseFault::NoMemory),
     }
 }
 
-fn refused_field(alloc: Global, refusal: &Refusal) -> Result<String, CaseFault> {
+fn put_refusal(alloc: Global, out: &mut String, refusal: &Refusal) -> Result<(), CaseFault> {
     let line = format!(in alloc; "{refusal}")?;
-    let field = bytes_field(alloc, line.as_str().as_bytes())?;
-    Ok(format!(in alloc; "refused {}", field.as_str())?)
+    put_word(out, "refused ")?;
+    put_bytes(alloc, out, line.as_str().as_bytes())
 }
 
 /// The bundle of a case, and the port of keys that name none.
@@ -59,7 +58,6 @@ fn read_file(alloc: Global, field: &str) -> Result<FileText, CaseFault> {
         return Err(CaseFault::Bad);
     };
     let name = read_text(alloc, name)?;
-    let bytes = Bytes::of(read_bytes(alloc, bytes)?);
-    let bytes = Some(bytes);
+    let bytes = Some(Bytes::of(read_bytes(alloc, bytes)?));
     Ok(FileText { name, bytes })
 }

@@ -1,34 +1,40 @@
 //! Corefiles: `words TEXT ENVIRONMENT`, `wants TEXT`.
 
 use crate::case::Case;
-use case_fields::{CaseFault, bytes_field, read_bytes, read_text};
+use case_fields::{CaseFault, put_bytes, put_number, put_word, read_bytes, read_text};
 use corefile_blocks::{Bundle, wants};
-use corefile_words::{Pair, Pairs, Word, WordLine, WordsFault, read_words};
-use dns_data::{Bytes, FileTexts};
+use corefile_words::{Pair, Pairs, Word, WordLine, WordLines, WordsFault, read_words};
+use dns_data::{Bytes, FileTexts, Texts};
 use std::alloc::Global;
 
 /// `ok` and the lines of words, or `fault` and the line that an operator sees.
-pub fn words(alloc: Global, case: &Case<'_>) -> Result<String, CaseFault> {
+pub fn words(alloc: Global, case: &Case<'_>, out: &mut String) -> Result<(), CaseFault> {
     let (text, environment) = case.arguments()?;
+    match words_of(alloc, text, environment)? {
+        Ok(lines) => put_lines(alloc, out, &lines),
+        Err(WordsFault::NotText { line }) => put_fault(alloc, out, line, "not UTF-8"),
+        Err(WordsFault::OpenQuote { line }) => put_fault(alloc, out, line, "open quote"),
+        Err(WordsFault::QuoteTail { line }) => put_fault(alloc, out, line, "text after quote"),
+        Err(WordsFault::NoMemory) => Err(CaseFault::NoMemory),
+    }
+}
+
+// What reading the words of two fields gives.
+fn words_of(
+    alloc: Global,
+    text: &str,
+    environment: &str,
+) -> Result<Result<WordLines, WordsFault>, CaseFault> {
     let text = read_bytes(alloc, text)?;
     let env = read_environment(alloc, environment)?;
     if u32::MAX as usize <= text.len() {
         return Err(CaseFault::Bad);
     }
-    match read_words(alloc, &text, env.as_slice()) {
-        Ok(lines) => {
-            let mut answer = String::from_str(alloc, "ok")?;
-            for line in lines.as_slice() {
-                put_line(alloc, &mut answer, line)?;
-            }
-            Ok(answer)
-        }
-        Err(fault) => fault_line(alloc, fault),
-    }
+    Ok(read_words(alloc, &text, env.as_slice()))
 }
 
 /// The files that a Corefile wants first, where none of them was read yet.
-pub fn wanted(alloc: Global, case: &Case<'_>) -> Result<String, CaseFault> {
+pub fn wanted(alloc: Global, case: &Case<'_>, out: &mut String) -> Result<(), CaseFault> {
     let text = read_bytes(alloc, case.argument()?)?;
     if u32::MAX as usize <= text.len() {
         return Err(CaseFault::Bad);
@@ -38,15 +44,17 @@ pub fn wanted(alloc: Global, case: &Case<'_>) -> Result<String, CaseFault> {
         env: Pairs::new(alloc),
         files: FileTexts::new(alloc),
     };
-    let mut answer = String::new(alloc);
-    for name in wants(alloc, &bundle)?.as_slice() {
-        if !answer.is_empty() {
-            answer.push(' ')?;
+    put_names(alloc, out, &wants(alloc, &bundle)?)
+}
+
+fn put_names(alloc: Global, out: &mut String, names: &Texts) -> Result<(), CaseFault> {
+    for (index, name) in names.as_slice().iter().enumerate() {
+        if index != 0 {
+            put_word(out, " ")?;
         }
-        let field = bytes_field(alloc, name.as_str().as_bytes())?;
-        answer.push_str(field.as_str())?;
+        put_bytes(alloc, out, name.as_str().as_bytes())?;
     }
-    Ok(answer)
+    Ok(())
 }
 
 /// The variables of a field: `NAME:VALUE` with commas between them, or `-`.
@@ -56,50 +64,52 @@ pub fn read_environment(alloc: Global, field: &str) -> Result<Pairs, CaseFault> 
         return Ok(pairs);
     }
     for pair in field.split(',') {
-        let Some((name, value)) = pair.split_once(':') else {
-            return Err(CaseFault::Bad);
-        };
-        let name = read_text(alloc, name)?;
-        let value = read_text(alloc, value)?;
-        pairs.push(Pair { name, value })?;
+        pairs.push(read_pair(alloc, pair)?)?;
     }
     Ok(pairs)
 }
 
-// Adds a line: its number, and its words with commas between them.
-fn put_line(alloc: Global, answer: &mut String, line: &WordLine) -> Result<(), CaseFault> {
-    let number = format!(in alloc; " {}:", line.number)?;
-    answer.push_str(number.as_str())?;
-    let mut is_first = true;
-    for word in line.words.as_slice() {
-        if !is_first {
-            answer.push(',')?;
-        }
-        put_word(alloc, answer, word)?;
-        is_first = false;
-    }
-    Ok(())
-}
-
-fn put_word(alloc: Global, answer: &mut String, word: &Word) -> Result<(), CaseFault> {
-    if word.brace {
-        answer.push_str(word.text.as_str())?;
-    } else {
-        let field = bytes_field(alloc, word.text.as_str().as_bytes())?;
-        answer.push_str(field.as_str())?;
-    }
-    Ok(())
-}
-
-fn fault_line(alloc: Global, fault: WordsFault) -> Result<String, CaseFault> {
-    let line = match fault {
-        WordsFault::NotText { line } => format!(in alloc; "corefile line {line}: not UTF-8")?,
-        WordsFault::OpenQuote { line } => format!(in alloc; "corefile line {line}: open quote")?,
-        WordsFault::QuoteTail { line } => {
-            format!(in alloc; "corefile line {line}: text after quote")?
-        }
-        WordsFault::NoMemory => return Err(CaseFault::NoMemory),
+fn read_pair(alloc: Global, field: &str) -> Result<Pair, CaseFault> {
+    let Some((name, value)) = field.split_once(':') else {
+        return Err(CaseFault::Bad);
     };
-    let field = bytes_field(alloc, line.as_str().as_bytes())?;
-    Ok(format!(in alloc; "fault {}", field.as_str())?)
+    let name = read_text(alloc, name)?;
+    let value = read_text(alloc, value)?;
+    Ok(Pair { name, value })
+}
+
+fn put_lines(alloc: Global, out: &mut String, lines: &WordLines) -> Result<(), CaseFault> {
+    put_word(out, "ok")?;
+    for line in lines.as_slice() {
+        put_line(alloc, out, line)?;
+    }
+    Ok(())
+}
+
+// Adds a line: its number, and its words with commas between them.
+fn put_line(alloc: Global, out: &mut String, line: &WordLine) -> Result<(), CaseFault> {
+    put_word(out, " ")?;
+    put_number(out, u64::from(line.number))?;
+    put_word(out, ":")?;
+    for (index, word) in line.words.as_slice().iter().enumerate() {
+        if index != 0 {
+            put_word(out, ",")?;
+        }
+        put_read(alloc, out, word)?;
+    }
+    Ok(())
+}
+
+fn put_read(alloc: Global, out: &mut String, word: &Word) -> Result<(), CaseFault> {
+    if word.brace {
+        put_word(out, word.text.as_str())
+    } else {
+        put_bytes(alloc, out, word.text.as_str().as_bytes())
+    }
+}
+
+fn put_fault(alloc: Global, out: &mut String, line: u32, why: &str) -> Result<(), CaseFault> {
+    let text = format!(in alloc; "corefile line {line}: {why}")?;
+    put_word(out, "fault ")?;
+    put_bytes(alloc, out, text.as_str().as_bytes())
 }

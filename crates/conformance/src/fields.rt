@@ -1,8 +1,8 @@
 //! The fields of a case: bytes in hexadecimal, names in wire format, and addresses.
 
-use case_fields::{CaseFault, bytes_field, read_bytes};
+use case_fields::{CaseFault, put_bytes, put_number, put_word, read_bytes};
 use dns_data::limit::{LABEL_BYTES, NAME_BYTES};
-use dns_data::{Addr, Name, Text};
+use dns_data::{Addr, Name};
 use std::alloc::Global;
 
 /// The name of a field in wire format, its zero byte included.
@@ -42,51 +42,68 @@ fn push_label(name: &mut Name, label: &[u8]) -> Result<(), CaseFault> {
     Ok(name.push(label)?)
 }
 
-/// The field of a name.
-pub fn name_field(alloc: Global, name: &Name) -> Result<String, CaseFault> {
-    let mut wire = Vec::from_slice(alloc, name.as_wire())?;
-    wire.push(0)?;
-    bytes_field(alloc, &wire)
+/// Adds the field of a name.
+pub fn put_name(alloc: Global, out: &mut String, name: &Name) -> Result<(), CaseFault> {
+    let wire = name.as_wire();
+    if !wire.is_empty() {
+        put_bytes(alloc, out, wire)?;
+    }
+    put_word(out, "00")
 }
 
 /// The address of two fields: 4 or 6, and its bytes.
 pub fn read_addr(alloc: Global, family: &str, digits: &str) -> Result<Addr, CaseFault> {
     let bytes = read_bytes(alloc, digits)?;
     match family {
-        "4" => match <[u8; 4]>::try_from(bytes.as_slice()) {
-            Ok(bytes) => Ok(Addr::V4(u32::from_be_bytes(bytes))),
-            Err(_) => Err(CaseFault::Bad),
-        },
-        "6" => match <[u8; 16]>::try_from(bytes.as_slice()) {
-            Ok(bytes) => Ok(Addr::V6(u128::from_be_bytes(bytes))),
-            Err(_) => Err(CaseFault::Bad),
-        },
+        "4" => addr_of(four_of(&bytes)),
+        "6" => addr_of(sixteen_of(&bytes)),
         _ => Err(CaseFault::Bad),
     }
 }
 
-/// The fields of an address.
-pub fn addr_fields(alloc: Global, addr: Addr) -> Result<String, CaseFault> {
+fn addr_of(read: Option<Addr>) -> Result<Addr, CaseFault> {
+    match read {
+        Some(addr) => Ok(addr),
+        None => Err(CaseFault::Bad),
+    }
+}
+
+fn four_of(bytes: &[u8]) -> Option<Addr> {
+    match <[u8; 4]>::try_from(bytes) {
+        Ok(bytes) => Some(Addr::V4(u32::from_be_bytes(bytes))),
+        Err(_) => None,
+    }
+}
+
+fn sixteen_of(bytes: &[u8]) -> Option<Addr> {
+    match <[u8; 16]>::try_from(bytes) {
+        Ok(bytes) => Some(Addr::V6(u128::from_be_bytes(bytes))),
+        Err(_) => None,
+    }
+}
+
+/// Adds the fields of an address.
+pub fn put_addr(alloc: Global, out: &mut String, addr: Addr) -> Result<(), CaseFault> {
     match addr {
-        Addr::V4(number) => Ok(format!(in alloc; "4 {number:08x}")?),
-        Addr::V6(number) => Ok(format!(in alloc; "6 {number:032x}")?),
+        Addr::V4(number) => put_family(alloc, out, "4 ", &number.to_be_bytes()),
+        Addr::V6(number) => put_family(alloc, out, "6 ", &number.to_be_bytes()),
     }
 }
 
-/// The field of a number that is there, or `bad`.
-pub fn number_field(alloc: Global, number: Option<u64>) -> Result<String, CaseFault> {
+fn put_family(alloc: Global, out: &mut String, word: &str, bytes: &[u8]) -> Result<(), CaseFault> {
+    put_word(out, word)?;
+    put_bytes(alloc, out, bytes)
+}
+
+/// Adds a number that is there, or `bad`.
+pub fn put_number_or_bad(out: &mut String, number: Option<u64>) -> Result<(), CaseFault> {
     match number {
-        Some(number) => Ok(format!(in alloc; "{number}")?),
-        None => text_field(alloc, "bad"),
+        Some(number) => put_number(out, number),
+        None => put_word(out, "bad"),
     }
 }
 
-/// The field of what holds or doesn't.
-pub fn flag_field(alloc: Global, flag: bool) -> Result<String, CaseFault> {
-    text_field(alloc, if flag { "1" } else { "0" })
-}
-
-/// A word as a field.
-pub fn text_field(alloc: Global, word: &str) -> Result<String, CaseFault> {
-    Ok(String::from_str(alloc, word)?)
+/// Adds whether something holds.
+pub fn put_flag(out: &mut String, flag: bool) -> Result<(), CaseFault> {
+    put_word(out, if flag { "1" } else { "0" })
 }

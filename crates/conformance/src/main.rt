@@ -51,91 +51,92 @@ fn print<W: Write>(alloc: Global, out: &mut W, line: &str) -> io::Result<()> {
     let Some(case) = Case::read(line) else {
         return writeln!(out, "bad case");
     };
-    match answer(alloc, &case) {
-        Ok(text) => writeln!(out, "{} = {}", case.question, text),
+    let mut text = String::new(alloc);
+    match answer(alloc, &case, &mut text) {
+        Ok(()) => writeln!(out, "{} = {}", case.question, text),
         Err(CaseFault::Bad) => writeln!(out, "bad case"),
         Err(CaseFault::NoMemory) => Err(io::ErrorKind::OutOfMemory.into()),
     }
 }
 
-// Makes a call, sought by the subject of its module.
-fn answer(alloc: Global, case: &Case<'_>) -> Result<String, CaseFault> {
-    if let Some(answer) = of_values(alloc, case) {
-        return answer;
+// Makes a call, sought by the subject of its module, and adds its answer.
+fn answer(alloc: Global, case: &Case<'_>, out: &mut String) -> Result<(), CaseFault> {
+    if let Some(done) = of_values(alloc, case, out) {
+        return done;
     }
-    if let Some(answer) = of_names(alloc, case) {
-        return answer;
+    if let Some(done) = of_names(alloc, case, out) {
+        return done;
     }
-    if let Some(answer) = of_messages(alloc, case) {
-        return answer;
+    if let Some(done) = of_messages(alloc, case, out) {
+        return done;
     }
-    if let Some(answer) = of_zones(alloc, case) {
-        return answer;
+    if let Some(done) = of_zones(alloc, case, out) {
+        return done;
     }
-    of_corefiles(alloc, case)
+    of_corefiles(alloc, case, out)
 }
 
-fn of_values(alloc: Global, case: &Case<'_>) -> Option<Result<String, CaseFault>> {
+fn of_values(alloc: Global, case: &Case<'_>, out: &mut String) -> Option<Result<(), CaseFault>> {
     Some(match case.call {
-        "addr" => addresses::read(alloc, case),
-        "addrtext" => addresses::print(alloc, case),
-        "net" => addresses::net(alloc, case),
-        "holds" => addresses::holds(alloc, case),
-        "number" => digits::number(alloc, case),
-        "duration" => digits::duration(alloc, case),
-        "find" => patterns::find(alloc, case),
-        "patterntext" => patterns::print(alloc, case),
+        "addr" => addresses::read(alloc, case, out),
+        "addrtext" => addresses::print(alloc, case, out),
+        "net" => addresses::net(alloc, case, out),
+        "holds" => addresses::holds(alloc, case, out),
+        "number" => digits::number(alloc, case, out),
+        "duration" => digits::duration(alloc, case, out),
+        "find" => patterns::find(alloc, case, out),
+        "patterntext" => patterns::print(alloc, case, out),
         _ => return None,
     })
 }
 
-fn of_names(alloc: Global, case: &Case<'_>) -> Option<Result<String, CaseFault>> {
+fn of_names(alloc: Global, case: &Case<'_>, out: &mut String) -> Option<Result<(), CaseFault>> {
     Some(match case.call {
-        "name" => names::read(alloc, case),
-        "nametext" => names::print(alloc, case),
-        "lower" => names::lower(alloc, case),
-        "same" => names::same(alloc, case),
-        "within" => names::within(alloc, case),
-        "reverse" => names::reverse(alloc, case),
-        "reversed" => names::reversed(alloc, case),
-        "zoneword" => names::zone(alloc, case),
+        "name" => names::read(alloc, case, out),
+        "nametext" => names::print(alloc, case, out),
+        "lower" => names::lower(alloc, case, out),
+        "same" => names::same(alloc, case, out),
+        "within" => names::within(alloc, case, out),
+        "reverse" => names::reverse(alloc, case, out),
+        "reversed" => names::reversed(alloc, case, out),
+        "zoneword" => names::zone(alloc, case, out),
         _ => return None,
     })
 }
 
-fn of_messages(alloc: Global, case: &Case<'_>) -> Option<Result<String, CaseFault>> {
+fn of_messages(alloc: Global, case: &Case<'_>, out: &mut String) -> Option<Result<(), CaseFault>> {
     Some(match case.call {
-        "query" => messages::query(alloc, case),
-        "asked" => messages::asked(alloc, case),
-        "reply" => messages::reply(alloc, case),
-        "cut" => messages::truncated(alloc, case),
-        "stream" => streams::messages(alloc, case),
+        "query" => messages::query(alloc, case, out),
+        "asked" => messages::asked(alloc, case, out),
+        "reply" => messages::reply(alloc, case, out),
+        "cut" => messages::truncated(alloc, case, out),
+        "stream" => streams::messages(alloc, case, out),
         _ => return None,
     })
 }
 
-fn of_zones(alloc: Global, case: &Case<'_>) -> Option<Result<String, CaseFault>> {
+fn of_zones(alloc: Global, case: &Case<'_>, out: &mut String) -> Option<Result<(), CaseFault>> {
     Some(match case.call {
-        "record" => records::read(alloc, case),
-        "kind" => records::read_type(alloc, case),
-        "kindtext" => records::print_type(alloc, case),
-        "rcodetext" => records::print_rcode(alloc, case),
-        "zone" => zones::read(alloc, case),
-        "lookup" => zones::answer(alloc, case),
+        "record" => records::read(alloc, case, out),
+        "kind" => records::read_type(alloc, case, out),
+        "kindtext" => records::print_type(alloc, case, out),
+        "rcodetext" => records::print_rcode(alloc, case, out),
+        "zone" => zones::read(alloc, case, out),
+        "lookup" => zones::answer(alloc, case, out),
         _ => return None,
     })
 }
 
-fn of_corefiles(alloc: Global, case: &Case<'_>) -> Result<String, CaseFault> {
+fn of_corefiles(alloc: Global, case: &Case<'_>, out: &mut String) -> Result<(), CaseFault> {
     match case.call {
-        "cli" => commands::command(alloc, case),
-        "load" => loads::data(alloc, case),
-        "words" => corefile::words(alloc, case),
-        "wants" => corefile::wanted(alloc, case),
-        "blocks" => parsed::blocks(alloc, case),
-        "check" => checks::check(alloc, case),
-        "rank" => blocks::order(alloc, case),
-        "pick" => blocks::picked(alloc, case),
+        "cli" => commands::command(alloc, case, out),
+        "load" => loads::data(alloc, case, out),
+        "words" => corefile::words(alloc, case, out),
+        "wants" => corefile::wanted(alloc, case, out),
+        "blocks" => parsed::blocks(alloc, case, out),
+        "check" => checks::check(alloc, case, out),
+        "rank" => blocks::order(alloc, case, out),
+        "pick" => blocks::picked(alloc, case, out),
         _ => Err(CaseFault::Bad),
     }
 }

@@ -112,47 +112,26 @@ fn restore_sections(
 ) -> Result<(), NoMemory>
     ensures { OnOk result (slot.new ≡ sections_restored answering.now step.now slot.old) }
 {
+    restore_section(alloc, answering, step, room, &mut slot.answer)?;
+    restore_section(alloc, answering, step, room, &mut slot.authority)?;
+    restore_section(alloc, answering, step, room, &mut slot.additional)
+}
+
+fn restore_section(
+    alloc: Global,
+    answering: &Answering<Finder>,
+    step: &Step,
+    room: &mut RewriteRoom,
+    section: &mut RecordRoom,
+) -> Result<(), NoMemory>
+    ensures { OnOk result
+        (section.new ≡ map (record_restored answering.now step.now) section.old) }
+{
     match answering {
-        Answering::Auto => restore_all_owners(step, slot),
-        Answering::Name(replacing) => rename_all_owners(alloc, replacing, room, slot),
-        Answering::Value(replacing) => rename_all_data(alloc, replacing, room, slot),
+        Answering::Auto => restore_owners(step, section),
+        Answering::Name(replacing) => rename_owners(alloc, replacing, room, section),
+        Answering::Value(replacing) => rename_data(alloc, replacing, room, section),
     }
-}
-
-fn restore_all_owners(step: &Step, slot: &mut Slot) -> Result<(), NoMemory>
-    ensures { OnOk result (slot.new ≡ sections_restored answering.Auto step.now slot.old) }
-{
-    restore_owners(step, &mut slot.answer)?;
-    restore_owners(step, &mut slot.authority)?;
-    restore_owners(step, &mut slot.additional)
-}
-
-fn rename_all_owners(
-    alloc: Global,
-    replacing: &Replacing<Finder>,
-    room: &mut RewriteRoom,
-    slot: &mut Slot,
-) -> Result<(), NoMemory>
-    ensures { (step : Step) → OnOk result
-        (slot.new ≡ sections_restored (answering.Name replacing.now) step slot.old) }
-{
-    rename_owners(alloc, replacing, room, &mut slot.answer)?;
-    rename_owners(alloc, replacing, room, &mut slot.authority)?;
-    rename_owners(alloc, replacing, room, &mut slot.additional)
-}
-
-fn rename_all_data(
-    alloc: Global,
-    replacing: &Replacing<Finder>,
-    room: &mut RewriteRoom,
-    slot: &mut Slot,
-) -> Result<(), NoMemory>
-    ensures { (step : Step) → OnOk result
-        (slot.new ≡ sections_restored (answering.Value replacing.now) step slot.old) }
-{
-    rename_data(alloc, replacing, room, &mut slot.answer)?;
-    rename_data(alloc, replacing, room, &mut slot.authority)?;
-    rename_data(alloc, replacing, room, &mut slot.additional)
 }
 
 // Owners that are the name behind a rule get the name before it.

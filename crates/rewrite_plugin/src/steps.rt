@@ -1,4 +1,4 @@
-ghost use Rattle.std.specs.Prelude.{◌≡◌, [], ◌∷◌, ◌++◌, OnOk};
+ghost use Rattle.std.specs.Prelude.{◌≡◌, [], ◌∷◌, ◌++◌, IfOk, OnOk};
 ghost use Rattle.rewrite_plugin.specs.declared.steps.Step.{Step};
 
 use dns_data::{Copies, Name, NoMemory};
@@ -14,6 +14,20 @@ pub struct Step {
 }
 
 impl Step {
+    // A step with names of its own.
+    #[cold]
+    #[inline(never)]
+    fn of(alloc: Global, rule: usize, before: &Name, after: &Name) -> Result<Step, NoMemory>
+        ensures { IfOk result
+            (λ step. step ≡ record { rule = rule; before = before.now; after = after.now }) }
+    {
+        Ok(Step {
+            rule,
+            before: before.copy(alloc)?,
+            after: after.copy(alloc)?,
+        })
+    }
+
     // Becomes another one, in the room of its names.
     #[inline]
     fn set(&mut self, rule: usize, before: &Name, after: &Name) -> Result<(), NoMemory>
@@ -91,27 +105,16 @@ impl Steps {
             self.count += 1;
             return Ok(());
         }
-        self.push_far(alloc, rule, before, after)
+        let step = Step::of(alloc, rule, before, after)?;
+        self.push_far(step)
     }
 
     // Adds a step behind all that stood here before.
     #[cold]
     #[inline(never)]
-    fn push_far(
-        &mut self,
-        alloc: Global,
-        rule: usize,
-        before: &Name,
-        after: &Name,
-    ) -> Result<(), NoMemory>
-        ensures { OnOk result (self.new
-            ≡ self.old ++ record { rule = rule; before = before.now; after = after.now } ∷ []) }
+    fn push_far(&mut self, step: Step) -> Result<(), NoMemory>
+        ensures { OnOk result (self.new ≡ self.old ++ step ∷ []) }
     {
-        let step = Step {
-            rule,
-            before: before.copy(alloc)?,
-            after: after.copy(alloc)?,
-        };
         self.items.truncate(self.count);
         self.items.push(step)?;
         self.count += 1;

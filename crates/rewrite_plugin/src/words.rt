@@ -39,23 +39,14 @@ pub(crate) fn sought_in(words: &[Text]) -> (Matching, &[Text])
 fn match_word(word: &Text) -> Option<Matching>
     ensures { result ≡ match_word word.now }
 {
-    let bytes = word.as_str().as_bytes();
-    if bytes == b"exact".as_slice() {
-        return Some(Matching::Exact);
+    match word.as_str() {
+        "exact" => Some(Matching::Exact),
+        "prefix" => Some(Matching::Prefix),
+        "suffix" => Some(Matching::Suffix),
+        "substring" => Some(Matching::Substring),
+        "regex" => Some(Matching::Regex),
+        _ => None,
     }
-    if bytes == b"prefix".as_slice() {
-        return Some(Matching::Prefix);
-    }
-    if bytes == b"suffix".as_slice() {
-        return Some(Matching::Suffix);
-    }
-    if bytes == b"substring".as_slice() {
-        return Some(Matching::Substring);
-    }
-    if bytes == b"regex".as_slice() {
-        return Some(Matching::Regex);
-    }
-    None
 }
 
 /// What a word says that is sought.

@@ -71,18 +71,11 @@ impl Policy {
 pub(crate) fn action_of(word: &Text) -> Option<Action>
     ensures { result ≡ action_of word.now }
 {
-    let bytes = word.as_str().as_bytes();
-    if bytes == b"allow".as_slice() {
-        return Some(Action::Allow);
+    match word.as_str() {
+        "allow" => Some(Action::Allow),
+        "block" => Some(Action::Block),
+        "filter" => Some(Action::Filter),
+        "drop" => Some(Action::Drop),
+        _ => None,
     }
-    if bytes == b"block".as_slice() {
-        return Some(Action::Block);
-    }
-    if bytes == b"filter".as_slice() {
-        return Some(Action::Filter);
-    }
-    if bytes == b"drop".as_slice() {
-        return Some(Action::Drop);
-    }
-    None
 }

@@ -42,37 +42,25 @@ pub struct Seen {
 pub(crate) fn opened(word: &Text) -> Opens
     ensures { result ≡ opened word.now }
 {
-    let bytes = word.as_str().as_bytes();
-    if bytes == b"success".as_slice() {
-        return Opens::Success;
+    match word.as_str() {
+        "success" => Opens::Success,
+        "denial" => Opens::Denial,
+        "servfail" => Opens::Servfail,
+        "disable" => Opens::Disable,
+        "keepttl" => Opens::Keepttl,
+        _ => Opens::Nothing,
     }
-    if bytes == b"denial".as_slice() {
-        return Opens::Denial;
-    }
-    if bytes == b"servfail".as_slice() {
-        return Opens::Servfail;
-    }
-    if bytes == b"disable".as_slice() {
-        return Opens::Disable;
-    }
-    if bytes == b"keepttl".as_slice() {
-        return Opens::Keepttl;
-    }
-    Opens::Nothing
 }
 
 /// Which class a word behind `disable` names.
 pub(crate) fn chosen(word: &Text) -> Choice
     ensures { result ≡ choice_of word.now }
 {
-    let bytes = word.as_str().as_bytes();
-    if bytes == b"success".as_slice() {
-        return Choice::Success;
+    match word.as_str() {
+        "success" => Choice::Success,
+        "denial" => Choice::Denial,
+        _ => Choice::Neither,
     }
-    if bytes == b"denial".as_slice() {
-        return Choice::Denial;
-    }
-    Choice::Neither
 }
 
 /// The TTL that a word spells: 1 to 2^31 - 1.

@@ -28,17 +28,12 @@ pub struct Seen {
 pub(crate) fn opened(word: &Text) -> Opens
     ensures { result ≡ opened word.now }
 {
-    let bytes = word.as_str().as_bytes();
-    if bytes == b"ttl".as_slice() {
-        return Opens::Ttl;
+    match word.as_str() {
+        "ttl" => Opens::Ttl,
+        "no_reverse" => Opens::NoReverse,
+        "fallthrough" => Opens::Fallthrough,
+        _ => Opens::Addresses,
     }
-    if bytes == b"no_reverse".as_slice() {
-        return Opens::NoReverse;
-    }
-    if bytes == b"fallthrough".as_slice() {
-        return Opens::Fallthrough;
-    }
-    Opens::Addresses
 }
 
 /// The options behind a line.

@@ -40,23 +40,12 @@ pub(crate) fn is_match(word: &Text) -> bool
 pub(crate) fn opened(word: &Text) -> Opens
     ensures { result ≡ opened word.now }
 {
-    let bytes = word.as_str().as_bytes();
-    if bytes == b"answer".as_slice() {
-        return Opens::Text;
+    match word.as_str() {
+        "answer" | "additional" | "authority" => Opens::Text,
+        "rcode" => Opens::Rcode,
+        "fallthrough" => Opens::Fallthrough,
+        _ => Opens::Other,
     }
-    if bytes == b"additional".as_slice() {
-        return Opens::Text;
-    }
-    if bytes == b"authority".as_slice() {
-        return Opens::Text;
-    }
-    if bytes == b"rcode".as_slice() {
-        return Opens::Rcode;
-    }
-    if bytes == b"fallthrough".as_slice() {
-        return Opens::Fallthrough;
-    }
-    Opens::Other
 }
 
 /// With the option that a line opens.

@@ -1,5 +1,9 @@
 pub mod Turn
 pub mod Workers
+pub mod Calls
+pub mod CallsLaws
+pub mod Held
+pub mod HeldLaws
 pub mod Reloads
 pub mod Messages
 pub mod Answers

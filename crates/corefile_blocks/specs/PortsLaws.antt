@@ -78,9 +78,9 @@ one_rising (x ∷ xs) [] up other same = absurd (nothing_in x ((same x).0 (head_
 one_rising (x ∷ xs) (y ∷ ys) up other same =
     let is : x ≡ y = first_same x y xs ys up other same in
     let forth : (n : ℕ) → Contains (x ∷ xs) n → Contains (x ∷ ys) n =
-        λ n h. subst (λ z. Contains (z ∷ ys) n) (sym is) ((same n).0 h) in
+    λ n h. subst (λ z. Contains (z ∷ ys) n) (sym is) ((same n).0 h) in
     let back : (n : ℕ) → Contains (y ∷ ys) n → Contains (y ∷ xs) n =
-        λ n h. subst (λ z. Contains (z ∷ xs) n) is ((same n).1 h) in
+    λ n h. subst (λ z. Contains (z ∷ xs) n) is ((same n).1 h) in
     ap (λ n. n ∷ xs) is
     ∙ ap (λ ns. y ∷ ns)
     (one_rising xs ys (rest_rises x xs up) (rest_rises y ys other)

@@ -10,6 +10,7 @@ mod socket;
 mod start;
 #[cfg(test)]
 mod tests;
+mod upstream;
 mod why;
 
 pub use addresses::{every_address, host_addresses};
@@ -20,4 +21,8 @@ pub use socket::{
     open_tcp, open_tcp_at, open_udp, open_udp_alone, open_udp_at, open_udp_beside, poke, share_port,
 };
 pub use start::open_standard;
+pub use upstream::{
+    Awaited, Moved, Readiness, await_socket, is_connected, open_tcp_to, open_udp_to, receive_some,
+    send_some,
+};
 pub use why::{EdgeLine, Why, line_text};

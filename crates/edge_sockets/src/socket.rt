@@ -1,5 +1,7 @@
 //! The sockets of a port: at every address of both families, or of IPv4 alone where the system has
 //! no IPv6.
+ghost use Rattle.std.specs.Prelude.{◌≤◌};
+
 use crate::calls::PATIENCE;
 use crate::sender::{V4_LEN, V6_LEN};
 use crate::why::Why;
@@ -17,7 +19,7 @@ const RECEIVE_BYTES: i32 = 1_048_576;
 const WAITING: i32 = 1_024;
 
 #[derive(Clone, Copy, Debug)]
-enum Family {
+pub(crate) enum Family {
     Both,
     V4,
 }
@@ -109,7 +111,7 @@ pub fn open_tcp_at(_net: &impl Net, addr: Addr, port: u16) -> Result<TcpListener
     Ok(TcpListener::from(socket))
 }
 
-fn family_of(addr: Addr) -> Family {
+pub(crate) fn family_of(addr: Addr) -> Family {
     match addr {
         Addr::V4(_) => Family::V4,
         Addr::V6(_) => Family::Both,
@@ -118,12 +120,18 @@ fn family_of(addr: Addr) -> Family {
 
 // Gives a socket of the address's family the port at it.
 fn bind_at(socket: &impl AsRawFd, addr: Addr, port: u16) -> Result<(), Why> {
-    let len = match addr {
+    // SAFETY: the descriptor is that of a socket which is open for the whole call.
+    check(unsafe { c::bind(socket.as_raw_fd(), &spelt(addr, port), len_of(addr)) })
+}
+
+// How many bytes spell an address with its port.
+pub(crate) fn len_of(addr: Addr) -> u32
+    ensures { result ≤ 128 }
+{
+    match addr {
         Addr::V4(_) => V4_LEN,
         Addr::V6(_) => V6_LEN,
-    };
-    // SAFETY: the descriptor is that of a socket which is open for the whole call.
-    check(unsafe { c::bind(socket.as_raw_fd(), &spelt(addr, port), len) })
+    }
 }
 
 // A port whose last connections still wait for late bytes may be taken again.
@@ -209,6 +217,11 @@ fn new_socket(family: Family, by: Transport) -> Result<OwnedFd, Why> {
             }
         }
     };
+    owned(fd)
+}
+
+// A descriptor that was just opened, or why it wasn't.
+pub(crate) fn owned(fd: i32) -> Result<OwnedFd, Why> {
     if fd < 0 {
         return Err(Why::of(os::errno()));
     }
@@ -217,7 +230,7 @@ fn new_socket(family: Family, by: Transport) -> Result<OwnedFd, Why> {
 }
 
 // An address and a port as the system spells them: C's `sockaddr_in` and `sockaddr_in6`.
-fn spelt(addr: Addr, port: u16) -> [u8; 128] {
+pub(crate) fn spelt(addr: Addr, port: u16) -> [u8; 128] {
     let mut bytes = [0u8; 128];
     bytes[2..4].copy_from_slice(&port.to_be_bytes());
     match addr {
@@ -234,14 +247,14 @@ fn spelt(addr: Addr, port: u16) -> [u8; 128] {
 }
 
 // An option's number.
-fn value_of(number: i32) -> [u8; 16] {
+pub(crate) fn value_of(number: i32) -> [u8; 16] {
     let mut value = [0u8; 16];
     value[..4].copy_from_slice(&number.to_ne_bytes());
     value
 }
 
 // What a call's status says.
-fn check(status: i32) -> Result<(), Why> {
+pub(crate) fn check(status: i32) -> Result<(), Why> {
     if status < 0 {
         return Err(Why::of(os::errno()));
     }

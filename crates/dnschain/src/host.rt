@@ -63,7 +63,7 @@ impl<
     } };
 
     fn open_watch(&mut self) -> Result<FileWatch<R>, OpenFault> {
-        let Ok(crew) = Arc::new(self.alloc, Crew::new()) else {
+        let Ok(crew) = Arc::new(self.alloc, Crew::new(self.alloc)) else {
             return Err(OpenFault::NoMemory);
         };
         let Ok(asked) = Arc::try_clone(&crew) else {
@@ -116,7 +116,7 @@ fn crew_of(
 ) -> Result<Arc<Crew, Global>, AllocError> {
     match crew {
         Some(crew) => Arc::try_clone(crew),
-        None => Ok(Arc::new(alloc, Crew::new())?),
+        None => Ok(Arc::new(alloc, Crew::new(alloc))?),
     }
 }
 

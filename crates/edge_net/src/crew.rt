@@ -1,9 +1,12 @@
+use edge_asks::Timings;
+use std::alloc::Global;
 use std::sync::atomic::{AtomicU64, Ordering};
 use std::sync::{Condvar, Mutex, Wait};
 use std::time::{Clock, Duration};
 
-/// What the sides of a run and its watch share: how many sides still work, and whether one has
-/// left. Once one has, the others' receives end, and once all have, the watch does.
+/// What the sides of a run and its watch share: how many sides still work, whether one has left, and
+/// the times of upstreams. Once one has left, the others' receives end, and once all have, the watch
+/// does.
 #[derive(Drop)]
 pub struct Crew {
     working: AtomicU64,
@@ -12,17 +15,24 @@ pub struct Crew {
     // Whether all sides have left.
     ended: Mutex<bool>,
     changed: Condvar,
+    timings: Timings,
 }
 
 impl Crew {
     /// A crew without a side.
-    pub fn new() -> Crew {
+    pub fn new(alloc: Global) -> Crew {
         Crew {
             working: AtomicU64::new(0),
             left: AtomicU64::new(0),
             ended: Mutex::new(false),
             changed: Condvar::new(),
+            timings: Timings::new(alloc),
         }
+    }
+
+    /// What is known of the times of upstreams.
+    pub fn timings(&self) -> &Timings {
+        &self.timings
     }
 
     /// One side more works.

@@ -10,6 +10,7 @@ use crate::tcp::TcpEnd;
 use crate::udp::UdpEnd;
 use dns_data::limit::MESSAGE_BYTES;
 use dns_data::{Buffer, Transport};
+use edge_asks::{Asker, Words};
 use edge_sockets::{Client, note_line};
 use outside::{Datagram, Outcome, Received, Seen, Side, Upstream, Wrote};
 use std::alloc::Global;
@@ -66,6 +67,8 @@ pub struct NetSide<R: Wait + Net + Clock + RandomSource + Eprint + Files + Drop>
     pause: u64,
     // The sides of the run.
     crew: Arc<Crew, Global>,
+    asker: Asker,
+    words: Words,
     tally: Tally,
 }
 
@@ -84,6 +87,8 @@ impl<R: Wait + Net + Clock + RandomSource + Eprint + Files + Drop> NetSide<R> {
             client: Client::nobody(),
             pause: 0,
             crew,
+            asker: Asker::new(alloc),
+            words: Words::new(),
             tally: Tally::new(),
         }
     }
@@ -143,24 +148,24 @@ impl<R: Wait + Net + Clock + RandomSource + Eprint + Files + Drop> Side for NetS
         moment(&self.rt).unwrap_or(0)
     }
 
-    /// A word of the system's random source, or 0 where that fails.
+    /// A word of the system's random source, which is asked for 32 at once, or 0 where that fails.
     fn word(&mut self) -> u64 {
-        let mut bytes = [0u8; 8];
-        match self.rt.fill_bytes(&mut bytes) {
-            Ok(()) => u64::from_ne_bytes(bytes),
-            Err(_) => 0,
-        }
+        self.words.next(&self.rt)
     }
 
-    /// No plugin that is built asks an upstream, and none is asked: every ask fails.
-    fn ask(&mut self, _to: &Upstream, _by: Transport, _message: &[u8]) -> Outcome {
-        count(&mut self.tally.ask);
-        Outcome::Failed
+    /// By a socket, or over TCP a connection, of this side's own, for two seconds at most.
+    fn ask(&mut self, to: &Upstream, by: Transport, message: &[u8]) -> Outcome {
+        let timings = self.crew.timings();
+        let outcome = self.asker.ask(&self.rt, timings, to, by, message);
+        self.tally.count_outcome(&outcome);
+        outcome
     }
 
+    /// A further datagram, for what is left of the time of the last ask.
     fn more(&mut self) -> Outcome {
-        count(&mut self.tally.ask);
-        Outcome::Failed
+        let outcome = self.asker.more(&self.rt);
+        self.tally.count_outcome(&outcome);
+        outcome
     }
 
     fn note(&mut self, line: &[u8]) -> Wrote {

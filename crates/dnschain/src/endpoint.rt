@@ -1,5 +1,5 @@
 use dns_data::{Addr, NoMemory, Text, Transport};
-use edge_net::{End, TcpEnd, UdpEnd};
+use edge_net::{End, Loans, TcpEnd, UdpEnd};
 use edge_sockets::{
     Why, every_address, open_tcp, open_tcp_at, open_udp, open_udp_alone, open_udp_beside,
 };
@@ -8,6 +8,7 @@ use std::io;
 use std::io::ErrorKind;
 use std::net::{Net, TcpListener, UdpSocket};
 use std::rt::Files;
+use std::sync::Arc;
 use stream_connection::Bounds;
 
 /// Why a side of an endpoint isn't there.
@@ -41,6 +42,8 @@ pub struct Endpoint {
     // At further addresses, where the first is at one alone.
     others: Vec<Socket>,
     apart: Option<Apart>,
+    // What its workers lend each other, where each has a socket of its own for datagrams.
+    loans: Option<Arc<Loans, Global>>,
 }
 
 impl Endpoint {
@@ -61,6 +64,7 @@ impl Endpoint {
                 socket,
                 others: Vec::new(alloc),
                 apart: None,
+                loans: loans_for(alloc, by),
             }),
             Err(Why::InUse) => Endpoint::open_apart(rt, alloc, port, by),
             Err(why) => Err(Unopened::System(why)),
@@ -103,6 +107,7 @@ impl Endpoint {
                 socket,
                 others,
                 apart: Some(apart),
+                loans: None,
             }),
             None => Err(Unopened::System(Why::InUse)),
         }
@@ -131,7 +136,13 @@ impl Endpoint {
                     Some(socket) => socket,
                     None => first.try_clone().map_err(system_fault)?,
                 };
-                Ok(End::Udp(UdpEnd::new(alloc, socket, self.port)))
+                let mut end = UdpEnd::new(alloc, socket, self.port);
+                if let Some(loans) = &self.loans {
+                    if let Ok(loans) = Arc::try_clone(loans) {
+                        end.join(loans, number as usize);
+                    }
+                }
+                Ok(End::Udp(end))
             }
             Socket::Udp(first) => self.share_each(alloc, first),
             Socket::Tcp(listener) => self.share_listeners(net, alloc, listener),
@@ -178,6 +189,14 @@ impl Endpoint {
             return None;
         }
         open_udp_beside(net, first, self.port).ok()
+    }
+}
+
+// For the workers of a port for datagrams. Where there is none, nothing is lent.
+fn loans_for(alloc: Global, by: Transport) -> Option<Arc<Loans, Global>> {
+    match by {
+        Transport::Udp => Arc::new(alloc, Loans::new(alloc)?).ok(),
+        Transport::Tcp => None,
     }
 }
 

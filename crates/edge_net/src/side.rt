@@ -40,7 +40,7 @@ impl End {
     #[inline(always)]
     fn recv(
         &mut self,
-        rt: &(impl Net + Clock + Files),
+        rt: &(impl Net + Clock + Files + Wait),
         bytes: &mut Buffer,
         client: &mut Client,
     ) -> Arrival {
@@ -153,8 +153,12 @@ impl<R: Wait + Net + Clock + RandomSource + Eprint + Files + Drop> Side for NetS
         self.words.next(&self.rt)
     }
 
-    /// By a socket, or over TCP a connection, of this side's own, for two seconds at most.
+    /// By a socket, or over TCP a connection, of this side's own, for two seconds at most. Over UDP
+    /// its clients' datagrams are lent to the other workers of the port until the next receive.
     fn ask(&mut self, to: &Upstream, by: Transport, message: &[u8]) -> Outcome {
+        if let End::Udp(end) = &mut self.end {
+            end.lend(&self.rt);
+        }
         let timings = self.crew.timings();
         let outcome = self.asker.ask(&self.rt, timings, to, by, message);
         self.tally.count_outcome(&outcome);
@@ -195,7 +199,7 @@ impl<R: Wait + Net + Clock + RandomSource + Eprint + Files + Drop> Side for NetS
 // Waits for the next message. Nothing: another side has left. Mostly a message comes within a
 // second, and the loop is a call of its own.
 #[inline(always)]
-fn await_message<R: Net + Clock + Files>(
+fn await_message<R: Net + Clock + Files + Wait>(
     rt: &R,
     end: &mut End,
     crew: &Crew,
@@ -211,7 +215,7 @@ fn await_message<R: Net + Clock + Files>(
 // Waits for the next message where none has come within a second.
 #[cold]
 #[inline(never)]
-fn await_longer<R: Net + Clock + Files>(
+fn await_longer<R: Net + Clock + Files + Wait>(
     rt: &R,
     end: &mut End,
     crew: &Crew,

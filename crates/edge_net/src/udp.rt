@@ -3,6 +3,7 @@ ghost use Rattle.edge_sockets.specs.{client_of};
 
 use crate::arrival::Arrival;
 use crate::clock::moment;
+use crate::loans::{Loans, Seat, readable};
 use dns_data::{Addr, Buffer, NoMemory};
 use edge_sockets::{
     Client, PATIENCE, Sender, Unreceived, host_addresses, open_udp_at, poke, receive, reply_to,
@@ -15,6 +16,7 @@ use std::mem;
 use std::net::{Net, UdpSocket};
 use std::os::fd::AsRawFd;
 use std::rt::Files;
+use std::sync::{Arc, Wait};
 use std::time::Clock;
 
 // As many bytes as a datagram can have.
@@ -25,6 +27,9 @@ const LARGEST: usize = 65_535;
 const BETWEEN: u64 = 10_000;
 
 const ROW: u32 = 64;
+
+// How often a receive may be woken for nothing before it ends as behind a second.
+const LOOKS: u32 = 1_024;
 
 /// One worker's share of a UDP port. A host with several addresses has a socket at each of them
 /// beside the one at every address, since the system would pick the source of a reply by itself.
@@ -48,6 +53,12 @@ pub struct UdpEnd {
     looked: Option<u64>,
     // Whether it stays with the sockets that it has, none of which is at every address.
     stays: bool,
+    // Its place among the workers of the port, where they lend each other their sockets.
+    seat: Option<Seat>,
+    // Whether sockets of the port's workers were lent.
+    lends: bool,
+    // Whether there is one socket to receive by, and none was lent.
+    alone: bool,
 }
 
 impl UdpEnd {
@@ -65,6 +76,9 @@ impl UdpEnd {
             row: 0,
             looked: None,
             stays: false,
+            seat: None,
+            lends: false,
+            alone: true,
         }
     }
 
@@ -77,12 +91,31 @@ impl UdpEnd {
     ) -> Result<UdpEnd, NoMemory> {
         let mut end = UdpEnd::new(alloc, socket, port);
         end.stays = true;
-        end.asked.push(readable(&end.socket))?;
+        end.asked.push(readable(end.socket.as_raw_fd()))?;
         for other in &others {
-            end.asked.push(readable(other))?;
+            end.asked.push(readable(other.as_raw_fd()))?;
         }
         end.others = others;
+        end.alone = end.others.is_empty();
         Ok(end)
+    }
+
+    /// Takes the place of this number among the workers of the port.
+    pub fn join(&mut self, loans: Arc<Loans, Global>, number: usize) {
+        self.seat = Some(Seat::new(self.alloc, loans, number));
+    }
+
+    /// Lends its sockets to the other workers of the port until the next receive, since this one
+    /// won't take what comes to them for a while.
+    #[cold]
+    #[inline(never)]
+    pub fn lend(&mut self, rt: &impl Wait) {
+        if let Some(seat) = &mut self.seat {
+            if seat.lend(rt, &self.socket, &self.others) {
+                self.lends = true;
+                self.alone = false;
+            }
+        }
     }
 
     /// Waits for the next datagram, whose bytes come in place of what the message held, and which
@@ -90,7 +123,7 @@ impl UdpEnd {
     #[inline(always)]
     pub fn recv(
         &mut self,
-        rt: &(impl Net + Clock + Files),
+        rt: &(impl Net + Clock + Files + Wait),
         message: &mut Buffer,
         client: &mut Client,
     ) -> Arrival
@@ -106,7 +139,7 @@ impl UdpEnd {
         if packet.len() < LARGEST && packet.resize(LARGEST, 0).is_err() {
             return Arrival::NoMemory;
         }
-        match self.receive(&mut packet, client) {
+        match self.receive(rt, &mut packet, client) {
             Ok(count) => {
                 *message = Buffer::front(packet, count);
                 Arrival::Got
@@ -132,8 +165,16 @@ impl UdpEnd {
         }
     }
 
-    /// Replies to the sender of the last datagram, and says whether the system took it.
+    /// Replies to the sender of the last datagram, by the socket that had it, and says whether the
+    /// system took it.
     pub fn reply(&mut self, bytes: &[u8]) -> bool {
+        if !self.alone {
+            if let Some(seat) = &self.seat {
+                if let Some(socket) = seat.borrowed() {
+                    return reply_to(socket, bytes, &self.from);
+                }
+            }
+        }
         reply_to(
             socket_at(&self.socket, &self.others, self.at),
             bytes,
@@ -143,23 +184,9 @@ impl UdpEnd {
 
     // The next datagram. Mostly there is one socket.
     #[inline(always)]
-    fn receive(&mut self, packet: &mut Vec<u8>, client: &mut Client) -> Result<usize, Unreceived>
-        ensures count { IfOk result (λ count. count ≤ vec_len packet.new) }
-        ensures client { IfOk result (λ _.
-            client_of self.new.from.bytes self.new.from.len ≡ Some client.new) }
-    {
-        if self.others.is_empty() {
-            self.at = 0;
-            let (socket, packet) = (&self.socket, packet.as_mut_slice());
-            return receive(socket, packet, &mut self.from, client, true);
-        }
-        self.receive_any(packet, client)
-    }
-
-    // A datagram of any of the sockets. While the one that had the last has more, it goes on.
-    #[inline(never)]
-    fn receive_any(
+    fn receive(
         &mut self,
+        rt: &impl Wait,
         packet: &mut Vec<u8>,
         client: &mut Client,
     ) -> Result<usize, Unreceived>
@@ -167,28 +194,117 @@ impl UdpEnd {
         ensures client { IfOk result (λ _.
             client_of self.new.from.bytes self.new.from.len ≡ Some client.new) }
     {
-        if self.row % 8 != 0 {
-            let socket = socket_at(&self.socket, &self.others, self.at);
-            let packet = packet.as_mut_slice();
-            match receive(socket, packet, &mut self.from, client, false) {
+        if self.alone {
+            self.at = 0;
+            let (socket, packet) = (&self.socket, packet.as_mut_slice());
+            return receive(socket, packet, &mut self.from, client, true);
+        }
+        self.receive_any(rt, packet, client)
+    }
+
+    // A datagram of any of the sockets, or of those that other workers have lent.
+    #[inline(never)]
+    fn receive_any(
+        &mut self,
+        rt: &impl Wait,
+        packet: &mut Vec<u8>,
+        client: &mut Client,
+    ) -> Result<usize, Unreceived>
+        ensures count { IfOk result (λ count. count ≤ vec_len packet.new) }
+        ensures client { IfOk result (λ _.
+            client_of self.new.from.bytes self.new.from.len ≡ Some client.new) }
+    {
+        if !self.lends {
+            return self.receive_own(packet, client, PATIENCE);
+        }
+        if let Some(seat) = &mut self.seat {
+            seat.take_back();
+        }
+        // Those that are lent come first now and then, or they might starve while the own one has more.
+        if self.row == 0 {
+            match self.receive_lent(rt, packet, client) {
                 Err(Unreceived::Nothing) => {}
                 received => return received,
             }
         }
-        self.at = next_ready(self.asked.as_mut_slice(), self.at)?;
+        for _ in 0..LOOKS {
+            match self.receive_own(packet, client, 0) {
+                Err(Unreceived::Nothing) => {}
+                received => return received,
+            }
+            match self.receive_lent(rt, packet, client) {
+                Err(Unreceived::Nothing) => {}
+                received => return received,
+            }
+            if let Some(seat) = &mut self.seat {
+                seat.wait(rt, &self.socket, &self.others)?;
+            }
+        }
+        Err(Unreceived::Nothing)
+    }
+
+    // A datagram of a socket that another worker has lent, without waiting.
+    fn receive_lent(
+        &mut self,
+        rt: &impl Wait,
+        packet: &mut Vec<u8>,
+        client: &mut Client,
+    ) -> Result<usize, Unreceived>
+        ensures count { IfOk result (λ count. count ≤ vec_len packet.new) }
+        ensures client { IfOk result (λ _.
+            client_of self.new.from.bytes self.new.from.len ≡ Some client.new) }
+    {
+        match &mut self.seat {
+            Some(seat) => seat.receive(rt, packet.as_mut_slice(), &mut self.from, client),
+            None => Err(Unreceived::Nothing),
+        }
+    }
+
+    // A datagram of any of its own sockets, for which it waits so many milliseconds. While the one
+    // that had the last has more, it goes on.
+    fn receive_own(
+        &mut self,
+        packet: &mut Vec<u8>,
+        client: &mut Client,
+        time: u16,
+    ) -> Result<usize, Unreceived>
+        ensures count { IfOk result (λ count. count ≤ vec_len packet.new) }
+        ensures client { IfOk result (λ _.
+            client_of self.new.from.bytes self.new.from.len ≡ Some client.new) }
+    {
+        if self.row % 8 != 0 || self.others.is_empty() {
+            let socket = socket_at(&self.socket, &self.others, self.at);
+            let packet = packet.as_mut_slice();
+            match receive(socket, packet, &mut self.from, client, false) {
+                Err(Unreceived::Nothing) if self.others.is_empty() => {
+                    return Err(Unreceived::Nothing);
+                }
+                Err(Unreceived::Nothing) => {}
+                received => return received,
+            }
+        }
+        self.at = next_ready(self.asked.as_mut_slice(), self.at, time)?;
         let socket = socket_at(&self.socket, &self.others, self.at);
         let packet = packet.as_mut_slice();
         receive(socket, packet, &mut self.from, client, false)
     }
 
-    // Looks at the addresses of the host once in ten seconds. Where they changed, the sockets at
-    // them are opened anew.
+    // Looks whether sockets were lent, and at the addresses of the host.
     #[cold]
     #[inline(never)]
     fn look(&mut self, rt: &(impl Net + Clock + Files)) {
-        if self.stays {
-            return;
+        if !self.stays {
+            self.look_at_addresses(rt);
         }
+        if let Some(seat) = &self.seat {
+            self.lends = seat.is_used();
+        }
+        self.alone = self.others.is_empty() && !self.lends;
+    }
+
+    // Looks at the addresses of the host once in ten seconds. Where they changed, the sockets at
+    // them are opened anew.
+    fn look_at_addresses(&mut self, rt: &(impl Net + Clock + Files)) {
         let now = moment(rt).unwrap_or(0);
         if let Some(looked) = self.looked {
             if now.saturating_sub(looked) < BETWEEN {
@@ -204,6 +320,9 @@ impl UdpEnd {
         }
         self.others.clear();
         self.at = 0;
+        if let Some(seat) = &mut self.seat {
+            seat.forget();
+        }
         if self.open_others(rt, &found).is_err() {
             self.others.clear();
             self.addresses.clear();
@@ -215,25 +334,17 @@ impl UdpEnd {
     // A socket at each of the addresses that can be bound.
     fn open_others(&mut self, net: &impl Net, found: &[Addr]) -> Result<(), NoMemory> {
         self.asked.clear();
-        self.asked.push(readable(&self.socket))?;
+        self.asked.push(readable(self.socket.as_raw_fd()))?;
         if !found.is_empty() {
             share_port(&self.socket);
         }
         for addr in found {
             if let Ok(socket) = open_udp_at(net, *addr, self.port) {
-                self.asked.push(readable(&socket))?;
+                self.asked.push(readable(socket.as_raw_fd()))?;
                 self.others.push(socket)?;
             }
         }
         Ok(())
-    }
-}
-
-fn readable(socket: &UdpSocket) -> pollfd {
-    pollfd {
-        fd: socket.as_raw_fd(),
-        events: c::POLLIN,
-        revents: 0,
     }
 }
 
@@ -248,9 +359,10 @@ fn socket_at<'a>(first: &'a UdpSocket, others: &'a [UdpSocket], at: usize) -> &'
     }
 }
 
-// The next socket behind this one that has a datagram, once one has. Nothing behind a second.
-fn next_ready(asked: &mut [pollfd], at: usize) -> Result<usize, Unreceived> {
-    let polled = c::poll(asked, i32::from(PATIENCE));
+// The next socket behind this one that has a datagram, once one has. Nothing behind so many
+// milliseconds.
+fn next_ready(asked: &mut [pollfd], at: usize, time: u16) -> Result<usize, Unreceived> {
+    let polled = c::poll(asked, i32::from(time));
     if polled < 0 {
         return Err(Unreceived::Failed);
     }

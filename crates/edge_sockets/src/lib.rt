@@ -3,6 +3,7 @@
 #![tactic(auto)]
 
 mod addresses;
+mod bell;
 mod calls;
 mod lines;
 mod sender;
@@ -14,6 +15,7 @@ mod upstream;
 mod why;
 
 pub use addresses::{every_address, host_addresses};
+pub use bell::Bell;
 pub use calls::{PATIENCE, Unreceived, peer_of, receive, reply_to};
 pub use lines::{note_line, tell_line};
 pub use sender::{Client, Sender, client_of};

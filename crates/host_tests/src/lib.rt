@@ -9,6 +9,8 @@ mod connections;
 #[cfg(test)]
 mod frames;
 #[cfg(test)]
+mod lending;
+#[cfg(test)]
 mod memory_host;
 #[cfg(test)]
 mod memory_side;

@@ -19,7 +19,7 @@ import time
 from counted import TOP, WORD, built, cost
 
 CRATES = ["dns_lists", "dns_addr", "dns_names", "dns_data", "numbers", "pattern", "outside", "name_table", "zone_words", "plugin_api",
-          "cache_rules", "last_used", "seeded_hash", "ruled_lock", "cache_shards"]
+          "cache_rules", "last_used", "seeded_hash", "slot_lists", "ruled_lock", "cache_shards"]
 NEEDS = ["cache_shards", "cache_rules", "seeded_hash", "ruled_lock", "atomic_table", "lru", "outside", "dns_data"]
 KEPT = os.path.join(TOP, "bench", "cache.csv")
 SEED = 987_654_321

@@ -4,5 +4,6 @@ pub mod Hits
 pub mod CallLaws
 pub mod SeatLists
 pub mod Merging
-pub mod Crossings
 pub mod Sharings
+pub mod Walks
+pub mod Keeping

@@ -1,6 +1,7 @@
 pub mod Stores
 pub mod Answers
 pub mod Steps
+pub mod Slots
 pub mod Marks
 pub mod Hits
 pub mod Calls

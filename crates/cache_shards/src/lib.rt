@@ -5,6 +5,7 @@ mod cache;
 mod calls;
 mod judge;
 mod shard;
+mod slots;
 mod store;
 
 pub use cache::{Cache, CacheSeat};

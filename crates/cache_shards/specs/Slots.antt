@@ -55,7 +55,8 @@ pub record IsChainOf (heads nexts : List ℕ) (many at : ℕ) (slots : List ℕ)
   pub few : (slot : ℕ) → IsIn slot slots → slot ≤ many
 
 -- a walk along it has come to a slot, or to its end
-pub record IsWalk (pairs : List Pair) (heads nexts : List ℕ) (key : Key) (at slot : ℕ) : Type 0 where
+pub record IsWalk (pairs : List Pair) (heads nexts : List ℕ) (key : Key) (at slot : ℕ)
+    : Type 0 where
   pub slots : List ℕ
   pub is : IsChainOf heads nexts (length pairs) at slots
   pub xs : List ℕ

@@ -1,5 +1,5 @@
--- How long an ask of an upstream may take, in microseconds, by what is known of it. This server's own
--- rule, over RFC 6298.
+-- How long an ask of an upstream may take, in microseconds, by what is known of it. This server's
+-- own rule, over RFC 6298.
 use Rattle.std.specs.Prelude.{ℕ, ◌+◌, ◌*◌, ◌^◌, ◌-◌, ◌==◌, min, nat_le, true, false, Option, Some, None, if◌then◌else◌}
 use Rattle.dns_data.specs.declared.message.Transport.{Transport}
 use Rattle.dns_data.specs.declared.message.Transport.TheVariants.{Udp, Tcp}

@@ -1,5 +1,5 @@
--- The round trips to an upstream, in microseconds, and how long an answer may take by them. RFC 6298,
--- section 2; the bounds are this server's own.
+-- The round trips to an upstream, in microseconds, and how long an answer may take by them. RFC
+-- 6298, section 2; the bounds are this server's own.
 use Rattle.std.specs.Prelude.{ℕ, ◌+◌, ◌-◌, ◌*◌, ◌/◌, min, max}
 use Rattle.edge_asks.specs.declared.trip.Trip.{Trip}
 

@@ -13,8 +13,8 @@ use std::os::fd::OwnedFd;
 use std::sync::Wait;
 use std::time::Clock;
 
-/// What asks upstreams for one worker: over UDP by a socket for each ask, whose port the system picks
-/// at random, and over TCP by connections that are kept. Each ask ends once its time is up.
+/// What asks upstreams for one worker: over UDP by a socket for each ask, whose port the system
+/// picks at random, and over TCP by connections that are kept. Each ask ends once its time is up.
 #[derive(Drop)]
 pub struct Asker {
     alloc: Global,

@@ -52,7 +52,8 @@ impl Lines {
         }
     }
 
-    /// Keeps a connection. Where there are too many, the one that wasn't used for longest is closed.
+    /// Keeps a connection. Where there are too many, the one that wasn't used for longest is
+    /// closed.
     pub fn keep(&mut self, to: &Upstream, socket: OwnedFd, now: u64) {
         if self.kept.len() >= MOST {
             let _oldest = self.kept.remove(0);

@@ -4,9 +4,9 @@ use std::sync::atomic::{AtomicU64, Ordering};
 use std::sync::{Condvar, Mutex, Wait};
 use std::time::{Clock, Duration};
 
-/// What the sides of a run and its watch share: how many sides still work, whether one has left, and
-/// the times of upstreams. Once one has left, the others' receives end, and once all have, the watch
-/// does.
+/// What the sides of a run and its watch share: how many sides still work, whether one has left,
+/// and the times of upstreams. Once one has left, the others' receives end, and once all have, the
+/// watch does.
 #[derive(Drop)]
 pub struct Crew {
     working: AtomicU64,

@@ -22,8 +22,8 @@ struct Place {
     lent: AtomicU64,
 }
 
-/// The sockets that the workers of a UDP port lend each other. A worker lends its own before it asks an upstream, and
-/// the others take what comes to them meanwhile.
+/// The sockets that the workers of a UDP port lend each other. A worker lends its own before it
+/// asks an upstream, and the others take what comes to them meanwhile.
 #[derive(Drop)]
 pub struct Loans {
     places: Vec<Place>,
@@ -59,8 +59,8 @@ impl Loans {
         })
     }
 
-    // No wake is lost: a worker that is to wait is counted as idle before it looks which sockets are
-    // lent, and here they are lent before it is looked whether one is idle.
+    // No wake is lost: a worker that is to wait is counted as idle before it looks which sockets
+    // are lent, and here they are lent before it is looked whether one is idle.
     fn lend(&self, number: usize) {
         self.used.store(1, Ordering::SeqCst);
         if let Some(place) = self.places.get(number) {

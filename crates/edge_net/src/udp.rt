@@ -220,7 +220,8 @@ impl UdpEnd {
         if let Some(seat) = &mut self.seat {
             seat.take_back();
         }
-        // Those that are lent come first now and then, or they might starve while the own one has more.
+        // Those that are lent come first now and then, or they might starve while the own one has
+        // more.
         if self.row == 0 {
             match self.receive_lent(rt, packet, client) {
                 Err(Unreceived::Nothing) => {}

@@ -1,5 +1,5 @@
-//! The calls by which an upstream is asked. No socket here waits by itself: `await_socket` does, for
-//! as long as its caller says.
+//! The calls by which an upstream is asked. No socket here waits by itself: `await_socket` does,
+//! for as long as its caller says.
 ghost use Rattle.std.specs.Prelude.{◌≤◌, length};
 ghost use Rattle.edge_sockets.specs.Moves.{MovesAtMost};
 

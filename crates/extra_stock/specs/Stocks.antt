@@ -31,4 +31,5 @@ seats_of_chains seats_of chains = sum_by (λ c. seats_in (seats_of c)) chains
 
 -- the items have these numbers, from 0 in order
 abbrev pub are_numbered : {C : Type 0} → (C → ℕ) → List C → Type 0
-are_numbered number_of items = (k : ℕ) (d : _) → k < length items → number_of (slice_index_or items k d) ≡ k
+are_numbered number_of items =
+    (k : ℕ) (d : _) → k < length items → number_of (slice_index_or items k d) ≡ k

@@ -4,8 +4,8 @@ use dns_data::{Copies, Directive, NoMemory, Query};
 use plugin_api::{Extra, Rulebook, Verdict};
 use std::alloc::Global;
 
-/// An extra that takes every directive of its name, which is empty, and passes every query. A program
-/// that brings no extras has this type, and none of it.
+/// An extra that takes every directive of its name, which is empty, and passes every query. A
+/// program that brings no extras has this type, and none of it.
 #[derive(Drop)]
 pub struct Passing {
     setting: Option<Directive>,

@@ -1,5 +1,5 @@
-//! `sinkhole ADDRESS`: an extra that answers every question for an IPv4 address with this one, and its
-//! rulebook.
+//! `sinkhole ADDRESS`: an extra that answers every question for an IPv4 address with this one, and
+//! its rulebook.
 
 ghost use Rattle.std.specs.Prelude.{◌≡◌, IfOk};
 ghost use Rattle.sinkhole_plugin.specs.Sinkhole.{address_in, sink_address, sink_says};

@@ -1,6 +1,6 @@
 //! Chains of slots.
-ghost use Rattle.std.specs.Prelude.{◌≡◌, ℕ, ◌+◌, ◌<◌, ◌≤◌, List, length, IfOk, slice_index, slice_set};
-ghost use Rattle.std.specs.Prelude.{replicate};
+ghost use Rattle.std.specs.Prelude.{◌≡◌, ℕ, ◌+◌, ◌<◌, ◌≤◌, List, length, replicate, IfOk};
+ghost use Rattle.std.specs.Prelude.{slice_index, slice_set};
 ghost use Rattle.slot_lists.specs.Chained.{IsChainWith, IsCut, IsInFront};
 
 use std::alloc::{AllocError, Global};

@@ -102,7 +102,8 @@ fn restore_all(
     Ok(())
 }
 
-// What an `answer` does to the three sections.
+// What an `answer` does to the three sections. It is asked once which one it is, and not again at
+// each section, which costs a query some 80 instructions.
 fn restore_sections(
     alloc: Global,
     answering: &Answering<Finder>,
@@ -112,26 +113,47 @@ fn restore_sections(
 ) -> Result<(), NoMemory>
     ensures { OnOk result (slot.new ≡ sections_restored answering.now step.now slot.old) }
 {
-    restore_section(alloc, answering, step, room, &mut slot.answer)?;
-    restore_section(alloc, answering, step, room, &mut slot.authority)?;
-    restore_section(alloc, answering, step, room, &mut slot.additional)
+    match answering {
+        Answering::Auto => restore_all_owners(step, slot),
+        Answering::Name(replacing) => rename_all_owners(alloc, replacing, room, slot),
+        Answering::Value(replacing) => rename_all_data(alloc, replacing, room, slot),
+    }
 }
 
-fn restore_section(
-    alloc: Global,
-    answering: &Answering<Finder>,
-    step: &Step,
-    room: &mut RewriteRoom,
-    section: &mut RecordRoom,
-) -> Result<(), NoMemory>
-    ensures { OnOk result
-        (section.new ≡ map (record_restored answering.now step.now) section.old) }
+fn restore_all_owners(step: &Step, slot: &mut Slot) -> Result<(), NoMemory>
+    ensures { OnOk result (slot.new ≡ sections_restored answering.Auto step.now slot.old) }
 {
-    match answering {
-        Answering::Auto => restore_owners(step, section),
-        Answering::Name(replacing) => rename_owners(alloc, replacing, room, section),
-        Answering::Value(replacing) => rename_data(alloc, replacing, room, section),
-    }
+    restore_owners(step, &mut slot.answer)?;
+    restore_owners(step, &mut slot.authority)?;
+    restore_owners(step, &mut slot.additional)
+}
+
+fn rename_all_owners(
+    alloc: Global,
+    replacing: &Replacing<Finder>,
+    room: &mut RewriteRoom,
+    slot: &mut Slot,
+) -> Result<(), NoMemory>
+    ensures { (step : Step) → OnOk result
+        (slot.new ≡ sections_restored (answering.Name replacing.now) step slot.old) }
+{
+    rename_owners(alloc, replacing, room, &mut slot.answer)?;
+    rename_owners(alloc, replacing, room, &mut slot.authority)?;
+    rename_owners(alloc, replacing, room, &mut slot.additional)
+}
+
+fn rename_all_data(
+    alloc: Global,
+    replacing: &Replacing<Finder>,
+    room: &mut RewriteRoom,
+    slot: &mut Slot,
+) -> Result<(), NoMemory>
+    ensures { (step : Step) → OnOk result
+        (slot.new ≡ sections_restored (answering.Value replacing.now) step slot.old) }
+{
+    rename_data(alloc, replacing, room, &mut slot.answer)?;
+    rename_data(alloc, replacing, room, &mut slot.authority)?;
+    rename_data(alloc, replacing, room, &mut slot.additional)
 }
 
 // Owners that are the name behind a rule get the name before it.
@@ -230,8 +252,8 @@ fn push_replaced(
         ++ data_or entry.now (replaced_data replacing.now entry.now.rdata) ∷ []) }
 {
     match replaced_data(alloc, replacing, &entry.rdata, room)? {
-        Some(data) => {
-            let made = Record::new(Name::root(alloc), entry.class, entry.ttl, data);
+        Some(rdata) => {
+            let made = Record::new(Name::root(alloc), entry.class, entry.ttl, rdata);
             room.spare.push_copy(alloc, &entry.owner, entry.ttl, &made)
         }
         None => room.spare.push(alloc, entry),
@@ -258,14 +280,14 @@ fn replaced_name(
 fn replaced_data(
     alloc: Global,
     replacing: &Replacing<Finder>,
-    data: &Rdata,
+    rdata: &Rdata,
     room: &mut RewriteRoom,
 ) -> Result<Option<Rdata>, NoMemory>
-    ensures made { IfOk result (λ made. made ≡ replaced_data replacing.now data.now) }
+    ensures made { IfOk result (λ made. made ≡ replaced_data replacing.now rdata.now) }
     ensures form { IfOk result (λ made. IfSome made IsFormed) }
     ensures spare { room.new.spare ≡ room.old.spare }
 {
-    match data {
+    match rdata {
         Rdata::Cname(name) => match replaced_name(alloc, replacing, name, room)? {
             Some(name) => Ok(Some(Rdata::Cname(name))),
             None => Ok(None),

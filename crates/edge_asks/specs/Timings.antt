@@ -1,6 +1,6 @@
 -- How long an ask of an upstream may take, in microseconds, by what is known of it. This server's
 -- own rule, over RFC 6298.
-use Rattle.std.specs.Prelude.{ℕ, ◌+◌, ◌*◌, ◌^◌, ◌-◌, ◌==◌, min, nat_le, true, false, Option, Some, None, if◌then◌else◌}
+use Rattle.std.specs.Prelude.{ℕ, ◌+◌, ◌^◌, ◌-◌, ◌==◌, min, nat_le, true, false, Option, Some, None, if◌then◌else◌}
 use Rattle.dns_data.specs.declared.message.Transport.{Transport}
 use Rattle.dns_data.specs.declared.message.Transport.TheVariants.{Udp, Tcp}
 use Rattle.edge_asks.specs.declared.trip.Trip.{Trip}
@@ -10,12 +10,12 @@ use Rattle.edge_asks.specs.Trips.{first_trip, next_trip, wait_of}
 abbrev pub new_timing : Timing
 new_timing = record { trip = None; silent = false; full = 0 }
 
--- of one that answers: two seconds where nothing is known. Over TCP four times as long as over UDP,
--- since a connection may have to be opened, and a long reply takes several round trips.
+-- of one that answers: two seconds where nothing is known. Over TCP always, since a connection may
+-- have to be opened, and a long reply takes several round trips.
 abbrev pub usual_wait : Option Trip → Transport → ℕ
 usual_wait None by = 2000000
 usual_wait (Some trip) Udp = wait_of trip
-usual_wait (Some trip) Tcp = min 2000000 (4 * wait_of trip)
+usual_wait (Some trip) Tcp = 2000000
 
 -- of one that was silent: two seconds now and then, and else a fifth of a second
 abbrev pub patience_of : Timing → Transport → ℕ → ℕ

@@ -17,6 +17,6 @@ next_trip trip took = record {
   spread = (3 * trip.spread + apart trip.smooth took) / 4;
 }
 
--- between 50 milliseconds and 2 seconds
+-- between half a second and 2 seconds
 abbrev pub wait_of : Trip → ℕ
-wait_of trip = min 2000000 (max 50000 (trip.smooth + 4 * trip.spread))
+wait_of trip = min 2000000 (max 500000 (trip.smooth + 4 * trip.spread))

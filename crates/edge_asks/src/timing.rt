@@ -45,7 +45,7 @@ impl Timing {
             None => MOST,
             Some(trip) => match by {
                 Transport::Udp => trip.wait(),
-                Transport::Tcp => (4 * trip.wait()).min(MOST),
+                Transport::Tcp => MOST,
             },
         }
     }

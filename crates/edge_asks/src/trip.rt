@@ -1,8 +1,10 @@
 ghost use Rattle.std.specs.Prelude.{◌≡◌};
 ghost use Rattle.edge_asks.specs.Trips.{first_trip, next_trip, wait_of};
 
-// The least and the most time that an ask may take, in microseconds.
-const LEAST: u64 = 50_000;
+// The least and the most time that an ask may take, in microseconds. Round trips tell of answers
+// that an upstream has at hand: one that it has to ask for itself takes some more round trips, to
+// servers that may be far away. So half a second is the least, whatever the round trips were.
+const LEAST: u64 = 500_000;
 
 pub(crate) const MOST: u64 = 2_000_000;
 

@@ -36,17 +36,26 @@ impl End {
         }
     }
 
-    // Waits for a message, for a second.
+    // Waits for a message, for a second. One over TCP comes in place of the spare.
     #[inline(always)]
     fn recv(
         &mut self,
         rt: &(impl Net + Clock + Files + Wait),
-        bytes: &mut Buffer,
+        spare: &mut Buffer,
         client: &mut Client,
     ) -> Arrival {
         match self {
-            End::Udp(end) => end.recv(rt, bytes, client),
-            End::Tcp(end) => end.recv(rt, bytes, client),
+            End::Udp(end) => end.recv(rt, client),
+            End::Tcp(end) => end.recv(rt, spare, client),
+        }
+    }
+
+    // The message that came, once.
+    #[inline(always)]
+    fn take(&mut self, alloc: Global, spare: &mut Buffer) -> Buffer {
+        match self {
+            End::Udp(end) => end.take(),
+            End::Tcp(_) => mem::replace(spare, Buffer::new(alloc)),
         }
     }
 }
@@ -59,7 +68,7 @@ pub struct NetSide<R: Wait + Net + Clock + RandomSource + Eprint + Files + Drop>
     end: End,
     // The port at which it receives.
     local: u16,
-    // The bytes of an earlier message, for the memory of the next.
+    // The bytes of an earlier message over TCP, for the memory of the next.
     spare: Buffer,
     // Who sent the last message.
     client: Client,
@@ -104,15 +113,16 @@ impl<R: Wait + Net + Clock + RandomSource + Eprint + Files + Drop> Side for NetS
     /// Behind a failure it waits, up to 100 milliseconds behind many in a row. It ends once another
     /// side has left and no message is there.
     fn recv(&mut self) -> Received {
-        let (bytes, client) = (&mut self.spare, &mut self.client);
-        match await_message(&self.rt, &mut self.end, &self.crew, bytes, client) {
+        let (spare, client) = (&mut self.spare, &mut self.client);
+        match await_message(&self.rt, &mut self.end, &self.crew, spare, client) {
             Arrival::Got => {
-                if self.spare.len() == 0 && self.crew.is_ending() {
+                let bytes = self.end.take(self.alloc, &mut self.spare);
+                if bytes.len() == 0 && self.crew.is_ending() {
                     return Received::End;
                 }
                 self.pause = 0;
                 Received::Got(Datagram {
-                    bytes: mem::replace(&mut self.spare, Buffer::new(self.alloc)),
+                    bytes,
                     client: self.client.address,
                     port: self.client.port,
                     by: self.end.by(),
@@ -183,7 +193,10 @@ impl<R: Wait + Net + Clock + RandomSource + Eprint + Files + Drop> Side for NetS
     fn saw(&mut self, _what: Seen<'_>) {}
 
     fn take_back(&mut self, bytes: Buffer) {
-        self.spare = bytes;
+        match &mut self.end {
+            End::Udp(end) => end.take_back(bytes),
+            End::Tcp(_) => self.spare = bytes,
+        }
     }
 
     /// The other sides end soon, and the watch answers End once the last side has left.
@@ -203,11 +216,11 @@ fn await_message<R: Net + Clock + Files + Wait>(
     rt: &R,
     end: &mut End,
     crew: &Crew,
-    bytes: &mut Buffer,
+    spare: &mut Buffer,
     client: &mut Client,
 ) -> Arrival {
-    match end.recv(rt, bytes, client) {
-        Arrival::Nothing => await_longer(rt, end, crew, bytes, client),
+    match end.recv(rt, spare, client) {
+        Arrival::Nothing => await_longer(rt, end, crew, spare, client),
         arrival => arrival,
     }
 }
@@ -219,14 +232,14 @@ fn await_longer<R: Net + Clock + Files + Wait>(
     rt: &R,
     end: &mut End,
     crew: &Crew,
-    bytes: &mut Buffer,
+    spare: &mut Buffer,
     client: &mut Client,
 ) -> Arrival {
     for _ in 0..u64::MAX {
         if crew.is_ending() {
             return Arrival::Nothing;
         }
-        match end.recv(rt, bytes, client) {
+        match end.recv(rt, spare, client) {
             Arrival::Nothing => {}
             arrival => return arrival,
         }

@@ -38,12 +38,16 @@ pub struct UdpEnd {
     alloc: Global,
     port: u16,
     socket: UdpSocket,
+    // Where the system writes the next datagram, and how many bytes the last one had.
+    room: Vec<u8>,
+    count: usize,
     // The addresses that were found last, and the sockets at those of them that could be bound.
     addresses: Vec<Addr>,
     others: Vec<UdpSocket>,
     // All of these, for the system to say which has a datagram.
     asked: Vec<pollfd>,
-    // Which had the last datagram: 0 the one at every address, n + 1 the n-th of the others.
+    // Which had the last datagram: 0 the one at every address, n + 1 the n-th of the others. Where
+    // there are no others it is 0.
     at: usize,
     // The sender of the last datagram.
     from: Sender,
@@ -68,6 +72,8 @@ impl UdpEnd {
             alloc,
             port,
             socket,
+            room: Vec::new(alloc),
+            count: 0,
             addresses: Vec::new(alloc),
             others: Vec::new(alloc),
             asked: Vec::new(alloc),
@@ -118,15 +124,10 @@ impl UdpEnd {
         }
     }
 
-    /// Waits for the next datagram, whose bytes come in place of what the message held, and which
-    /// the system writes into the message's room. `client` becomes who sent it.
+    /// Waits for the next datagram, which the system writes into a room that is kept. `client`
+    /// becomes who sent it.
     #[inline(always)]
-    pub fn recv(
-        &mut self,
-        rt: &(impl Net + Clock + Files + Wait),
-        message: &mut Buffer,
-        client: &mut Client,
-    ) -> Arrival
+    pub fn recv(&mut self, rt: &(impl Net + Clock + Files + Wait), client: &mut Client) -> Arrival
         ensures { result ≡ Arrival.Got
             → client_of self.new.from.bytes self.new.from.len ≡ Some client.new }
     {
@@ -135,25 +136,34 @@ impl UdpEnd {
             self.look(rt);
         }
         self.row = self.row.saturating_sub(1);
-        let mut packet = mem::replace(message, Buffer::new(self.alloc)).into_room();
-        if packet.len() < LARGEST && packet.resize(LARGEST, 0).is_err() {
+        if self.room.len() < LARGEST && self.room.resize(LARGEST, 0).is_err() {
             return Arrival::NoMemory;
         }
-        match self.receive(rt, &mut packet, client) {
+        match self.receive(rt, client) {
             Ok(count) => {
-                *message = Buffer::front(packet, count);
+                self.count = count;
                 Arrival::Got
             }
             Err(Unreceived::Nothing) => {
-                *message = Buffer::front(packet, 0);
                 self.row = 0;
                 Arrival::Nothing
             }
-            Err(Unreceived::Failed) => {
-                *message = Buffer::front(packet, 0);
-                Arrival::Failed
-            }
+            Err(Unreceived::Failed) => Arrival::Failed,
         }
+    }
+
+    /// The datagram that was received last, once. Its room goes along with it.
+    #[inline]
+    pub fn take(&mut self) -> Buffer {
+        let room = mem::replace(&mut self.room, Vec::new(self.alloc));
+        let count = self.count.min(room.len());
+        Buffer::front(room, count)
+    }
+
+    /// Takes the room of a datagram back, for the next one.
+    #[inline]
+    pub fn take_back(&mut self, bytes: Buffer) {
+        self.room = bytes.into_room();
     }
 
     /// Sends empty datagrams to the port from within, so that the blocked receives of so many
@@ -166,56 +176,51 @@ impl UdpEnd {
     }
 
     /// Replies to the sender of the last datagram, by the socket that had it, and says whether the
-    /// system took it.
+    /// system took it. Mostly there is one socket.
+    #[inline]
     pub fn reply(&mut self, bytes: &[u8]) -> bool {
-        if !self.alone {
-            if let Some(seat) = &self.seat {
-                if let Some(socket) = seat.borrowed() {
-                    return reply_to(socket, bytes, &self.from);
-                }
-            }
+        if self.alone {
+            return reply_to(&self.socket, bytes, &self.from);
         }
-        reply_to(
-            socket_at(&self.socket, &self.others, self.at),
-            bytes,
-            &self.from,
-        )
+        self.reply_by_any(bytes)
     }
 
-    // The next datagram. Mostly there is one socket.
+    // The same by any of the sockets, or by that of another worker.
+    #[inline(never)]
+    fn reply_by_any(&mut self, bytes: &[u8]) -> bool {
+        if let Some(seat) = &self.seat {
+            if let Some(socket) = seat.borrowed() {
+                return reply_to(socket, bytes, &self.from);
+            }
+        }
+        let socket = socket_at(&self.socket, &self.others, self.at);
+        reply_to(socket, bytes, &self.from)
+    }
+
+    // The next datagram, into the room. Mostly there is one socket, and nothing of the loans is
+    // looked at.
     #[inline(always)]
-    fn receive(
-        &mut self,
-        rt: &impl Wait,
-        packet: &mut Vec<u8>,
-        client: &mut Client,
-    ) -> Result<usize, Unreceived>
-        ensures count { IfOk result (λ count. count ≤ vec_len packet.new) }
+    fn receive(&mut self, rt: &impl Wait, client: &mut Client) -> Result<usize, Unreceived>
+        ensures count { IfOk result (λ count. count ≤ vec_len self.new.room) }
         ensures client { IfOk result (λ _.
             client_of self.new.from.bytes self.new.from.len ≡ Some client.new) }
     {
         if self.alone {
-            self.at = 0;
-            let (socket, packet) = (&self.socket, packet.as_mut_slice());
+            let (socket, packet) = (&self.socket, self.room.as_mut_slice());
             return receive(socket, packet, &mut self.from, client, true);
         }
-        self.receive_any(rt, packet, client)
+        self.receive_any(rt, client)
     }
 
     // A datagram of any of the sockets, or of those that other workers have lent.
     #[inline(never)]
-    fn receive_any(
-        &mut self,
-        rt: &impl Wait,
-        packet: &mut Vec<u8>,
-        client: &mut Client,
-    ) -> Result<usize, Unreceived>
-        ensures count { IfOk result (λ count. count ≤ vec_len packet.new) }
+    fn receive_any(&mut self, rt: &impl Wait, client: &mut Client) -> Result<usize, Unreceived>
+        ensures count { IfOk result (λ count. count ≤ vec_len self.new.room) }
         ensures client { IfOk result (λ _.
             client_of self.new.from.bytes self.new.from.len ≡ Some client.new) }
     {
         if !self.lends {
-            return self.receive_own(packet, client, PATIENCE);
+            return self.receive_own(client, PATIENCE);
         }
         if let Some(seat) = &mut self.seat {
             seat.take_back();
@@ -223,17 +228,17 @@ impl UdpEnd {
         // Those that are lent come first now and then, or they might starve while the own one has
         // more.
         if self.row == 0 {
-            match self.receive_lent(rt, packet, client) {
+            match self.receive_lent(rt, client) {
                 Err(Unreceived::Nothing) => {}
                 received => return received,
             }
         }
         for _ in 0..LOOKS {
-            match self.receive_own(packet, client, 0) {
+            match self.receive_own(client, 0) {
                 Err(Unreceived::Nothing) => {}
                 received => return received,
             }
-            match self.receive_lent(rt, packet, client) {
+            match self.receive_lent(rt, client) {
                 Err(Unreceived::Nothing) => {}
                 received => return received,
             }
@@ -245,37 +250,27 @@ impl UdpEnd {
     }
 
     // A datagram of a socket that another worker has lent, without waiting.
-    fn receive_lent(
-        &mut self,
-        rt: &impl Wait,
-        packet: &mut Vec<u8>,
-        client: &mut Client,
-    ) -> Result<usize, Unreceived>
-        ensures count { IfOk result (λ count. count ≤ vec_len packet.new) }
+    fn receive_lent(&mut self, rt: &impl Wait, client: &mut Client) -> Result<usize, Unreceived>
+        ensures count { IfOk result (λ count. count ≤ vec_len self.new.room) }
         ensures client { IfOk result (λ _.
             client_of self.new.from.bytes self.new.from.len ≡ Some client.new) }
     {
         match &mut self.seat {
-            Some(seat) => seat.receive(rt, packet.as_mut_slice(), &mut self.from, client),
+            Some(seat) => seat.receive(rt, self.room.as_mut_slice(), &mut self.from, client),
             None => Err(Unreceived::Nothing),
         }
     }
 
     // A datagram of any of its own sockets, for which it waits so many milliseconds. While the one
     // that had the last has more, it goes on.
-    fn receive_own(
-        &mut self,
-        packet: &mut Vec<u8>,
-        client: &mut Client,
-        time: u16,
-    ) -> Result<usize, Unreceived>
-        ensures count { IfOk result (λ count. count ≤ vec_len packet.new) }
+    fn receive_own(&mut self, client: &mut Client, time: u16) -> Result<usize, Unreceived>
+        ensures count { IfOk result (λ count. count ≤ vec_len self.new.room) }
         ensures client { IfOk result (λ _.
             client_of self.new.from.bytes self.new.from.len ≡ Some client.new) }
     {
         if self.row % 8 != 0 || self.others.is_empty() {
             let socket = socket_at(&self.socket, &self.others, self.at);
-            let packet = packet.as_mut_slice();
+            let packet = self.room.as_mut_slice();
             match receive(socket, packet, &mut self.from, client, false) {
                 Err(Unreceived::Nothing) if self.others.is_empty() => {
                     return Err(Unreceived::Nothing);
@@ -286,7 +281,7 @@ impl UdpEnd {
         }
         self.at = next_ready(self.asked.as_mut_slice(), self.at, time)?;
         let socket = socket_at(&self.socket, &self.others, self.at);
-        let packet = packet.as_mut_slice();
+        let packet = self.room.as_mut_slice();
         receive(socket, packet, &mut self.from, client, false)
     }
 

@@ -5,6 +5,7 @@ use dns_data::{Addr, Transport};
 use edge_asks::{Asker, Timings};
 use edge_sockets::open_tcp_at;
 use outside::{Outcome, Upstream};
+use std::alloc::Global;
 use std::io::{Read, Write};
 use std::net::{Ipv4Addr, Net, SocketAddr, TcpListener, TcpStream, UdpSocket};
 use std::sync::Wait;
@@ -39,6 +40,8 @@ enum Act {
     Large,
     // It sends a byte each tenth of a second, as long as somebody reads.
     Drip,
+    // It resets the connection: it has taken one byte of the ask, and closes before the others.
+    Reset,
     // It closes the connection, and the next ask comes by another.
     Close,
 }
@@ -108,9 +111,8 @@ fn serve_tcp(rt: &(impl Wait + Clock), listener: &TcpListener, acts: &[Act]) -> 
 
 fn serve_stream(rt: &(impl Wait + Clock), mut stream: TcpStream, acts: &[Act]) {
     let _ = stream.set_read_timeout(Some(Duration::from_millis(5_000)));
-    let mut frame = [0u8; 31];
     for act in acts {
-        if stream.read_exact(&mut frame).is_err() {
+        if !has_taken(&mut stream, act) {
             return;
         }
         match act {
@@ -125,6 +127,20 @@ fn serve_stream(rt: &(impl Wait + Clock), mut stream: TcpStream, acts: &[Act]) {
                 }
             }
             _ => {}
+        }
+    }
+}
+
+// Takes an ask, or of one that is to be reset a byte.
+fn has_taken(stream: &mut TcpStream, act: &Act) -> bool {
+    match act {
+        Act::Reset => {
+            let mut byte = [0u8; 1];
+            stream.read_exact(&mut byte).is_ok()
+        }
+        _ => {
+            let mut frame = [0u8; 31];
+            stream.read_exact(&mut frame).is_ok()
         }
     }
 }
@@ -225,7 +241,8 @@ fn a_refused_port_fails_at_once(rt: HostRuntime) -> Result<(), Fail> {
     Ok(())
 }
 
-// Two seconds the first time, and then a fifth of one, until it answers; then by its round trips.
+// Two seconds the first time, and then a fifth of one, until it answers; then half a second, since
+// its round trip is short.
 #[test]
 fn a_silent_upstream_is_waited_for_less(rt: HostRuntime) -> Result<(), Fail> {
     let socket = open_udp(&rt)?;
@@ -243,7 +260,7 @@ fn a_silent_upstream_is_waited_for_less(rt: HostRuntime) -> Result<(), Fail> {
     let (third, _) = ask_within(&rt, &mut asker, &timings, port, Transport::Udp)?;
     let (fourth, known) = ask_within(&rt, &mut asker, &timings, port, Transport::Udp)?;
     assert!(rt; is_got(&third, CUT) && matches!(fourth, Outcome::Silence));
-    assert!(rt; known >= 49 && known < 1_500, "{known} ms");
+    assert!(rt; known >= 490 && known < 1_990, "{known} ms");
     thread.join(&rt);
     Ok(())
 }
@@ -315,5 +332,108 @@ fn bad_replies_cost_the_time_of_a_try_at_most(rt: HostRuntime) -> Result<(), Fai
     let (last, _) = ask(&rt, &mut asker, port, Transport::Tcp)?;
     assert!(rt; is_got(&last, WHOLE));
     assert_eq!(rt; thread.join(&rt), 5);
+    Ok(())
+}
+
+// A reset ends the ask of a new connection, and one that is kept is opened anew.
+#[test]
+fn a_reset_fails_where_the_connection_is_new(rt: HostRuntime) -> Result<(), Fail> {
+    let listener = open_tcp(&rt)?;
+    let port = listener.local_addr()?.port();
+    let acts: &'static [Act] = &[
+        Act::Send(FRAME),
+        Act::Reset,
+        Act::Close,
+        Act::Reset,
+        Act::Close,
+        Act::Send(FRAME),
+    ];
+    let thread = thread::spawn(&rt, move || serve_tcp(&rt, &listener, acts))?;
+    let mut asker = Asker::new(rt.alloc());
+    let (first, _) = ask(&rt, &mut asker, port, Transport::Tcp)?;
+    let (reset, took) = ask(&rt, &mut asker, port, Transport::Tcp)?;
+    assert!(rt; is_got(&first, WHOLE) && matches!(reset, Outcome::Failed));
+    assert!(rt; took < 1_500, "{took} ms");
+    let (last, _) = ask(&rt, &mut asker, port, Transport::Tcp)?;
+    assert!(rt; is_got(&last, WHOLE));
+    assert_eq!(rt; thread.join(&rt), 3);
+    Ok(())
+}
+
+// An upstream that has a port over both transports.
+fn open_both(rt: &impl Net) -> Result<(UdpSocket, TcpListener, u16), Fail> {
+    let listener = open_tcp(rt)?;
+    let port = listener.local_addr()?.port();
+    let socket = UdpSocket::bind(rt, SocketAddr::from((Ipv4Addr::LOCALHOST, port)))?;
+    socket.set_read_timeout(Some(Duration::from_millis(5_000)))?;
+    Ok((socket, listener, port))
+}
+
+// Whether a reply says that it was cut (RFC 1035, section 4.1.1).
+fn is_cut(outcome: &Outcome) -> bool {
+    match outcome {
+        Outcome::Got(bytes) => match bytes.as_slice().get(2) {
+            Some(flags) => flags & 2 != 0,
+            None => false,
+        },
+        _ => false,
+    }
+}
+
+// As one does that asks: what was cut over UDP is asked for over TCP.
+#[test]
+fn a_reply_that_was_cut_is_whole_over_tcp(rt: HostRuntime) -> Result<(), Fail> {
+    let (socket, listener, port) = open_both(&rt)?;
+    let (short, long): (&'static [Act], &'static [Act]) = (&[Act::Send(CUT)], &[Act::Send(FRAME)]);
+    let over_udp = thread::spawn(&rt, move || serve_udp(&rt, &socket, short))?;
+    let over_tcp = thread::spawn(&rt, move || serve_tcp(&rt, &listener, long))?;
+    let mut asker = Asker::new(rt.alloc());
+    let timings = Timings::new(rt.alloc());
+    let (cut, _) = ask_within(&rt, &mut asker, &timings, port, Transport::Udp)?;
+    assert!(rt; is_got(&cut, CUT) && is_cut(&cut));
+    let (whole, _) = ask_within(&rt, &mut asker, &timings, port, Transport::Tcp)?;
+    assert!(rt; is_got(&whole, WHOLE) && !is_cut(&whole));
+    assert!(rt; matches!(asker.more(&rt), Outcome::Failed));
+    over_udp.join(&rt);
+    assert_eq!(rt; over_tcp.join(&rt), 1);
+    Ok(())
+}
+
+// More than Linux lets a process have, where nobody raised that (`fs.nr_open`).
+const DESCRIPTORS: u32 = 1_100_000;
+
+// Takes all descriptors that are left. Some may be left where a process may have very many.
+fn take_descriptors(alloc: Global, socket: &UdpSocket) -> Result<Vec<UdpSocket>, Fail> {
+    let mut taken = Vec::new(alloc);
+    for _ in 0..DESCRIPTORS {
+        match socket.try_clone() {
+            Ok(socket) => taken.push(socket)?,
+            Err(_) => break,
+        }
+    }
+    Ok(taken)
+}
+
+#[test]
+fn an_ask_without_a_descriptor_fails(rt: HostRuntime) -> Result<(), Fail> {
+    let (socket, listener, port) = open_both(&rt)?;
+    let mut asker = Asker::new(rt.alloc());
+    let taken = take_descriptors(rt.alloc(), &socket)?;
+    if taken.len() < DESCRIPTORS as usize {
+        for by in [Transport::Udp, Transport::Tcp] {
+            let (outcome, took) = ask(&rt, &mut asker, port, by)?;
+            assert!(rt; matches!(outcome, Outcome::Failed));
+            assert!(rt; took < 1_500, "{took} ms");
+        }
+    }
+    drop(taken);
+    let (short, long): (&'static [Act], &'static [Act]) = (&[Act::Send(CUT)], &[Act::Send(FRAME)]);
+    let over_udp = thread::spawn(&rt, move || serve_udp(&rt, &socket, short))?;
+    let over_tcp = thread::spawn(&rt, move || serve_tcp(&rt, &listener, long))?;
+    let (cut, _) = ask(&rt, &mut asker, port, Transport::Udp)?;
+    let (whole, _) = ask(&rt, &mut asker, port, Transport::Tcp)?;
+    assert!(rt; is_got(&cut, CUT) && is_got(&whole, WHOLE));
+    over_udp.join(&rt);
+    assert_eq!(rt; over_tcp.join(&rt), 1);
     Ok(())
 }

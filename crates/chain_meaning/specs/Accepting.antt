@@ -34,6 +34,7 @@ use Rattle.rewrite_plugin.specs.{patterns_of as rewrite_patterns}
 use Rattle.template_plugin.specs.{template_fault}
 use Rattle.template_plugin.specs.{patterns_of as template_patterns}
 use Rattle.chain_meaning.specs.Steps.{Context, context_of, file_in, file_plans, plan_in}
+use Rattle.chain_meaning.specs.Grounds.{Brought, Terms}
 
 -- whether one of these directives has the name
 abbrev pub stands_in : List Directive → List ℕ → Bool
@@ -86,8 +87,15 @@ behind_one b d = record {
   context = b.context;
 }
 
--- what the reader of a directive without patterns refuses. Four ranks have no reader yet, and their
--- names are unknown.
+-- an extra's directive is refused where the extras of its name don't take it, or there are none
+abbrev pub extra_refusal : Brought → Directive → Option Refusal
+extra_refusal brought d =
+    if brought.named d.name then
+    if brought.taken d.name d then None else Some (refusal.Directive d.line why.Extra)
+    else Some (refusal.Unknown d.line)
+
+-- what the reader of a directive without patterns refuses. Three ranks have no reader yet, and
+-- their names are unknown; no name has the rank of extras.
 abbrev pub fixed_refusal : Rank → Behind → Directive → Option Refusal
 fixed_refusal rank.Acl b d = refused_by (acl_fault d b.context.zones)
 fixed_refusal rank.Hosts b d = refused_by (hosts_fault d b.context.zones)
@@ -114,86 +122,91 @@ read_refusal judgement second rank b d =
     else reader_refusal judgement rank b d
 
 -- why a directive of this rank is refused, behind those that stand before it
-abbrev pub rank_refusal : Judgement → Option Rank → Behind → Directive → Option Refusal
-rank_refusal judgement None b d = Some (refusal.Unknown d.line)
-rank_refusal judgement (Some rank) b d =
+abbrev pub rank_refusal : Judgement → Brought → Option Rank → Behind → Directive
+    → Option Refusal
+rank_refusal judgement brought None b d = extra_refusal brought d
+rank_refusal judgement brought (Some rank) b d =
     read_refusal judgement (is_once rank && stands_in b.before d.name) rank b d
 
 -- why a directive is refused
-abbrev pub directive_refusal : Judgement → Behind → Directive → Option Refusal
-directive_refusal judgement b d = rank_refusal judgement (rank_of d.name) b d
+abbrev pub directive_refusal : Judgement → Brought → Behind → Directive → Option Refusal
+directive_refusal judgement brought b d = rank_refusal judgement brought (rank_of d.name) b d
 
 -- why the first of the directives of a block is refused that is
-abbrev pub directives_refusal : Judgement → Behind → List Directive → Option Refusal
-directives_refusal judgement b [] = None
-directives_refusal judgement b (d ∷ directives) =
-    option_or (directive_refusal judgement b d)
-    (directives_refusal judgement (behind_one b d) directives)
+abbrev pub directives_refusal : Judgement → Brought → Behind → List Directive → Option Refusal
+directives_refusal judgement brought b [] = None
+directives_refusal judgement brought b (d ∷ directives) =
+    option_or (directive_refusal judgement brought b d)
+    (directives_refusal judgement brought (behind_one b d) directives)
 
 -- why a block is refused, behind so many patterns
-abbrev pub block_refusal : Judgement → ℕ → List FileText → Block → Option Refusal
-block_refusal judgement patterns files block =
-    directives_refusal judgement (at_front patterns (context_of files block)) block.directives
+abbrev pub block_refusal : Judgement → Brought → ℕ → List FileText → Block → Option Refusal
+block_refusal judgement brought patterns files block =
+    directives_refusal judgement brought (at_front patterns (context_of files block))
+    block.directives
 
 -- why the first of the blocks is refused that is
-abbrev pub blocks_refusal : Judgement → ℕ → List FileText → List Block → Option Refusal
-blocks_refusal judgement patterns files [] = None
-blocks_refusal judgement patterns files (block ∷ blocks) =
-    option_or (block_refusal judgement patterns files block)
-    (blocks_refusal judgement (patterns + length (patterns_in block.directives)) files blocks)
+abbrev pub blocks_refusal : Judgement → Brought → ℕ → List FileText → List Block
+    → Option Refusal
+blocks_refusal judgement brought patterns files [] = None
+blocks_refusal judgement brought patterns files (block ∷ blocks) =
+    option_or (block_refusal judgement brought patterns files block)
+    (blocks_refusal judgement brought (patterns + length (patterns_in block.directives)) files
+    blocks)
 
 -- how a pattern that is refused is told: at its line
 abbrev pub told : ℕ → DirectiveWhy → Refusal
 told line why = refusal.Directive line why
 
 -- the patterns of a directive, and why it is refused
-abbrev pub directive_task : Behind → Directive → Task Refusal
-directive_task b d = record {
+abbrev pub directive_task : Brought → Behind → Directive → Task Refusal
+directive_task brought b d = record {
   number = b.patterns;
   patterns = rank_patterns (rank_of d.name) d;
-  fault = λ judgement. directive_refusal judgement b d;
+  fault = λ judgement. directive_refusal judgement brought b d;
 }
 
 -- those of the directives of a block that are left
-abbrev pub directives_task : Behind → List Directive → Task Refusal
-directives_task b directives = record {
+abbrev pub directives_task : Brought → Behind → List Directive → Task Refusal
+directives_task brought b directives = record {
   number = b.patterns;
   patterns = patterns_in directives;
-  fault = λ judgement. directives_refusal judgement b directives;
+  fault = λ judgement. directives_refusal judgement brought b directives;
 }
 
 -- those of a block
-abbrev pub block_task : ℕ → List FileText → Block → Task Refusal
-block_task patterns files block =
-    directives_task (at_front patterns (context_of files block)) block.directives
+abbrev pub block_task : Brought → ℕ → List FileText → Block → Task Refusal
+block_task brought patterns files block =
+    directives_task brought (at_front patterns (context_of files block)) block.directives
 
 -- those of blocks
-abbrev pub blocks_task : ℕ → List FileText → List Block → Task Refusal
-blocks_task patterns files blocks = record {
+abbrev pub blocks_task : Brought → ℕ → List FileText → List Block → Task Refusal
+blocks_task brought patterns files blocks = record {
   number = patterns;
   patterns = blocks_patterns blocks;
-  fault = λ judgement. blocks_refusal judgement patterns files blocks;
+  fault = λ judgement. blocks_refusal judgement brought patterns files blocks;
 }
 
 -- a bundle is accepted, and these are its blocks: all patterns are good, and nothing is refused
 -- where all of them are made
-pub record IsAccepted (default_port : ℕ) (bundle : Bundle) (blocks : List Block) : Type 0 where
-  pub read : blocks_of bundle default_port ≡ Ok blocks
-  pub well : IsWell (blocks_task 0 bundle.files blocks)
+pub record IsAccepted (terms : Terms) (bundle : Bundle) (blocks : List Block) : Type 0 where
+  pub read : blocks_of bundle terms.default_port ≡ Ok blocks
+  pub well : IsWell (blocks_task terms.brought 0 bundle.files blocks)
 
 -- why what was read of a bundle with these files is refused, where the maker of patterns refused
 -- this text last
-abbrev pub IsRefusedFor : List FileText → Result (List Block) CorefileFault → Option (List ℕ)
-    → Refusal → Type 0
-IsRefusedFor files (Ok blocks) last why = IsFault told (blocks_task 0 files blocks) last why
-IsRefusedFor files (Err fault) last why = why ≡ refusal.Corefile fault
+abbrev pub IsRefusedFor : Brought → List FileText → Result (List Block) CorefileFault
+    → Option (List ℕ) → Refusal → Type 0
+IsRefusedFor brought files (Ok blocks) last why =
+    IsFault told (blocks_task brought 0 files blocks) last why
+IsRefusedFor brought files (Err fault) last why = why ≡ refusal.Corefile fault
 
 -- why a bundle is refused, where the maker of patterns refused this text last
-abbrev pub IsRefusedWith : ℕ → Bundle → Option (List ℕ) → Refusal → Type 0
-IsRefusedWith default_port bundle last why =
-    IsRefusedFor bundle.files (blocks_of bundle default_port) last why
+abbrev pub IsRefusedWith : Terms → Bundle → Option (List ℕ) → Refusal → Type 0
+IsRefusedWith terms bundle last why =
+    IsRefusedFor terms.brought bundle.files (blocks_of bundle terms.default_port) last why
 
 -- why a bundle is refused, whatever text was refused last
-abbrev pub IsRefused : ℕ → Bundle → Refusal → Type 0
-IsRefused default_port bundle why =
-    (last : Option (List ℕ)) × IsRefusedWith default_port bundle last why
+abbrev pub IsRefused : Terms → Bundle → Refusal → Type 0
+IsRefused terms bundle why =
+    (last : Option (List ℕ)) × IsRefusedWith terms bundle last why

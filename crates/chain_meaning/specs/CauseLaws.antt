@@ -22,7 +22,7 @@ use Rattle.file_plugin.specs.Zones.{answer_from, file_say, longest_of}
 use Rattle.hosts_plugin.specs.{HostsData, Said as HostsSaid}
 use Rattle.hosts_plugin.specs.Hosts as hosts
 use Rattle.hosts_plugin.specs.Hosts.{address_said, address_say, hosts_say, listed_at, listed_for, name_said, name_say, plan_listings, plan_zones}
-use Rattle.plugin_api.specs.{PlanData, fallthrough_of}
+use Rattle.plugin_api.specs.{PlanData, Sayings, fallthrough_of}
 use Rattle.hosts_plugin.specs.declared.listing.Listing.{Listing}
 use Rattle.hosts_plugin.specs.Options.{has_no_reverse}
 use Rattle.zone_lookup.specs.Zone.{cut_of}
@@ -51,7 +51,7 @@ use Rattle.chain_meaning.specs.Causes.{AskedCause, HasCause, IsServFail, answer_
 use Rattle.chain_meaning.specs.Serving.{asked_decides, block_decides, block_of, chain_decides, class_decides, is_known_version, query_of, refused}
 use Rattle.chain_meaning.specs.Mean.{acl_answer, answer_of, any_answer, error_noted, hosts_answer, mean, nothing, or_rest, outcome_of, query_noted, reply_restored, restored_in, rule, take_note, template_answer}
 use Rattle.chain_meaning.specs.Steps.{Answerer, Acl, Any, Template, Hosts, File, Whoami, Step, Errors, Log, Rewrite, Answers, Others}
-use Rattle.chain_meaning.specs.Steps.{acl_steps, back_steps, context_of, file_plans, file_steps, front_steps, hosts_plans, hosts_steps, key_zones, log_steps, plans_of, rewrite_steps, some_has, steps_of, template_steps}
+use Rattle.chain_meaning.specs.Steps.{acl_steps, back_steps, context_of, extra_steps, extras_of, file_plans, file_steps, front_steps, hosts_plans, hosts_steps, key_zones, log_steps, plans_of, rewrite_steps, some_has, steps_of, template_steps}
 
 -- what a meaning decides, where it decides
 abbrev Gives : {A : Type 0} → (A → Type 0) → Meaning A → Type 0
@@ -302,19 +302,19 @@ chain_gives : (steps : List Step) (q : Query) (marks : List Mark) → Gives (λ 
 chain_gives [] q marks = λ fails. absurd (omega (arith, fails))
 chain_gives (step ∷ steps) q marks = mean_gives (step ∷ steps) q marks
 
-block_gives : (files : List FileText) (block : Option Block) (q : Query) (marks : List Mark) → Gives (λ v. IsServFail v → block_cause files block q v) (block_decides files block q marks)
-block_gives files None q marks = λ fails. absurd (omega (arith, fails))
-block_gives files (Some block) q marks = chain_gives (steps_of files block) q marks
+block_gives : (steps : Block → List Step) (block : Option Block) (q : Query) (marks : List Mark) → Gives (λ v. IsServFail v → block_cause steps block q v) (block_decides steps block q marks)
+block_gives steps None q marks = λ fails. absurd (omega (arith, fails))
+block_gives steps (Some block) q marks = chain_gives (steps block) q marks
 
-asked_gives : (files : List FileText) (blocks : List Block) (d : Datagram) (asked : Asked) (marks : List Mark) → Gives (λ v. IsServFail v → AskedCause files blocks d asked v) (asked_decides files blocks d asked marks)
-asked_gives files blocks d asked marks =
+asked_gives : (steps : Block → List Step) (blocks : List Block) (d : Datagram) (asked : Asked) (marks : List Mark) → Gives (λ v. IsServFail v → AskedCause steps blocks d asked v) (asked_decides steps blocks d asked marks)
+asked_gives steps blocks d asked marks =
     let q = query_of d asked in
     let class = asked.question.class in
-    let P : Decision → Type 0 = λ v. IsServFail v → AskedCause files blocks d asked v in
-    gives_if P (is_known_version asked.opt) (class_decides class files blocks q marks) (Done (decision.Reply (nothing rcodes.NOERROR)) marks)
-    (λ known. gives_if P (nat_eq class classes.IN) (block_decides files (block_of blocks q) q marks) (Done refused marks)
-    (λ own. gives_as (λ v. IsServFail v → block_cause files (block_of blocks q) q v) P (λ v h fails. record { version = known; class = eqb-true class classes.IN own; cause = h fails })
-    (block_decides files (block_of blocks q) q marks) (block_gives files (block_of blocks q) q marks))
+    let P : Decision → Type 0 = λ v. IsServFail v → AskedCause steps blocks d asked v in
+    gives_if P (is_known_version asked.opt) (class_decides class steps blocks q marks) (Done (decision.Reply (nothing rcodes.NOERROR)) marks)
+    (λ known. gives_if P (nat_eq class classes.IN) (block_decides steps (block_of blocks q) q marks) (Done refused marks)
+    (λ own. gives_as (λ v. IsServFail v → block_cause steps (block_of blocks q) q v) P (λ v h fails. record { version = known; class = eqb-true class classes.IN own; cause = h fails })
+    (block_decides steps (block_of blocks q) q marks) (block_gives steps (block_of blocks q) q marks))
     (λ fails. absurd (omega (arith, fails))))
     (λ fails. absurd (omega (arith, fails)))
 
@@ -322,16 +322,16 @@ chain_fails : (steps : List Step) (q : Query) (v : Decision) → chain_cause ste
 chain_fails [] q v h = absurd h
 chain_fails (step ∷ steps) q v h = cause_fails (step ∷ steps) q v h
 
-block_fails : (files : List FileText) (block : Option Block) (q : Query) (v : Decision) → block_cause files block q v → IsServFail v
-block_fails files None q v h = absurd h
-block_fails files (Some block) q v h = chain_fails (steps_of files block) q v h
+block_fails : (steps : Block → List Step) (block : Option Block) (q : Query) (v : Decision) → block_cause steps block q v → IsServFail v
+block_fails steps None q v h = absurd h
+block_fails steps (Some block) q v h = chain_fails (steps block) q v h
 
-pub asked_cause : (files : List FileText) (blocks : List Block) (d : Datagram) (asked : Asked) (marks left : List Mark) (v : Decision) → asked_decides files blocks d asked marks ≡ Done v left
-    → IsServFail v ↔ AskedCause files blocks d asked v
-asked_cause files blocks d asked marks left v is =
-    (subst (Gives (λ v. IsServFail v → AskedCause files blocks d asked v)) is (asked_gives files blocks d asked marks), λ h. block_fails files (block_of blocks (query_of d asked)) (query_of d asked) v h.cause)
+pub asked_cause : (steps : Block → List Step) (blocks : List Block) (d : Datagram) (asked : Asked) (marks left : List Mark) (v : Decision) → asked_decides steps blocks d asked marks ≡ Done v left
+    → IsServFail v ↔ AskedCause steps blocks d asked v
+asked_cause steps blocks d asked marks left v is =
+    (subst (Gives (λ v. IsServFail v → AskedCause steps blocks d asked v)) is (asked_gives steps blocks d asked marks), λ h. block_fails steps (block_of blocks (query_of d asked)) (query_of d asked) v h.cause)
 
--- no step is one of plugins of others
+-- no step is an extra's
 abbrev pub IsOwn : Step → Type 0
 IsOwn (Others says) = ⊥
 IsOwn Errors = Unit {0}
@@ -375,20 +375,21 @@ own_files : (plans : List FileData) → AreOwn (file_steps plans)
 own_files [] = tt
 own_files (plan ∷ plans) = (tt, tt)
 
--- the steps of a block's chain are this server's own
-pub own_steps : (files : List FileText) (block : Block) → AreOwn (steps_of files block)
+-- the steps of a block's chain without extras are this server's own
+pub own_steps : (said : Sayings) (files : List FileText) (block : Block) → extras_of block.directives ≡ [] → AreOwn (steps_of said files block)
 unfolding steps_of
-own_steps files block =
+own_steps said files block none =
     let ds = block.directives in
     let zones = key_zones block in
     let context = context_of files block in
-    own_append (front_steps zones ds) (back_steps context ds)
+    own_append (front_steps zones ds) (extra_steps said (extras_of ds) ++ back_steps context ds)
     (own_append _ _ (own_if (some_has rank.Errors ds) (Errors ∷ []) (tt, tt))
     (own_append _ _ (own_logs (plans_of rank.Log zones ds))
     (own_append _ _ (own_acls (plans_of rank.Acl zones ds))
     (own_if (some_has rank.Any ds) (Answers Any ∷ []) (tt, tt)))))
+    (own_append _ _ (subst (λ es. AreOwn (extra_steps said es)) (sym none) tt)
     (own_append _ _ (own_rewrites _)
     (own_append _ _ (own_templates (plans_of rank.Template zones ds))
     (own_append _ _ (own_hosts (hosts_plans context ds))
     (own_append _ _ (own_files (file_plans context ds))
-    (own_if (some_has rank.Whoami ds) (Answers Whoami ∷ []) (tt, tt))))))
+    (own_if (some_has rank.Whoami ds) (Answers Whoami ∷ []) (tt, tt)))))))

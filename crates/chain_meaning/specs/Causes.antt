@@ -5,7 +5,6 @@ use Rattle.acl_plugin.specs.{acl_say}
 use Rattle.dns_data.specs.declared.block.Block.{Block}
 use Rattle.dns_data.specs.declared.class.TheConstants as classes
 use Rattle.dns_data.specs.declared.directive.Directive.{Directive}
-use Rattle.dns_data.specs.declared.file.FileText.{FileText}
 use Rattle.dns_data.specs.declared.query.Query.{Query}
 use Rattle.dns_data.specs.declared.rcode.TheConstants as rcodes
 use Rattle.dns_wire.specs.declared.asked.Asked.{Asked}
@@ -24,7 +23,7 @@ use Rattle.chain_meaning.specs.declared.decision.Decision.TheVariants as decisio
 use Rattle.chain_meaning.specs.Mean.{acl_answer, any_answer, number, restored_in}
 use Rattle.chain_meaning.specs.Serving.{block_of, is_known_version, query_of}
 use Rattle.chain_meaning.specs.Steps.{Answerer, Acl, Any, Template, Hosts, File, Whoami}
-use Rattle.chain_meaning.specs.Steps.{Step, Errors, Log, Rewrite, Answers, Others, steps_of}
+use Rattle.chain_meaning.specs.Steps.{Step, Errors, Log, Rewrite, Answers, Others}
 
 -- the RCODE of a decision is SERVFAIL
 abbrev pub IsServFail : Decision → Type 0
@@ -60,7 +59,7 @@ answer_cause (File plans) q rest v =
     rest_alone (option_map decision.Reply (file_say plans q)) rest v
 answer_cause Whoami q rest v = ⊥
 
--- plugins of others, by what they say of the query
+-- an extra, by what it says of the query
 abbrev pub others_cause : Option Decision → Type 0 → Decision → Type 0
 others_cause None rest v = rest
 others_cause (Some answer) rest v = (v ≡ answer) × IsServFail answer
@@ -89,14 +88,14 @@ chain_cause [] q v = ⊥
 chain_cause (step ∷ steps) q v = HasCause (step ∷ steps) q v
 
 -- a name without a block is refused
-abbrev pub block_cause : List FileText → Option Block → Query → Decision → Type 0
-block_cause files None q v = ⊥
-block_cause files (Some block) q v = chain_cause (steps_of files block) q v
+abbrev pub block_cause : (Block → List Step) → Option Block → Query → Decision → Type 0
+block_cause steps None q v = ⊥
+block_cause steps (Some block) q v = chain_cause (steps block) q v
 
--- the cause of a decision for what a datagram asks of blocks: the chain of the query's block has
--- it; another version of EDNS and another class are never SERVFAIL
-pub record AskedCause (files : List FileText) (blocks : List Block) (d : Datagram) (asked : Asked)
-    (v : Decision) : Type 0 where
+-- the cause of a decision for what a datagram asks of blocks, whose chains have these steps: that
+-- of the query's block has it; another version of EDNS and another class are never SERVFAIL
+pub record AskedCause (steps : Block → List Step) (blocks : List Block) (d : Datagram)
+    (asked : Asked) (v : Decision) : Type 0 where
   pub version : is_known_version asked.opt ≡ true
   pub class : asked.question.class ≡ classes.IN
-  pub cause : block_cause files (block_of blocks (query_of d asked)) (query_of d asked) v
+  pub cause : block_cause steps (block_of blocks (query_of d asked)) (query_of d asked) v

@@ -1,5 +1,6 @@
 pub mod RefusalTexts
 pub mod Steps
+pub mod Grounds
 pub mod Mean
 pub mod MeanLaws
 pub mod Accepting
@@ -14,3 +15,5 @@ pub use Rattle.chain_meaning.specs.Mean.{mean, nothing, number, outcome_of}
 pub use Rattle.chain_meaning.specs.RefusalTexts.{refusal_text}
 pub use Rattle.chain_meaning.specs.Serving.{Serves}
 pub use Rattle.chain_meaning.specs.Steps.{Step, steps_of}
+pub use Rattle.chain_meaning.specs.Grounds.{Brought, Ground, Terms, brought_of, ground_at, named_in}
+pub use Rattle.chain_meaning.specs.Grounds.{terms_on}

@@ -1,14 +1,14 @@
 -- Laws of the meaning, for those who run a chain: an equation for each step, that without a mark no
--- meaning is off and a decision leaves nothing, and that plugins of others which always go on change
--- nothing.
-use Rattle.std.proofs.Common.{◌≡◌, ℕ, Bool, true, false, List, [], ◌∷◌, ◌++◌, Option, Some, None, refl, if◌then◌else◌}
+-- meaning is off and a decision leaves nothing, and that all extras of a block may be one step.
+use Rattle.std.proofs.Common.{◌≡◌, ◌∙◌, ℕ, Bool, true, false, List, [], ◌∷◌, ◌++◌, Option, Some, None, refl, if◌then◌else◌}
+use Rattle.std.specs.Option.{option_or}
 use Rattle.dns_data.specs.declared.directive.Directive.{Directive}
 use Rattle.dns_data.specs.declared.query.Query.{Query}
 use Rattle.outside.specs.Meanings.{Meaning, Done, Starved, onward}
 use Rattle.outside.specs.TakingLaws.{starved_onward}
 use Rattle.outside.specs.declared.mark.Mark.{Mark}
 use Rattle.plain_plugins.specs.{log_line, plain_zones}
-use Rattle.plugin_api.specs.{PlanData}
+use Rattle.plugin_api.specs.{PlanData, Sayings}
 use Rattle.plugin_api.specs.declared.verdict.Cause.TheVariants as cause
 use Rattle.plugin_api.specs.declared.verdict.Code.TheVariants as code
 use Rattle.rewrite_plugin.specs.{changed_by}
@@ -16,7 +16,7 @@ use Rattle.zone_words.specs.{is_in}
 use Rattle.chain_meaning.specs.declared.decision.Decision.{Decision}
 use Rattle.chain_meaning.specs.declared.decision.Decision.TheVariants as decision
 use Rattle.chain_meaning.specs.Mean.{answer_of, error_noted, mean, or_rest, outcome_of, query_noted, reply_restored, rewritten, rule, take_note}
-use Rattle.chain_meaning.specs.Steps.{Answerer, Acl, Step, Errors, Log, Rewrite, Answers, Others}
+use Rattle.chain_meaning.specs.Steps.{Answerer, Acl, Step, Errors, Log, Rewrite, Answers, Others, extra_says, extra_steps}
 
 pub mean-end : (q : Query) (marks : List Mark) → mean [] q marks ≡ Done (decision.Code code.ServFail cause.EndOfChain) marks
 unfolding mean
@@ -85,12 +85,30 @@ unfolding mean
 mean_nothing [] q = refl
 mean_nothing (step ∷ steps) q = rule_nothing step (mean steps) q (mean_nothing steps)
 
--- where plugins of others always go on, a chain means what it means without them
-others_change_nothing : (says : Query → Option Decision) → ((q : Query) → says q ≡ None) → (front back : List Step) → mean (front ++ (Others says ∷ back)) ≡ mean (front ++ back)
-unfolding mean rule
-others_change_nothing says none [] back = λ i q marks. or_rest (mean back) q (none q i) marks
-others_change_nothing says none (step ∷ front) back = λ i q marks. rule step (others_change_nothing says none front back i) q marks
+-- what several extras decide, each in turn
+abbrev pub extras_say : Sayings → List Directive → Query → Option Decision
+extras_say said [] q = None
+extras_say said (d ∷ ds) q = option_or (extra_says said d q) (extras_say said ds q)
 
-pub mean-others : (says : Query → Option Decision) → ((q : Query) → says q ≡ None) → (front back : List Step) (q : Query) (marks : List Mark)
-    → mean (front ++ (Others says ∷ back)) q marks ≡ mean (front ++ back) q marks
-mean-others says none front back q marks = λ i. others_change_nothing says none front back i q marks
+or_both : (rest : Query → List Mark → Meaning Decision) (says : Query → Option Decision) (q : Query) (o : Option Decision) (marks : List Mark)
+    → or_rest rest q (option_or o (says q)) marks ≡ or_rest (λ p. or_rest rest p (says p)) q o marks
+or_both rest says q (Some v) marks = refl
+or_both rest says q None marks = refl
+
+-- one step for all extras of a block is as good as one for each
+together : (said : Sayings) (ds : List Directive) (back : List Step) → mean (Others (extras_say said ds) ∷ back) ≡ mean (extra_steps said ds ++ back)
+unfolding mean rule
+together said [] back = refl
+together said (d ∷ ds) back =
+    (λ i q marks. or_both (mean back) (extras_say said ds) q (extra_says said d q) marks i)
+    ∙ (λ i q marks. or_rest (together said ds back i) q (extra_says said d q) marks)
+
+behind_front : (a b front : List Step) → mean a ≡ mean b → mean (front ++ a) ≡ mean (front ++ b)
+unfolding mean
+behind_front a b [] same = same
+behind_front a b (step ∷ front) same = λ i q marks. rule step (behind_front a b front same i) q marks
+
+pub mean-extras : (said : Sayings) (ds : List Directive) (front back : List Step) (q : Query) (marks : List Mark)
+    → mean (front ++ (Others (extras_say said ds) ∷ back)) q marks ≡ mean (front ++ (extra_steps said ds ++ back)) q marks
+mean-extras said ds front back q marks =
+    λ i. behind_front (Others (extras_say said ds) ∷ back) (extra_steps said ds ++ back) front (together said ds back) i q marks

@@ -14,7 +14,6 @@ use Rattle.dns_data.specs.declared.message.Transport.{Transport}
 use Rattle.dns_data.specs.declared.message.Transport.TheVariants.{Udp, Tcp}
 use Rattle.dns_data.specs.declared.query.Query.{Query}
 use Rattle.dns_data.specs.declared.block.Block.{Block}
-use Rattle.dns_data.specs.declared.file.FileText.{FileText}
 use Rattle.dns_wire.specs.declared.fault.Head.{Head}
 use Rattle.dns_wire.specs.Wire.{flag_at}
 use Rattle.dns_wire.specs.Spells.{HasOtherOpcode, IsMalformed}
@@ -34,6 +33,7 @@ use Rattle.chain_meaning.specs.declared.served.Silence.TheVariants.{Short, Respo
 use Rattle.chain_meaning.specs.Accepting.{IsAccepted}
 use Rattle.chain_meaning.specs.Mean.{mean, nothing, number}
 use Rattle.chain_meaning.specs.Steps.{Step, steps_of}
+use Rattle.chain_meaning.specs.Grounds.{Terms}
 
 -- the DO bit of an OPT record, clear where there is none
 abbrev pub dnssec_of : Option Opt → Bool
@@ -65,18 +65,19 @@ chain_decides [] q marks = Done refused marks
 chain_decides (step ∷ steps) q marks = mean (step ∷ steps) q marks
 
 -- a name without a block is refused
-abbrev pub block_decides : List FileText → Option Block → Query → List Mark → Meaning Decision
-block_decides files None q marks = Done refused marks
-block_decides files (Some block) q marks = chain_decides (steps_of files block) q marks
+abbrev pub block_decides : (Block → List Step) → Option Block → Query → List Mark → Meaning Decision
+block_decides steps None q marks = Done refused marks
+block_decides steps (Some block) q marks = chain_decides (steps block) q marks
 
 -- the block with the longest zone on the port at which the query came
 abbrev pub block_of : List Block → Query → Option Block
 block_of blocks q = option_and_then (slice_get blocks) (picked blocks q.local q.name)
 
 -- a class other than IN is refused (RFC 1035, section 3.2.4)
-abbrev pub class_decides : ℕ → List FileText → List Block → Query → List Mark → Meaning Decision
-class_decides class files blocks q marks =
-    if nat_eq class classes.IN then block_decides files (block_of blocks q) q marks
+abbrev pub class_decides : ℕ → (Block → List Step) → List Block → Query → List Mark
+    → Meaning Decision
+class_decides class steps blocks q marks =
+    if nat_eq class classes.IN then block_decides steps (block_of blocks q) q marks
     else Done refused marks
 
 -- the OPT record of a reply to a query with this one: the payload size is 1232, the version 0, and
@@ -122,17 +123,23 @@ abbrev pub upper_code : Option Opt → ℕ
 upper_code opt = if is_known_version opt then 0 else rcodes.BADVERS_UPPER
 
 -- a query of another version of EDNS gets no records and the lower bits of BADVERS, which are 0
-abbrev pub query_decides : Option Opt → ℕ → List FileText → List Block → Query → List Mark
+abbrev pub query_decides : Option Opt → ℕ → (Block → List Step) → List Block → Query → List Mark
     → Meaning Decision
-query_decides opt class files blocks q marks =
-    if is_known_version opt then class_decides class files blocks q marks
+query_decides opt class steps blocks q marks =
+    if is_known_version opt then class_decides class steps blocks q marks
     else Done (decision.Reply (nothing rcodes.NOERROR)) marks
 
--- what is decided for what a datagram asks of blocks, in a bundle with these files
-abbrev pub asked_decides : List FileText → List Block → Datagram → Asked → List Mark
+-- what is decided for what a datagram asks of blocks, whose chains have these steps
+abbrev pub asked_decides : (Block → List Step) → List Block → Datagram → Asked → List Mark
     → Meaning Decision
-asked_decides files blocks d asked marks =
-    query_decides asked.opt asked.question.class files blocks (query_of d asked) marks
+asked_decides steps blocks d asked marks =
+    query_decides asked.opt asked.question.class steps blocks (query_of d asked) marks
+
+-- what is decided of a bundle's blocks
+abbrev pub bundle_decides : Terms → Bundle → List Block → Datagram → Asked → List Mark
+    → Meaning Decision
+bundle_decides terms bundle blocks d asked marks =
+    asked_decides (steps_of terms.said bundle.files) blocks d asked marks
 
 -- the answer of a decision, where it has a reply
 abbrev pub answer_in : Decision → Option AnswerData
@@ -159,15 +166,15 @@ limit_of Tcp opt = limits.MESSAGE_BYTES
 
 -- what a datagram asks of a bundle that is accepted, and what is decided by these marks, whatever
 -- stands behind them
-pub record Decides (bundle : Bundle) (default_port : ℕ) (d : Datagram) (marks : List Mark)
+pub record Decides (bundle : Bundle) (terms : Terms) (d : Datagram) (marks : List Mark)
     (P : Asked → Decision → Type 0) : Type 0 where
   pub blocks : List Block
-  pub accepted : IsAccepted default_port bundle blocks
+  pub accepted : IsAccepted terms bundle blocks
   pub asked : Asked
   pub queries : QueriesThis d.bytes asked
   pub decision : Decision
   pub took : (left : List Mark)
-      → asked_decides bundle.files blocks d asked (marks ++ left) ≡ Done decision left
+      → bundle_decides terms bundle blocks d asked (marks ++ left) ≡ Done decision left
   pub is : P asked decision
 
 -- the reply's bytes are those of the decision's answer
@@ -177,13 +184,13 @@ pub record Replies (d : Datagram) (reply : List ℕ) (asked : Asked) (v : Decisi
   pub bytes : reply ≡ written (reply_of d asked answer) (limit_of d.by asked.opt)
 
 -- memory ran out in the middle of a chain
-pub record Starves (bundle : Bundle) (default_port : ℕ) (d : Datagram) (marks : List Mark) : Type 0
+pub record Starves (bundle : Bundle) (terms : Terms) (d : Datagram) (marks : List Mark) : Type 0
   where
     pub blocks : List Block
-    pub accepted : IsAccepted default_port bundle blocks
+    pub accepted : IsAccepted terms bundle blocks
     pub asked : Asked
     pub queries : QueriesThis d.bytes asked
-    pub starved : Starved (asked_decides bundle.files blocks d asked marks)
+    pub starved : Starved (bundle_decides terms bundle blocks d asked marks)
 
 -- a header alone: the id, QR, an opcode, RD and an RCODE
 unfoldable pub header_reply : ℕ → ℕ → Bool → ℕ → List ℕ
@@ -204,15 +211,15 @@ pub record AnswersFormErr (d : Datagram) (reply : List ℕ) : Type 0 where
 
 -- what a datagram means, and what its meaning takes of the marks. For want of memory the marks end
 -- too early, or none is left.
-abbrev pub Serves : Bundle → ℕ → Datagram → List Mark → Served → Type 0
-Serves bundle default_port d marks (Reply reply) =
-    Decides bundle default_port d marks (Replies d reply)
+abbrev pub Serves : Bundle → Terms → Datagram → List Mark → Served → Type 0
+Serves bundle terms d marks (Reply reply) =
+    Decides bundle terms d marks (Replies d reply)
     ⊎ ((marks ≡ []) × (AnswersNotImp d reply ⊎ AnswersFormErr d reply))
-Serves bundle default_port d marks (Silent Short) =
+Serves bundle terms d marks (Silent Short) =
     (marks ≡ []) × (length d.bytes < limits.HEADER_BYTES)
-Serves bundle default_port d marks (Silent Response) =
+Serves bundle terms d marks (Silent Response) =
     (marks ≡ []) × (limits.HEADER_BYTES ≤ length d.bytes) × (flag_at d.bytes 2 7 ≡ true)
-Serves bundle default_port d marks (Silent Dropped) =
-    Decides bundle default_port d marks (λ asked v. v ≡ decision.Drop)
-Serves bundle default_port d marks NoMemory =
-    (marks ≡ []) ⊎ Starves bundle default_port d marks
+Serves bundle terms d marks (Silent Dropped) =
+    Decides bundle terms d marks (λ asked v. v ≡ decision.Drop)
+Serves bundle terms d marks NoMemory =
+    (marks ≡ []) ⊎ Starves bundle terms d marks

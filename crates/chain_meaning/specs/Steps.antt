@@ -1,8 +1,8 @@
 -- The chain of a block: a list of steps, each with what its plugin reads, directives and the zones
 -- of the block's keys, and for `hosts` and `file` the file. All `acl` directives are one step, and
--- so are all those of `rewrite`, of `template` and of `file`.
+-- so are all those of `rewrite`, of `template` and of `file`; each directive of an extra is one.
 use Rattle.std.specs.Prelude.{ℕ, nat_eq, Bool, false, List, [], ◌∷◌, ◌++◌, map, Option, Some}
-use Rattle.std.specs.Prelude.{None, if◌then◌else◌}
+use Rattle.std.specs.Prelude.{None, is_none, if◌then◌else◌}
 use Rattle.std.specs.List.{filter, list_any}
 use Rattle.dns_data.specs.declared.block.Block.{Block}
 use Rattle.dns_data.specs.declared.directive.Directive.{Directive}
@@ -14,10 +14,14 @@ use Rattle.file_plugin.specs.{FileData}
 use Rattle.file_plugin.specs.Reading.{data_of}
 use Rattle.hosts_plugin.specs.{HostsData}
 use Rattle.hosts_plugin.specs.Reading.{data_of as hosts_data}
-use Rattle.plugin_api.specs.{PlanData, order_of, rank_of}
+use Rattle.plugin_api.specs.{PlanData, Sayings, order_of, rank_of}
 use Rattle.plugin_api.specs.declared.ranks.Rank.{Rank}
 use Rattle.plugin_api.specs.declared.ranks.Rank.TheVariants as rank
+use Rattle.plugin_api.specs.declared.verdict.Cause.TheVariants as cause
+use Rattle.plugin_api.specs.declared.verdict.Verdict.{Verdict}
+use Rattle.plugin_api.specs.declared.verdict.Verdict.TheVariants as verdict
 use Rattle.chain_meaning.specs.declared.decision.Decision.{Decision}
+use Rattle.chain_meaning.specs.declared.decision.Decision.TheVariants as decision
 
 -- a plugin that answers or goes on
 pub data Answerer : Type 0 where
@@ -28,8 +32,8 @@ pub data Answerer : Type 0 where
   File : List FileData → Answerer
   Whoami : Answerer
 
--- a step of a chain. `Others` are plugins that a program brings besides those of this server, with
--- what they say of a query; where they say nothing, they go on. No directive has such a step.
+-- a step of a chain. `Others` is a plugin that a program brings besides those of this server, with
+-- what it says of a query; where it says nothing, it goes on
 pub data Step : Type 0 where
   Errors : Step
   Log : PlanData → Step
@@ -40,6 +44,17 @@ pub data Step : Type 0 where
 -- what plugins say that always go on
 abbrev pub none_said : Query → Option Decision
 none_said q = None
+
+-- what the verdict of an extra decides: to pass is to go on
+abbrev pub verdict_decides : Verdict → Option Decision
+verdict_decides (verdict.Reply answer) = Some (decision.Reply answer)
+verdict_decides verdict.Pass = None
+verdict_decides verdict.Drop = Some decision.Drop
+verdict_decides (verdict.Code code) = Some (decision.Code code cause.ExtraCode)
+
+-- what the extra of a directive decides
+abbrev pub extra_says : Sayings → Directive → Query → Option Decision
+extra_says said d q = verdict_decides (said d.name d q)
 
 -- the zones for which a directive stands that names none: those of its block's keys
 abbrev pub key_zones : Block → List (List (List ℕ))
@@ -93,6 +108,17 @@ file_plan context d = data_of d context.zones (file_in context.files d)
 abbrev pub file_plans : Context → List Directive → List FileData
 file_plans context directives = map (file_plan context) (filter (has_rank rank.File) directives)
 
+-- the directives whose names this server's own plugins don't have: those of extras, in the order of
+-- the text
+abbrev pub is_extra : Directive → Bool
+is_extra d = is_none (rank_of d.name)
+
+abbrev pub extras_of : List Directive → List Directive
+extras_of directives = filter is_extra directives
+
+abbrev pub block_extras : Block → List Directive
+block_extras block = extras_of block.directives
+
 -- the steps of the plans of a rank; without a plan there is none
 abbrev pub error_steps : Bool → List Step
 error_steps stands = if stands then Errors ∷ [] else []
@@ -106,6 +132,12 @@ acl_steps (plan ∷ plans) = Answers (Acl (plan ∷ plans)) ∷ []
 
 abbrev pub any_steps : Bool → List Step
 any_steps stands = if stands then Answers Any ∷ [] else []
+
+abbrev pub extra_step : Sayings → Directive → Step
+extra_step said d = Others (extra_says said d)
+
+abbrev pub extra_steps : Sayings → List Directive → List Step
+extra_steps said directives = map (extra_step said) directives
 
 abbrev pub rewrite_steps : List Directive → List Step
 rewrite_steps [] = []
@@ -128,7 +160,7 @@ file_steps (plan ∷ plans) = Answers (File (plan ∷ plans)) ∷ []
 abbrev pub whoami_steps : Bool → List Step
 whoami_steps stands = if stands then Answers Whoami ∷ [] else []
 
--- what stands in front of a cache, and behind it
+-- what stands in front of the extras, and behind a cache
 abbrev pub front_steps : List (List (List ℕ)) → List Directive → List Step
 front_steps zones directives =
     error_steps (some_has rank.Errors directives)
@@ -144,8 +176,10 @@ back_steps context directives =
     ++ (file_steps (file_plans context directives)
     ++ whoami_steps (some_has rank.Whoami directives))))
 
--- the chain of a block in a bundle with these files: rank by rank, whatever the order of the text
-unfoldable pub steps_of : List FileText → Block → List Step
-steps_of files block =
+-- the chain of a block in a bundle with these files, where extras say this: rank by rank, whatever
+-- the order of the text
+unfoldable pub steps_of : Sayings → List FileText → Block → List Step
+steps_of said files block =
     front_steps (key_zones block) block.directives
-    ++ back_steps (context_of files block) block.directives
+    ++ (extra_steps said (block_extras block)
+    ++ back_steps (context_of files block) block.directives)

@@ -1,6 +1,5 @@
 ghost use Rattle.std.specs.Prelude.{◌≡◌, ◌↔◌, List, IsTrue};
 ghost use Rattle.dns_data.specs.declared.block.Block.{Block};
-ghost use Rattle.dns_data.specs.declared.file.FileText.{FileText};
 ghost use Rattle.dns_data.specs.declared.query.Query.{Query};
 ghost use Rattle.dns_wire.specs.declared.asked.Asked.{Asked};
 ghost use Rattle.outside.specs.Meanings.{Done};
@@ -20,10 +19,10 @@ pub fn is_servfail(decision: &Decision) -> bool
     ensures chain { (steps : List Step) → (q : Query) → (marks left : List Mark)
         → mean steps q marks ≡ Done decision.now left
         → IsTrue result ↔ HasCause steps q decision.now }
-    ensures asked { (files : List FileText) → (blocks : List Block) → (d : Datagram)
+    ensures asked { (steps : Block → List Step) → (blocks : List Block) → (d : Datagram)
         → (asked : Asked) → (marks left : List Mark)
-        → asked_decides files blocks d asked marks ≡ Done decision.now left
-        → IsTrue result ↔ AskedCause files blocks d asked decision.now }
+        → asked_decides steps blocks d asked marks ≡ Done decision.now left
+        → IsTrue result ↔ AskedCause steps blocks d asked decision.now }
 {
     has_servfail(decision)
 }

@@ -1,5 +1,5 @@
 -- Which chain a query goes through, and what serving took.
-use Rattle.std.proofs.Common.{◌≡◌, ◌<◌, ◌≤◌, ◌⊎◌, inl, inr, ℕ, ◌+◌, List, [], ◌∷◌, map, length, Option, Some, None, option_map, slice_get, Bor, Ok, refl, sym, ap, subst, ◌∙◌, arith}
+use Rattle.std.proofs.Common.{◌≡◌, ◌<◌, ◌≤◌, ◌⊎◌, inl, inr, ℕ, ◌+◌, List, [], ◌∷◌, ◌++◌, map, length, Option, Some, None, true, false, nat_eq, option_map, slice_get, Bor, Ok, refl, sym, ap, subst, ◌∙◌, arith}
 use Rattle.std.proofs.lemmas.List.{append-nil, length-map}
 use Rattle.std.proofs.Common.{length-append}
 use Rattle.std.proofs.lemmas.Option.{slice_get-map}
@@ -18,13 +18,18 @@ use Rattle.dns_wire.specs.declared.asked.Asked.{Asked}
 use Rattle.outside.specs.declared.datagram.Datagram.{Datagram}
 use Rattle.outside.specs.Meanings.{Meaning, Done, Starved, Took}
 use Rattle.outside.specs.declared.mark.Mark.{Mark}
-use Rattle.chain_meaning.specs.Mean.{mean}
-use Rattle.chain_meaning.specs.Serving.{Replies, answer_in, block_decides, chain_decides, limit_of, opt_reply, query_of}
+use Rattle.chain_meaning.specs.Mean.{mean, nothing}
+use Rattle.chain_meaning.specs.declared.decision.Decision.TheVariants as decision
+use Rattle.dns_data.specs.declared.class.TheConstants as classes
+use Rattle.dns_data.specs.declared.rcode.TheConstants as rcodes
+use Rattle.chain_meaning.specs.Serving.{Replies, answer_in, block_decides, block_of, chain_decides, class_decides, is_known_version, limit_of, opt_reply, query_decides, query_of}
 use Rattle.chain_meaning.specs.Serving.{refused, reply_message, upper_code}
 use Rattle.chain_meaning.specs.declared.decision.Decision.{Decision}
-use Rattle.chain_meaning.specs.Steps.{Step, rewrite_steps, steps_of}
-use Rattle.chain_build.specs.Plans.{steps_in}
-use Rattle.chain_build.specs.Compiled.{back_of, back_steps, front_of, whole}
+use Rattle.plugin_api.specs.{Sayings}
+use Rattle.chain_meaning.specs.MeanLaws.{extras_say, mean-extras}
+use Rattle.chain_meaning.specs.Steps.{Step, extra_step, extra_steps, none_said, rewrite_steps, steps_of}
+use Rattle.chain_build.specs.Plans.{extras_in, steps_in}
+use Rattle.chain_build.specs.Compiled.{back_of, back_steps, front_of, whole_by, whole_with}
 use Rattle.chain_build.specs.declared.block_chain.BackAnswerer.{BackAnswerer}
 use Rattle.chain_build.specs.declared.block_chain.BlockChain.{BlockChain}
 use Rattle.chain_build.specs.declared.ended.Ended.{Ended}
@@ -32,48 +37,82 @@ use Rattle.chain_build.specs.declared.ended.Ended.TheVariants as end
 use Rattle.chain_build.specs.declared.block_chain.FrontStep.{FrontStep}
 use Rattle.chain_build.specs.Replying.{lent_of, whole_answer, whole_message}
 
-pub by_number : (files : List FileText) (chains : List BlockChain) (blocks : List Block) (n : ℕ) → map steps_in chains ≡ map (steps_of files) blocks
-    → option_map steps_in (slice_get chains n) ≡ option_map (steps_of files) (slice_get blocks n)
-by_number files chains blocks n e = sym (slice_get-map steps_in chains n) ∙ ap (λ l. slice_get l n) e ∙ slice_get-map (steps_of files) blocks n
+pub by_number : (said : Sayings) (files : List FileText) (chains : List BlockChain) (blocks : List Block) (n : ℕ) → map (steps_in said) chains ≡ map (steps_of said files) blocks
+    → option_map (steps_in said) (slice_get chains n) ≡ option_map (steps_of said files) (slice_get blocks n)
+by_number said files chains blocks n e = sym (slice_get-map (steps_in said) chains n) ∙ ap (λ l. slice_get l n) e ∙ slice_get-map (steps_of said files) blocks n
+
+-- the extras of a chain by its number
+pub extras_at : (chains : List BlockChain) (extras : List (List Directive)) (n : ℕ) (chain : BlockChain) → extras ≡ map extras_in chains → slice_get chains n ≡ Some chain → slice_get extras n ≡ Some chain.extras
+extras_at chains extras n chain e at = ap (λ l. slice_get l n) e ∙ slice_get-map extras_in chains n ∙ ap (option_map extras_in) at
 
 -- a chain that has steps means what they mean
 some_steps : (steps : List Step) (q : Query) → 0 < length steps → (marks : List Mark) → chain_decides steps q marks ≡ mean steps q marks
-some_steps [] q h marks = absurd (omega arith)
+some_steps [] q h marks = absurd (omega (arith, h))
 some_steps (step ∷ steps) q h marks = refl
 
 rules_length : (ds : List Directive) → 0 < length ds → 0 < length (rewrite_steps ds)
 rules_length [] h = absurd (omega (arith, h))
 rules_length (d ∷ ds) h = omega arith
 
-whole_length : (front : List FrontStep) (ds : List Directive) (back : List BackAnswerer) → length (whole front ds back) ≡ length front + (length (rewrite_steps ds) + length back)
-whole_length front ds back =
-    omega (arith, length-append (map front_of front) (back_steps ds back), length-append (rewrite_steps ds) (map back_of back), length-map front front_of, length-map back back_of)
+no_extras : (extras : List Directive) → length extras ≤ 0 → extras ≡ []
+no_extras [] h = refl
+no_extras (d ∷ ds) h = absurd (omega (arith, h))
 
-module _ (front : List FrontStep) (ds : List Directive) (back : List BackAnswerer) (q : Query) where
-  runs_some : 0 < length (whole front ds back) → (marks : List Mark) → chain_decides (whole front ds back) q marks ≡ mean (whole front ds back) q marks
-  runs_some h = some_steps (whole front ds back) q h
+module _ (said : Sayings) (front : List FrontStep) (extras ds : List Directive) (back : List BackAnswerer) (q : Query) where
+  whole_length : length (whole_by said front extras ds back) ≡ length front + (length extras + (length (rewrite_steps ds) + length back))
+  whole_length =
+      omega (
+        arith,
+        length-append (map front_of front) (extra_steps said extras ++ back_steps ds back),
+        length-append (extra_steps said extras) (back_steps ds back),
+        length-append (rewrite_steps ds) (map back_of back),
+        length-map front front_of,
+        length-map extras (extra_step said),
+        length-map back back_of,
+      )
 
-  pub runs : (0 < length front) ⊎ ((length front ≤ 0 × 0 < length ds) ⊎ (length front ≤ 0 × length ds ≤ 0 × 0 < length back)) → (marks : List Mark) → chain_decides (whole front ds back) q marks ≡ mean (whole front ds back) q marks
-  runs (inl h) = runs_some (omega (arith, h, whole_length front ds back))
-  runs (inr (inl h)) = runs_some (omega (arith, rules_length ds h.1, whole_length front ds back))
-  runs (inr (inr h)) = runs_some (omega (arith, h.2, whole_length front ds back))
+  pub runs : (0 < length front) ⊎ ((0 < length extras) ⊎ ((0 < length ds) ⊎ (0 < length back))) → (marks : List Mark)
+      → chain_decides (whole_by said front extras ds back) q marks ≡ mean (whole_by said front extras ds back) q marks
+  runs (inl h) = some_steps (whole_by said front extras ds back) q (omega (arith, h, whole_length))
+  runs (inr (inl h)) = some_steps (whole_by said front extras ds back) q (omega (arith, h, whole_length))
+  runs (inr (inr (inl h))) = some_steps (whole_by said front extras ds back) q (omega (arith, rules_length ds h, whole_length))
+  runs (inr (inr (inr h))) = some_steps (whole_by said front extras ds back) q (omega (arith, h, whole_length))
+
+  -- with all extras as one step
+  pub runs_extras : (0 < length front) ⊎ ((0 < length extras) ⊎ ((0 < length ds) ⊎ (0 < length back))) → (marks : List Mark)
+      → chain_decides (whole_by said front extras ds back) q marks ≡ mean (whole_with (extras_say said extras) front ds back) q marks
+  runs_extras some marks = runs some marks ∙ sym (mean-extras said extras (map front_of front) (back_steps ds back) q marks)
+
+  -- with none
+  pub runs_own : length extras ≤ 0 → 0 < length front → (marks : List Mark) → chain_decides (whole_by said front extras ds back) q marks ≡ mean (whole_with none_said front ds back) q marks
+  runs_own none some marks = runs_extras (inl some) marks ∙ ap (λ (es : List Directive). mean (whole_with (extras_say said es) front ds back) q marks) (no_extras extras none)
+
+-- with no step at all it refuses
+pub runs_none : (said : Sayings) (front : List FrontStep) (extras ds : List Directive) (back : List BackAnswerer) (q : Query) → length front ≤ 0 → length extras ≤ 0 → length ds ≤ 0 → length back ≤ 0 → (marks : List Mark)
+    → chain_decides (whole_by said front extras ds back) q marks ≡ Done refused marks
+runs_none said [] [] [] [] q f x r b marks = refl
+runs_none said (step ∷ steps) extras ds back q f x r b marks = absurd (omega (arith, f))
+runs_none said [] (d ∷ extras) ds back q f x r b marks = absurd (omega (arith, x))
+runs_none said [] [] (d ∷ ds) back q f x r b marks = absurd (omega (arith, r))
+runs_none said [] [] [] (plugin ∷ back) q f x r b marks = absurd (omega (arith, b))
 
 -- with nothing in front it means what stands behind a cache
-pub runs_uncached : (front : List FrontStep) (ds : List Directive) (back : List BackAnswerer) (q : Query) → length front ≤ 0 → (0 < length ds) ⊎ (length ds ≤ 0 × 0 < length back) → (marks : List Mark)
-    → chain_decides (whole front ds back) q marks ≡ mean (back_steps ds back) q marks
-runs_uncached [] ds back q none (inl h) marks = runs [] ds back q (inr (inl (none, h))) marks
-runs_uncached [] ds back q none (inr h) marks = runs [] ds back q (inr (inr (none, h.0, h.1))) marks
-runs_uncached (step ∷ steps) ds back q none some marks = absurd (omega (arith, none))
+pub runs_uncached : (said : Sayings) (front : List FrontStep) (extras ds : List Directive) (back : List BackAnswerer) (q : Query) → length front ≤ 0 → length extras ≤ 0 → (0 < length ds) ⊎ (length ds ≤ 0 × 0 < length back) → (marks : List Mark)
+    → chain_decides (whole_by said front extras ds back) q marks ≡ mean (back_steps ds back) q marks
+runs_uncached said [] [] ds back q none without (inl h) marks = runs said [] [] ds back q (inr (inr (inl h))) marks
+runs_uncached said [] [] ds back q none without (inr h) marks = runs said [] [] ds back q (inr (inr (inr h.1))) marks
+runs_uncached said (step ∷ steps) extras ds back q none without some marks = absurd (omega (arith, none))
+runs_uncached said [] (d ∷ extras) ds back q none without some marks = absurd (omega (arith, without))
 
 -- the block of a chain that was found, and that there is none where none was
-pub block_some : (files : List FileText) (o : Option Block) (steps : List Step) (q : Query) → Some steps ≡ option_map (steps_of files) o → (marks : List Mark)
-    → block_decides files o q marks ≡ chain_decides steps q marks
-block_some files None steps q e marks = absurd cc
-block_some files (Some block) steps q e marks = let same : steps ≡ steps_of files block = cc in ap (λ s. chain_decides s q marks) (sym same)
+pub block_some : (chains : Block → List Step) (o : Option Block) (steps : List Step) (q : Query) → Some steps ≡ option_map chains o → (marks : List Mark)
+    → block_decides chains o q marks ≡ chain_decides steps q marks
+block_some chains None steps q e marks = absurd cc
+block_some chains (Some block) steps q e marks = let same : steps ≡ chains block = cc in ap (λ s. chain_decides s q marks) (sym same)
 
-pub block_none : (files : List FileText) (o : Option Block) (q : Query) → None ≡ option_map (steps_of files) o → (marks : List Mark) → block_decides files o q marks ≡ Done refused marks
-block_none files None q e marks = refl
-block_none files (Some block) q e marks = absurd cc
+pub block_none : (chains : Block → List Step) (o : Option Block) (q : Query) → None ≡ option_map chains o → (marks : List Mark) → block_decides chains o q marks ≡ Done refused marks
+block_none chains None q e marks = refl
+block_none chains (Some block) q e marks = absurd cc
 
 -- with the tail that is lent the whole message is written
 pub lent_written : (Q : MessageData → Type 0) (e : Ended) (m : MessageData) (tail : Option (Bor Tail)) → tail ≡ lent_of e
@@ -106,3 +145,19 @@ replied {d} {asked} e {v} {slot} {after} {m} {limit} {upper} {opt} {q} {bytes} u
 pub starved_after : {A : Type 0} (means : List Mark → Meaning A) (v : A) (marks : List Mark) → Took means (Ok v) marks → Starved (means marks)
 starved_after means v marks took =
     let all : means marks ≡ Done v [] = ap means (sym (append-nil marks)) ∙ took [] in subst Starved (sym all) refl
+
+-- by the version of EDNS and the class
+pub version_known : (opt : Option Opt) (class : ℕ) (chains : Block → List Step) (blocks : List Block) (q : Query) → is_known_version opt ≡ true → (marks : List Mark)
+    → query_decides opt class chains blocks q marks ≡ class_decides class chains blocks q marks
+version_known opt class chains blocks q e marks = rw e refl
+
+pub version_other : (opt : Option Opt) (class : ℕ) (chains : Block → List Step) (blocks : List Block) (q : Query) → is_known_version opt ≡ false → (marks : List Mark)
+    → query_decides opt class chains blocks q marks ≡ Done (decision.Reply (nothing rcodes.NOERROR)) marks
+version_other opt class chains blocks q e marks = rw e refl
+
+pub class_own : (class : ℕ) (chains : Block → List Step) (blocks : List Block) (q : Query) → nat_eq class classes.IN ≡ true → (marks : List Mark)
+    → class_decides class chains blocks q marks ≡ block_decides chains (block_of blocks q) q marks
+class_own class chains blocks q e marks = rw e refl
+
+pub class_other : (class : ℕ) (chains : Block → List Step) (blocks : List Block) (q : Query) → nat_eq class classes.IN ≡ false → (marks : List Mark) → class_decides class chains blocks q marks ≡ Done refused marks
+class_other class chains blocks q e marks = rw e refl

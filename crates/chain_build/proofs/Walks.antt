@@ -1,6 +1,7 @@
 -- What a walk took: one lemma for each way on.
-use Rattle.std.proofs.Common.{◌≡◌, List, [], ◌∷◌, map, Option, Some, None, Result, Ok, Err, refl, ap, subst, ◌∙◌}
+use Rattle.std.proofs.Common.{◌≡◌, List, [], ◌∷◌, map, Option, Some, None, Result, Ok, Err, refl, sym, ap, subst, ◌∙◌}
 use Rattle.std.specs.Prelude.{IsErr}
+use Rattle.std.specs.Option.{option_or}
 use Rattle.dns_lists.specs.declared.memory.NoMemory.{NoMemory}
 use Rattle.dns_data.specs.Message.{AnswerData}
 use Rattle.dns_data.specs.declared.directive.Directive.{Directive}
@@ -15,8 +16,12 @@ use Rattle.outside.specs.declared.mark.Mark.{Mark}
 use Rattle.rewrite_plugin.specs.declared.plan_data.Changed.{Changed}
 use Rattle.chain_meaning.specs.declared.decision.Decision.{Decision}
 use Rattle.chain_meaning.specs.Mean.{answer_of, mean, or_rest, reply_restored, rewritten}
-use Rattle.chain_meaning.specs.MeanLaws.{mean-step, mean_nothing, rule-others}
-use Rattle.chain_meaning.specs.Steps.{Answerer, Step, Others}
+use Rattle.extra_stock.specs.Turns.{in_turn, or_next}
+use Rattle.plugin_api.specs.{Sayings}
+use Rattle.plugin_api.specs.declared.verdict.Verdict.{Verdict}
+use Rattle.plugin_api.specs.declared.verdict.Verdict.TheVariants as verdict
+use Rattle.chain_meaning.specs.MeanLaws.{extras_say, mean-step, mean_nothing, rule-others}
+use Rattle.chain_meaning.specs.Steps.{Answerer, Step, Others, extra_says, verdict_decides}
 use Rattle.chain_build.specs.Compiled.{back_of}
 use Rattle.chain_build.specs.Walking.{Answered, Restored, decided, decision_of}
 use Rattle.chain_build.specs.declared.block_chain.BackAnswerer.{BackAnswerer}
@@ -70,3 +75,15 @@ others_say says steps q v side said = takes-nothing (mean (Others says ∷ steps
 pub others_go : (says : Query → Option Decision) (steps : List Step) (q : Query) (result : Result Decision NoMemory) (old new : SideState)
     → says q ≡ None → Takes (mean steps q) result old new → Takes (mean (Others says ∷ steps) q) result old new
 others_go says steps q result old new said takes = takes-as (mean steps q) (mean (Others says ∷ steps) q) (others says steps q said) takes
+
+-- what the extras of a block say in turn decides what each in turn does
+next_decides : (v next : Verdict) → verdict_decides (or_next v next) ≡ option_or (verdict_decides v) (verdict_decides next)
+next_decides (verdict.Reply answer) next = refl
+next_decides verdict.Pass next = refl
+next_decides verdict.Drop next = refl
+next_decides (verdict.Code code) next = refl
+
+pub turns : (said : Sayings) (ds : List Directive) (q : Query) (v : Verdict) → v ≡ in_turn said ds q → extras_say said ds q ≡ verdict_decides v
+turns said [] q v e = ap verdict_decides (sym e)
+turns said (d ∷ ds) q v e =
+    ap (option_or (extra_says said d q)) (turns said ds q (in_turn said ds q) refl) ∙ sym (next_decides (said d.name d q) (in_turn said ds q)) ∙ ap verdict_decides (sym e)

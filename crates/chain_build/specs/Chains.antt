@@ -1,67 +1,86 @@
 -- The chains of a bundle. This server's own rule.
 use Rattle.std.specs.Prelude.{◌≡◌, ◌<◌, ℕ, ◌+◌, ◌^◌, List, length, map, Option}
 use Rattle.std.specs.Prelude.{Result, Ok, Err}
+use Rattle.std.specs.List.{All}
 use Rattle.dns_data.specs.declared.block.Block.{Block}
 use Rattle.dns_data.specs.declared.file.FileText.{FileText}
 use Rattle.corefile_blocks.specs.declared.bundle.Bundle.{Bundle}
 use Rattle.pattern_judging.specs.{IsFault, IsWell}
+use Rattle.plugin_api.specs.{Sayings, Takings}
 use Rattle.chain_meaning.specs.Accepting.{IsAccepted, IsRefusedWith, block_task, blocks_task}
 use Rattle.chain_meaning.specs.Accepting.{patterns_in, told}
-use Rattle.chain_meaning.specs.Steps.{steps_of}
+use Rattle.chain_meaning.specs.Steps.{block_extras, steps_of}
+use Rattle.chain_meaning.specs.Grounds.{Brought, Ground, Terms, terms_on}
 use Rattle.chain_build.specs.declared.checking.Made.{Made}
 use Rattle.chain_build.specs.declared.checking.ReadBundle.{ReadBundle}
 use Rattle.chain_build.specs.declared.block_chain.BlockChain.{BlockChain}
 use Rattle.chain_build.specs.declared.fault.CheckFault.{CheckFault}
 use Rattle.chain_build.specs.declared.fault.CheckFault.TheVariants as fault
-use Rattle.chain_build.specs.Plans.{ArePlans, PlansData, steps_in}
+use Rattle.chain_build.specs.Places.{AreTaken}
+use Rattle.chain_build.specs.Plans.{ArePlans, PlansData, extras_in, ground_of, steps_in}
+
+-- the extras of a chain take its directives
+abbrev pub HasTaken : Takings → BlockChain → Type 0
+HasTaken taken chain = AreTaken taken chain.extras
 
 -- a block of a bundle with these files, behind so many patterns, makes this chain, and so many
 -- stand behind it
-pub record IsChain (patterns : ℕ) (files : List FileText) (block : Block) (made : Made) : Type 0
-  where
-    pub well : IsWell (block_task patterns files block)
-    pub steps : steps_in made.chain ≡ steps_of files block
-    pub count : made.patterns ≡ patterns + length (patterns_in block.directives)
+pub record IsChain (brought : Brought) (patterns : ℕ) (files : List FileText) (block : Block)
+    (made : Made) : Type 0 where
+  pub well : IsWell (block_task brought patterns files block)
+  pub steps : (said : Sayings) → steps_in said made.chain ≡ steps_of said files block
+  pub extras : made.chain.extras ≡ block_extras block
+  pub taken : HasTaken brought.taken made.chain
+  pub count : made.patterns ≡ patterns + length (patterns_in block.directives)
 
 -- what a block makes, where the maker refused this text last
-abbrev pub MakesBlock : ℕ → List FileText → Block → Option (List ℕ)
+abbrev pub MakesBlock : Brought → ℕ → List FileText → Block → Option (List ℕ)
     → Result Made CheckFault → Type 0
-MakesBlock patterns files block last (Ok made) = IsChain patterns files block made
-MakesBlock patterns files block last (Err (fault.Refused why)) =
-    IsFault told (block_task patterns files block) last why
-MakesBlock patterns files block last (Err fault.NoMemory) = Unit {0}
+MakesBlock brought patterns files block last (Ok made) =
+    IsChain brought patterns files block made
+MakesBlock brought patterns files block last (Err (fault.Refused why)) =
+    IsFault told (block_task brought patterns files block) last why
+MakesBlock brought patterns files block last (Err fault.NoMemory) = Unit {0}
+
+-- these chains are those of blocks
+pub record AreChains (taken : Takings) (files : List FileText) (blocks : List Block)
+    (chains : List BlockChain) : Type 0 where
+  pub steps : (said : Sayings) → map (steps_in said) chains ≡ map (steps_of said files) blocks
+  pub extras : map extras_in chains ≡ map block_extras blocks
+  pub taken_are : All (HasTaken taken) chains
 
 -- what blocks make, where the maker refused this text last
-abbrev pub MakesBlocks : List FileText → List Block → Option (List ℕ)
+abbrev pub MakesBlocks : Brought → List FileText → List Block → Option (List ℕ)
     → Result (List BlockChain) CheckFault → Type 0
-MakesBlocks files blocks last (Ok chains) =
-    IsWell (blocks_task 0 files blocks) × (map steps_in chains ≡ map (steps_of files) blocks)
-MakesBlocks files blocks last (Err (fault.Refused why)) =
-    IsFault told (blocks_task 0 files blocks) last why
-MakesBlocks files blocks last (Err fault.NoMemory) = Unit {0}
+MakesBlocks brought files blocks last (Ok chains) =
+    IsWell (blocks_task brought 0 files blocks) × AreChains brought.taken files blocks chains
+MakesBlocks brought files blocks last (Err (fault.Refused why)) =
+    IsFault told (blocks_task brought 0 files blocks) last why
+MakesBlocks brought files blocks last (Err fault.NoMemory) = Unit {0}
 
 -- what is read of a bundle: its blocks, and the chain of each
-pub record IsRead (bundle : Bundle) (default_port : ℕ) (read : ReadBundle) : Type 0 where
-  pub accepted : IsAccepted default_port bundle read.blocks
+pub record IsRead (bundle : Bundle) (terms : Terms) (read : ReadBundle) : Type 0 where
+  pub accepted : IsAccepted terms bundle read.blocks
   pub few : length read.blocks < 2 ^ 32
-  pub chains : map steps_in read.chains ≡ map (steps_of bundle.files) read.blocks
+  pub chains : AreChains terms.brought.taken bundle.files read.blocks read.chains
 
 -- what is read of a bundle, or why it is refused, where the maker refused this text last
-abbrev pub ReadsBundle : Bundle → ℕ → Option (List ℕ) → Result ReadBundle CheckFault → Type 0
-ReadsBundle bundle default_port last (Ok read) = IsRead bundle default_port read
-ReadsBundle bundle default_port last (Err (fault.Refused why)) =
-    IsRefusedWith default_port bundle last why
-ReadsBundle bundle default_port last (Err fault.NoMemory) = Unit {0}
+abbrev pub ReadsBundle : Bundle → Terms → Option (List ℕ) → Result ReadBundle CheckFault → Type 0
+ReadsBundle bundle terms last (Ok read) = IsRead bundle terms read
+ReadsBundle bundle terms last (Err (fault.Refused why)) = IsRefusedWith terms bundle last why
+ReadsBundle bundle terms last (Err fault.NoMemory) = Unit {0}
 
--- what a bundle makes
-pub record IsMade (bundle : Bundle) (default_port : ℕ) (plans : PlansData) : Type 0 where
+-- what a bundle makes on this basis
+pub record IsMade (taken : Takings) (said : Sayings) (bundle : Bundle) (basis : Ground)
+    (plans : PlansData) : Type 0 where
   pub bundle_is : plans.bundle ≡ bundle
-  pub port : plans.default_port ≡ default_port
-  pub are : ArePlans plans
+  pub ground_is : ground_of plans ≡ basis
+  pub are : ArePlans taken said plans
 
 -- what a bundle makes, or why it is refused, where the maker refused this text last
-abbrev pub MakesPlans : Bundle → ℕ → Option (List ℕ) → Result PlansData CheckFault → Type 0
-MakesPlans bundle default_port last (Ok plans) = IsMade bundle default_port plans
-MakesPlans bundle default_port last (Err (fault.Refused why)) =
-    IsRefusedWith default_port bundle last why
-MakesPlans bundle default_port last (Err fault.NoMemory) = Unit {0}
+abbrev pub MakesPlans : Takings → Sayings → Bundle → Ground → Option (List ℕ)
+    → Result PlansData CheckFault → Type 0
+MakesPlans taken said bundle basis last (Ok plans) = IsMade taken said bundle basis plans
+MakesPlans taken said bundle basis last (Err (fault.Refused why)) =
+    IsRefusedWith (terms_on taken said basis) bundle last why
+MakesPlans taken said bundle basis last (Err fault.NoMemory) = Unit {0}

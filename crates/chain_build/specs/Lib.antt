@@ -1,7 +1,10 @@
+pub mod Building
 pub mod Chains
+pub mod Judging
 pub mod Plans
 pub mod Workers
 pub mod Compiled
+pub mod Own
 pub mod Places
 pub mod PlacesLaws
 pub mod Reading
@@ -9,8 +12,10 @@ pub mod Replying
 pub mod Walking
 pub mod WalkingLaws
 -- what public clauses cite
+pub use Rattle.chain_build.specs.Building.{Builds, BuildsChains}
 pub use Rattle.chain_build.specs.Chains.{IsMade, IsRead, MakesPlans, ReadsBundle}
+pub use Rattle.chain_build.specs.Own.{AreOwnPlans, OwnChain, own_ground, own_terms}
 pub use Rattle.chain_build.specs.Reading.{check_behind, is_of_pattern}
-pub use Rattle.chain_build.specs.Plans.{ArePlans, PlansData}
-pub use Rattle.chain_build.specs.Workers.{chain_identity, chain_log, plans_of}
+pub use Rattle.chain_build.specs.Plans.{ArePlans, PlansData, ground_of, terms_in}
+pub use Rattle.chain_build.specs.Workers.{chain_extras, chain_identity, chain_log, plans_of}
 pub use Rattle.chain_build.specs.Replying.{TellsServing}

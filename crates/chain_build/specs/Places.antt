@@ -1,18 +1,21 @@
 -- What is read of a block's directives, each rank in a place of its own, and the steps of that.
 use Rattle.std.specs.Prelude.{◌≡◌, ℕ, ◌+◌, true, false, List, [], ◌∷◌, ◌++◌, length, Option}
-use Rattle.std.specs.Prelude.{Some, Result, Ok, Err}
+use Rattle.std.specs.Prelude.{None, Some, Result, Ok, Err}
+use Rattle.std.specs.List.{All}
 use Rattle.dns_data.specs.declared.block.Block.{Block}
 use Rattle.dns_data.specs.declared.directive.Directive.{Directive}
-use Rattle.plugin_api.specs.{PlanData, rank_of}
+use Rattle.plugin_api.specs.{PlanData, Takings, rank_of}
 use Rattle.plugin_api.specs.declared.ranks.Rank.{Rank}
 use Rattle.plugin_api.specs.declared.ranks.Rank.TheVariants as rank
 use Rattle.dns_data.specs.declared.file.FileText.{FileText}
-use Rattle.pattern_judging.specs.{IsFault, IsWell}
-use Rattle.chain_meaning.specs.Accepting.{Behind, block_task, directive_task, rank_patterns, told}
+use Rattle.pattern_judging.specs.{IsFault, IsWell, Task}
+use Rattle.chain_meaning.specs.Accepting.{Behind, block_task, rank_patterns, told}
 use Rattle.chain_meaning.specs.Steps.{Context, Step, acl_steps, any_steps, context_of, error_steps}
 use Rattle.chain_meaning.specs.Steps.{file_plan, file_steps, hosts_plan, hosts_steps}
 use Rattle.chain_meaning.specs.Steps.{log_steps, plan_in, rewrite_steps, template_steps}
 use Rattle.chain_meaning.specs.Steps.{whoami_steps}
+use Rattle.chain_meaning.specs.Grounds.{Brought}
+use Rattle.chain_meaning.specs.declared.refusal.Refusal.{Refusal}
 use Rattle.chain_build.specs.declared.fault.CheckFault.{CheckFault}
 use Rattle.chain_build.specs.declared.fault.CheckFault.TheVariants as fault
 use Rattle.chain_build.specs.declared.places.Places.{Places}
@@ -25,6 +28,7 @@ no_places patterns = record {
   logs = [];
   acls = [];
   any = false;
+  extras = [];
   rewrites = [];
   templates = [];
   hosts = [];
@@ -45,7 +49,7 @@ placed_plain (Some rank.Any) plan places = record places { any = true }
 placed_plain (Some rank.Whoami) plan places = record places { whoami = true }
 placed_plain other plan places = places
 
--- with the plan of one more directive of a rank
+-- with the plan of one more directive of a rank; one without a rank is an extra's
 abbrev pub placed_by : Option Rank → Context → Directive → Places → Places
 placed_by (Some rank.Acl) context d places =
     record places { acls = places.acls ++ plan_in context.zones d ∷ [] }
@@ -61,6 +65,7 @@ placed_by (Some rank.Hosts) context d places =
     record places { hosts = places.hosts ++ hosts_plan context d ∷ [] }
 placed_by (Some rank.File) context d places =
     record places { files = places.files ++ file_plan context d ∷ [] }
+placed_by None context d places = record places { extras = places.extras ++ d ∷ [] }
 placed_by other context d places = placed_plain other (plan_in context.zones d) places
 
 -- with what is read of the directives of a block
@@ -96,22 +101,30 @@ context_at reading = context_in reading.zones.now reading.files.now
 abbrev pub behind_at : Reading → Places → Behind
 behind_at reading places = behind_in (context_at reading) reading.before.now places
 
--- reading one more directive, behind those that stand before it, where the maker refused this text
--- last
-abbrev pub ReadsMore : Behind → Directive → Places → Places → Option (List ℕ)
-    → Result (Unit {0}) CheckFault → Type 0
-ReadsMore b d old new last (Ok done) =
-    IsWell (directive_task b d) × (new ≡ placed_by (rank_of d.name) b.context d old)
-ReadsMore b d old new last (Err (fault.Refused why)) = IsFault told (directive_task b d) last why
-ReadsMore b d old new last (Err fault.NoMemory) = Unit {0}
+-- reading what has this task, where the maker refused this text last: it is well, and a fact of
+-- what was read, or its fault
+abbrev pub ReadsMore : Task Refusal → Type 0 → Option (List ℕ) → Result (Unit {0}) CheckFault
+    → Type 0
+ReadsMore task P last (Ok done) = IsWell task × P
+ReadsMore task P last (Err (fault.Refused why)) = IsFault told task last why
+ReadsMore task P last (Err fault.NoMemory) = Unit {0}
 
--- reading the directives of a block in a bundle with these files, behind so many patterns, where
--- the maker refused this text last
-abbrev pub ReadsBlock : ℕ → List FileText → Block → Option (List ℕ)
+-- the extras of each name take these directives of it
+abbrev pub AreTaken : Takings → List Directive → Type 0
+AreTaken taken directives = All (λ d. taken d.name d ≡ true) directives
+
+-- what was read of the directives of a block in a bundle with these files, behind so many patterns
+pub record IsBlockRead (brought : Brought) (patterns : ℕ) (files : List FileText) (block : Block)
+    (places : Places) : Type 0 where
+  pub well : IsWell (block_task brought patterns files block)
+  pub is : places ≡ placed (context_of files block) block.directives (no_places patterns)
+  pub taken : AreTaken brought.taken places.extras
+
+-- reading them, where the maker refused this text last
+abbrev pub ReadsBlock : Brought → ℕ → List FileText → Block → Option (List ℕ)
     → Result Places CheckFault → Type 0
-ReadsBlock patterns files block last (Ok places) =
-    IsWell (block_task patterns files block)
-    × (places ≡ placed (context_of files block) block.directives (no_places patterns))
-ReadsBlock patterns files block last (Err (fault.Refused why)) =
-    IsFault told (block_task patterns files block) last why
-ReadsBlock patterns files block last (Err fault.NoMemory) = Unit {0}
+ReadsBlock brought patterns files block last (Ok places) =
+    IsBlockRead brought patterns files block places
+ReadsBlock brought patterns files block last (Err (fault.Refused why)) =
+    IsFault told (block_task brought patterns files block) last why
+ReadsBlock brought patterns files block last (Err fault.NoMemory) = Unit {0}

@@ -6,15 +6,15 @@ use Rattle.std.specs.List.{filter}
 use Rattle.dns_data.specs.declared.block.Block.{Block}
 use Rattle.dns_data.specs.declared.directive.Directive.{Directive}
 use Rattle.dns_data.specs.declared.file.FileText.{FileText}
-use Rattle.plugin_api.specs.{rank_of}
+use Rattle.plugin_api.specs.{Sayings, rank_of}
 use Rattle.plugin_api.specs.declared.ranks.Rank.{Rank}
 use Rattle.plugin_api.specs.declared.ranks.Rank.TheVariants as rank
 use Rattle.chain_meaning.specs.Accepting.{patterns_in, rank_patterns}
-use Rattle.chain_meaning.specs.Steps.{Context, context_of, file_plan, file_plans, has_rank, hosts_plan, hosts_plans, plan_in, plans_of, rewrite_steps, some_has, steps_of}
+use Rattle.chain_meaning.specs.Steps.{Context, context_of, extra_steps, extras_of, file_plan, file_plans, has_rank, hosts_plan, hosts_plans, plan_in, plans_of, rewrite_steps, some_has, steps_of}
 use Rattle.chain_build.specs.declared.block_chain.BackAnswerer.{BackAnswerer}
 use Rattle.chain_build.specs.declared.block_chain.FrontStep.{FrontStep}
 use Rattle.chain_build.specs.declared.places.Places.{Places}
-use Rattle.chain_build.specs.Compiled.{back_of, front_of, whole}
+use Rattle.chain_build.specs.Compiled.{back_of, front_of, whole_by}
 use Rattle.chain_build.specs.Places.{answers_in, back_in, front_in, no_places, placed, placed_by}
 
 -- what was read before, with what further directives are
@@ -24,6 +24,7 @@ with_all c ds p = record {
   logs = p.logs ++ plans_of rank.Log c.zones ds;
   acls = p.acls ++ plans_of rank.Acl c.zones ds;
   any = p.any || some_has rank.Any ds;
+  extras = p.extras ++ extras_of ds;
   rewrites = p.rewrites ++ filter (has_rank rank.Rewrite) ds;
   templates = p.templates ++ plans_of rank.Template c.zones ds;
   hosts = p.hosts ++ hosts_plans c ds;
@@ -47,7 +48,7 @@ counts_on : (n : ℕ) (xs ys : List (List ℕ)) → (n + length xs) + length ys 
 counts_on n xs ys = omega (arith, length-append xs ys)
 
 step : (c : Context) (d : Directive) (ds : List Directive) (p : Places) (r : Option Rank) → rank_of d.name ≡ r → with_all c ds (placed_by r c d p) ≡ with_all c (d ∷ ds) p
-step c d ds p None e = rw e refl
+step c d ds p None e = rw e (ap (λ x. record (with_all c ds p) { extras = x }) (append_assoc p.extras (d ∷ []) (extras_of ds)))
 step c d ds p (Some rank.Passive) e = rw e refl
 step c d ds p (Some rank.Reload) e = rw e refl
 step c d ds p (Some rank.Errors) e = rw e (ap (λ x. record (with_all c ds p) { errors = x }) (sym (or_true p.errors)))
@@ -76,6 +77,7 @@ all c [] p = λ i. record {
   logs = sym (append-nil p.logs) i;
   acls = sym (append-nil p.acls) i;
   any = sym (or_false p.any) i;
+  extras = sym (append-nil p.extras) i;
   rewrites = sym (append-nil p.rewrites) i;
   templates = sym (append-nil p.templates) i;
   hosts = sym (append-nil p.hosts) i;
@@ -88,6 +90,10 @@ all c (d ∷ ds) p = all c ds (placed_by (rank_of d.name) c d p) ∙ step c d ds
 -- the plans of `file` that were read of directives
 pub files-placed : (c : Context) (ds : List Directive) (n : ℕ) → (placed c ds (no_places n)).files ≡ file_plans c ds
 files-placed c ds n = ap (λ (p : Places). p.files) (all c ds (no_places n))
+
+-- and the directives of extras
+pub extras-placed : (c : Context) (ds : List Directive) (n : ℕ) → (placed c ds (no_places n)).extras ≡ extras_of ds
+extras-placed c ds n = ap (λ (p : Places). p.extras) (all c ds (no_places n))
 
 -- how many patterns stand behind them
 pub patterns-placed : (c : Context) (ds : List Directive) (n : ℕ) → (placed c ds (no_places n)).patterns ≡ n + length (patterns_in ds)
@@ -102,16 +108,16 @@ pub placed-push : (c : Context) (before : List Directive) (d : Directive) (p : P
 placed-push c before d p = placed_more c before (d ∷ []) p
 
 -- the steps of what was read of a block are its chain
-pub places-steps : (files : List FileText) (block : Block) (n : ℕ) (places : Places) → places ≡ placed (context_of files block) block.directives (no_places n)
-    → front_in places ++ back_in places ≡ steps_of files block
+pub places-steps : (said : Sayings) (files : List FileText) (block : Block) (n : ℕ) (places : Places) → places ≡ placed (context_of files block) block.directives (no_places n)
+    → front_in places ++ (extra_steps said places.extras ++ back_in places) ≡ steps_of said files block
 unfolding steps_of
-places-steps files block n places is =
+places-steps said files block n places is =
     let read = is ∙ all (context_of files block) block.directives (no_places n) in
-    λ i. ap front_in read i ++ ap back_in read i
+    λ i. ap front_in read i ++ (extra_steps said (read i).extras ++ ap back_in read i)
 
 -- and so are the compiled ones
-pub steps-placed : (files : List FileText) (block : Block) (n : ℕ) (front : List FrontStep) (back : List BackAnswerer) (places : Places) → places ≡ placed (context_of files block) block.directives (no_places n)
-    → map front_of front ≡ front_in places → map back_of back ≡ answers_in places → whole front places.rewrites back ≡ steps_of files block
-steps-placed files block n front back places is f b =
-    let compiled : whole front places.rewrites back ≡ front_in places ++ back_in places = λ i. f i ++ (rewrite_steps places.rewrites ++ b i) in
-    compiled ∙ places-steps files block n places is
+pub steps-placed : (said : Sayings) (files : List FileText) (block : Block) (n : ℕ) (front : List FrontStep) (back : List BackAnswerer) (places : Places) → places ≡ placed (context_of files block) block.directives (no_places n)
+    → map front_of front ≡ front_in places → map back_of back ≡ answers_in places → whole_by said front places.extras places.rewrites back ≡ steps_of said files block
+steps-placed said files block n front back places is f b =
+    let compiled : whole_by said front places.extras places.rewrites back ≡ front_in places ++ (extra_steps said places.extras ++ back_in places) = λ i. f i ++ (extra_steps said places.extras ++ (rewrite_steps places.rewrites ++ b i)) in
+    compiled ∙ places-steps said files block n places is

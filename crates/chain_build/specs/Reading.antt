@@ -1,5 +1,6 @@
 -- What the parts of reading a directive do, and what they leave of the maker of patterns.
-use Rattle.std.specs.Prelude.{◌≡◌, ℕ, ◌+◌, Bool, true, false, List, Option, Some, None}
+use Rattle.std.specs.Prelude.{◌≡◌, ℕ, ◌+◌, Bool, true, false, List, [], ◌∷◌, ◌++◌, Option}
+use Rattle.std.specs.Prelude.{Some, None}
 use Rattle.std.specs.Prelude.{Result, Ok, Err, if◌then◌else◌}
 use Rattle.outside.specs.{WatchState, raised, with_refusals}
 use Rattle.dns_data.specs.declared.directive.Directive.{Directive}
@@ -8,8 +9,10 @@ use Rattle.plugin_api.specs.declared.ranks.Rank.{Rank}
 use Rattle.plugin_api.specs.declared.ranks.Rank.TheVariants as rank
 use Rattle.pattern_judging.specs.{IsFault, IsWell, Task}
 use Rattle.plugin_api.specs.declared.fault.DirectiveFault.TheVariants as directive
-use Rattle.chain_meaning.specs.Accepting.{fixed_refusal, rank_patterns, reader_refusal, refused_by}
+use Rattle.chain_meaning.specs.Accepting.{extra_refusal, fixed_refusal, rank_patterns}
+use Rattle.chain_meaning.specs.Accepting.{reader_refusal, refused_by}
 use Rattle.chain_meaning.specs.Accepting.{Behind, told}
+use Rattle.chain_meaning.specs.Grounds.{Brought}
 use Rattle.chain_meaning.specs.declared.refusal.Refusal.{Refusal}
 use Rattle.chain_meaning.specs.declared.refusal.Refusal.TheVariants as refusal
 use Rattle.plugin_api.specs.declared.fault.DirectiveWhy.TheVariants as why
@@ -50,6 +53,16 @@ ReadsAs rank b d old new (Ok done) =
 ReadsAs rank b d old new (Err (fault.Refused refused)) =
     fixed_refusal rank b d ≡ Some refused
 ReadsAs rank b d old new (Err fault.NoMemory) = Unit {0}
+
+-- reading the directive of an extra, which has no patterns
+abbrev pub ReadsExtra : Brought → Directive → Places → Places → Result (Unit {0}) CheckFault
+    → Type 0
+ReadsExtra brought d old new (Ok done) =
+    (brought.named d.name ≡ true) × (brought.taken d.name d ≡ true)
+    × (new ≡ record old { extras = old.extras ++ d ∷ [] })
+ReadsExtra brought d old new (Err (fault.Refused refused)) =
+    extra_refusal brought d ≡ Some refused
+ReadsExtra brought d old new (Err fault.NoMemory) = Unit {0}
 
 -- so many more patterns are read
 abbrev pub CountsOn : ℕ → Places → Places → Result (Unit {0}) CheckFault → Type 0

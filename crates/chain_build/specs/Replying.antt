@@ -1,5 +1,5 @@
 -- What the parts of serving do.
-use Rattle.std.specs.Prelude.{ℕ, List, Option, Some, None}
+use Rattle.std.specs.Prelude.{List, Option, Some, None}
 use Rattle.std.proofs.Common.{Bor}
 use Rattle.dns_data.specs.Message.{AnswerData, MessageData}
 use Rattle.dns_write.specs.Tails.{lent_to, with_tail}
@@ -11,6 +11,7 @@ use Rattle.outside.specs.declared.datagram.Datagram.{Datagram}
 use Rattle.corefile_blocks.specs.declared.bundle.Bundle.{Bundle}
 use Rattle.chain_meaning.specs.declared.served.Served.{Served}
 use Rattle.chain_meaning.specs.Serving.{Serves}
+use Rattle.chain_meaning.specs.Grounds.{Terms}
 use Rattle.chain_build.specs.declared.ended.Ended.{Ended}
 use Rattle.chain_build.specs.declared.ended.Ended.TheVariants as ended
 
@@ -36,9 +37,9 @@ lent_of (ended.Code code cause) = None
 lent_of ended.Drop = None
 
 -- serving made these marks, told them, and gave what the datagram means by them; no count fell
-pub record TellsServing (bundle : Bundle) (default_port : ℕ) (d : Datagram) (result : Served)
+pub record TellsServing (bundle : Bundle) (terms : Terms) (d : Datagram) (result : Served)
     (old new : SideState) : Type 0 where
   pub marks : List Mark
   pub told : Adds old new marks
   pub stays : Stays old new
-  pub serves : Serves bundle default_port d marks result
+  pub serves : Serves bundle terms d marks result

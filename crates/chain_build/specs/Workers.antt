@@ -1,19 +1,32 @@
 -- Which chain a worker's chain is. This server's own rule.
 use Rattle.std.specs.Prelude.{List, []}
 use Rattle.std.specs.Arc.{arc_value}
+use Rattle.std.specs.Box.{box_value}
+use Rattle.dns_data.specs.declared.directive.Directive.{Directive}
 use Rattle.outside.specs.declared.mark.Mark.{Mark}
 use Rattle.pin_table.specs.{Identity, tag}
+use Rattle.plugin_api.specs.declared.extra.Extra as extra
+use Rattle.plugin_api.specs.declared.rulebook.Rulebook as rulebook
 use Rattle.chain_build.specs.declared.chain.Chain.{Chain}
 use Rattle.chain_build.specs.Plans.{PlansData}
 
 -- what a chain serves by
-abbrev pub plans_of : Chain → PlansData
+abbrev pub plans_of : {B E : Type 0} {b : rulebook.Ghosts B} {e : extra.Ghosts E}
+    → Chain B E b e → PlansData
 plans_of chain = arc_value chain.plans
 
 -- its serial, its worker, and what it serves by
-abbrev pub chain_identity : Chain → Identity PlansData
-chain_identity chain = tag chain.serial chain.worker (plans_of chain)
+abbrev pub chain_identity : {B E : Type 0} {b : rulebook.Ghosts B} {e : extra.Ghosts E}
+    → Chain B E b e → Identity PlansData
+chain_identity chain =
+    tag (box_value chain.held).serial (box_value chain.held).worker (plans_of chain)
 
 -- it keeps no log, since nothing that workers share answers differently with time
-abbrev pub chain_log : Chain → List (List Mark)
+abbrev pub chain_log : {B E : Type 0} {b : rulebook.Ghosts B} {e : extra.Ghosts E}
+    → Chain B E b e → List (List Mark)
 chain_log chain = []
+
+-- the directives of its extras, block by block
+abbrev pub chain_extras : {B E : Type 0} {b : rulebook.Ghosts B} {e : extra.Ghosts E}
+    → Chain B E b e → List (List Directive)
+chain_extras chain = (plans_of chain).extras

@@ -1,7 +1,7 @@
 //! The chain of a block, as it runs.
 
 use acl_plugin::AclPlan;
-use dns_data::Seq;
+use dns_data::{Directives, Seq};
 use file_plugin::FilePlan;
 use hosts_plugin::HostsPlan;
 use plain_plugins::PlainPlan;
@@ -12,6 +12,8 @@ use template_plugin::TemplatePlan;
 #[derive(Drop)]
 pub struct BlockChain {
     pub front: Seq<FrontStep>,
+    /// The directives of extras, which stand behind the front.
+    pub extras: Directives,
     /// The rules that change the query for the plugins behind them.
     pub rewrites: Seq<RewritePlan>,
     pub back: Seq<BackAnswerer>,

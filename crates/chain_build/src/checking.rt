@@ -1,5 +1,10 @@
-ghost use Rattle.std.specs.Prelude.{◌≡◌, None, Some, Ok, Err, IfOk};
+ghost use Rattle.std.specs.Prelude.{◌≡◌, ◌<◌, ◌^◌, None, Some, Ok, Err, map, IfOk};
 ghost use Rattle.std.specs.List.{All};
+ghost use Rattle.plugin_api.specs.{Obey, Sayings};
+ghost use Rattle.extra_stock.specs.{seats_in};
+ghost use Rattle.chain_meaning.specs.{brought_of, ground_at};
+ghost use Rattle.chain_meaning.specs.Grounds.{terms_by};
+ghost use Rattle.chain_build.specs.Plans.{extras_in};
 ghost use Rattle.corefile_blocks.specs.{IsReadable, ReadsBlocks};
 ghost use Rattle.corefile_blocks.specs.Readable.{HasShortBytes};
 ghost use Rattle.chain_build.specs.Chains.{MakesBlock, MakesBlocks, MakesPlans};
@@ -9,37 +14,84 @@ ghost use Rattle.chain_build.specs.Reading.{check_behind};
 use crate::block_chain::BlockChain;
 use crate::compiling::compile;
 use crate::fault::CheckFault;
+use crate::judges::{Bench, Judges};
 use crate::places::read_block;
 use crate::plans::Plans;
 use chain_meaning::Refusal;
 use corefile_blocks::{Bundle, CorefileFault, ports, read_blocks};
-use dns_data::{Block, Blocks, FileText, Seq};
+use dns_data::{Block, Blocks, Bytes, Directives, FileText, NoMemory, Seq, Strings};
 use outside::PatternMaker;
-use plugin_api::BlockIndex;
+use plugin_api::{BlockIndex, Extra, Rulebook};
 use std::alloc::Global;
+use std::marker::PhantomData;
 
-/// What a bundle serves by, or its first refusal. The maker makes its patterns.
-pub fn check<M: PatternMaker>(
+/// What a bundle serves by, or its first refusal. The judges are an extra of each name that the
+/// program brings, and the maker makes the bundle's patterns.
+pub fn check<B: Rulebook, E: Extra, M: PatternMaker>(
     alloc: Global,
     bundle: Bundle,
     default_port: u16,
+    judges: &[E],
     maker: &mut M,
-) -> Result<Plans, CheckFault>
-    requires { IsReadable bundle }
-    ensures plans { MakesPlans bundle default_port (M.last maker.new) result }
+) -> Result<Plans<B>, CheckFault>
+    requires readable { IsReadable bundle }
+    requires judges { Obey B.taken B.said E.title E.takes E.ruling judges.now }
+    ensures plans { MakesPlans B.taken B.said bundle
+        (ground_at default_port (map E.title judges.now)) (M.last maker.new) result }
     ensures maker { M.state maker.new ≡ check_behind result (M.state maker.old) }
 {
-    let ReadBundle { blocks, chains } = read_bundle(alloc, &bundle, default_port, maker)?;
+    let bench: Bench<'_, B, E> = Bench {
+        judges,
+        of: PhantomData,
+    };
+    let read = read_bundle(alloc, &bundle, default_port, &bench, maker)?;
+    let ReadBundle { blocks, chains } = read;
+    let names = names_of(alloc, judges)?;
+    let extras = extras_of(alloc, chains.as_slice())?;
     let index = BlockIndex::new(alloc, &blocks)?;
     let ports = Seq::of(ports(alloc, &blocks)?);
     Ok(Plans {
         bundle,
         default_port,
+        names,
         blocks,
         index,
         chains,
+        extras,
         ports,
+        of: PhantomData,
     })
+}
+
+// The names of judges.
+fn names_of<E: Extra>(alloc: Global, judges: &[E]) -> Result<Strings, NoMemory>
+    ensures { IfOk result (λ names. names ≡ map E.title judges.now) }
+{
+    let mut names = Seq::with_capacity(alloc, judges.len())?;
+    for judge in judges {
+        names.push(Bytes::from_slice(alloc, judge.name())?)?;
+    }
+    Ok(names)
+}
+
+// The directives of extras in chains. More of them than can be counted have no room.
+fn extras_of(alloc: Global, chains: &[BlockChain]) -> Result<Seq<Directives>, NoMemory>
+    ensures extras { IfOk result (λ extras. extras ≡ map extras_in chains.now) }
+    ensures few { IfOk result (λ extras. seats_in extras < 2 ^ 32) }
+{
+    let mut extras = Seq::with_capacity(alloc, chains.len())?;
+    let mut count: usize = 0;
+    for chain in chains {
+        let Some(sum) = count.checked_add(chain.extras.len()) else {
+            return Err(NoMemory);
+        };
+        if u32::MAX as usize <= sum {
+            return Err(NoMemory);
+        }
+        count = sum;
+        extras.push(chain.extras.copy(alloc)?)?;
+    }
+    Ok(extras)
 }
 
 /// What was read of a bundle: its blocks, and the chain of each.
@@ -50,14 +102,17 @@ pub struct ReadBundle {
 }
 
 /// Reads a bundle, or gives its first refusal. The maker makes its patterns.
-pub fn read_bundle<M: PatternMaker>(
+pub fn read_bundle<J: Judges, M: PatternMaker>(
     alloc: Global,
     bundle: &Bundle,
     default_port: u16,
+    judges: &J,
     maker: &mut M,
 ) -> Result<ReadBundle, CheckFault>
     requires { IsReadable bundle.now }
-    ensures reads { ReadsBundle bundle.now default_port (M.last maker.new) result }
+    ensures reads { (said : Sayings) → ReadsBundle bundle.now
+        (terms_by default_port (brought_of (J.named judges.now) (J.taken judges.now)) said)
+        (M.last maker.new) result }
     ensures maker { M.state maker.new ≡ check_behind result (M.state maker.old) }
 {
     let blocks = match read_blocks(alloc, bundle, default_port) {
@@ -71,26 +126,29 @@ pub fn read_bundle<M: PatternMaker>(
     if u32::MAX as usize <= blocks.len() {
         return Err(CheckFault::NoMemory);
     }
-    let chains = block_chains(alloc, bundle.files.as_slice(), blocks.as_slice(), maker)?;
+    let files = bundle.files.as_slice();
+    let chains = block_chains(alloc, judges, files, blocks.as_slice(), maker)?;
     Ok(ReadBundle { blocks, chains })
 }
 
 /// The chains of blocks in a bundle with these files, or the first refusal of a directive.
-pub fn block_chains<M: PatternMaker>(
+pub fn block_chains<J: Judges, M: PatternMaker>(
     alloc: Global,
+    judges: &J,
     files: &[FileText],
     blocks: &[Block],
     maker: &mut M,
 ) -> Result<Seq<BlockChain>, CheckFault>
     requires { All HasShortBytes files.now }
-    ensures made { MakesBlocks files.now blocks.now (M.last maker.new) result }
+    ensures made { MakesBlocks (brought_of (J.named judges.now) (J.taken judges.now)) files.now
+        blocks.now (M.last maker.new) result }
     ensures maker { M.state maker.new ≡ check_behind result (M.state maker.old) }
 {
     let mut chains = Seq::with_capacity(alloc, blocks.len())?;
     let mut patterns = 0;
     let mut rest = blocks;
     while let Some((block, behind)) = rest.split_first() {
-        let made = block_chain(alloc, patterns, files, block, maker)?;
+        let made = block_chain(alloc, judges, patterns, files, block, maker)?;
         chains.push(made.chain)?;
         patterns = made.patterns;
         rest = behind;
@@ -106,18 +164,20 @@ pub(crate) struct Made {
 }
 
 // The chain of a block, behind so many patterns.
-fn block_chain<M: PatternMaker>(
+fn block_chain<J: Judges, M: PatternMaker>(
     alloc: Global,
+    judges: &J,
     patterns: usize,
     files: &[FileText],
     block: &Block,
     maker: &mut M,
 ) -> Result<Made, CheckFault>
     requires { All HasShortBytes files.now }
-    ensures made { MakesBlock patterns files.now block.now (M.last maker.new) result }
+    ensures made { MakesBlock (brought_of (J.named judges.now) (J.taken judges.now)) patterns
+        files.now block.now (M.last maker.new) result }
     ensures maker { M.state maker.new ≡ check_behind result (M.state maker.old) }
 {
-    let places = read_block(alloc, patterns, files, block, maker)?;
+    let places = read_block(alloc, judges, patterns, files, block, maker)?;
     let patterns = places.patterns;
     let chain = compile(alloc, places)?;
     Ok(Made { chain, patterns })

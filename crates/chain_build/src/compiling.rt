@@ -19,6 +19,7 @@ use template_plugin::TemplatePlan;
 /// Lists what was read rank by rank.
 pub fn compile(alloc: Global, places: Places) -> Result<BlockChain, NoMemory>
     ensures front { IfOk result (λ chain. map front_of chain.front ≡ front_in places) }
+    ensures extras { IfOk result (λ chain. chain.extras ≡ places.extras) }
     ensures rewrites { IfOk result (λ chain. chain.rewrites ≡ places.rewrites) }
     ensures back { IfOk result (λ chain. map back_of chain.back ≡ answers_in places) }
 {
@@ -27,6 +28,7 @@ pub fn compile(alloc: Global, places: Places) -> Result<BlockChain, NoMemory>
         logs,
         acls,
         any,
+        extras,
         rewrites,
         templates,
         hosts,
@@ -46,6 +48,7 @@ pub fn compile(alloc: Global, places: Places) -> Result<BlockChain, NoMemory>
     push_whoami(&mut back, whoami)?;
     Ok(BlockChain {
         front,
+        extras,
         rewrites,
         back,
     })

@@ -36,6 +36,7 @@ pub fn run_front<'a, S: Side, X: Extras>(
         steps.entry.behind.now.rewrites steps.entry.behind.now.back) query.now)
         (decided result room.new.plugins.slot) (S.state side.old) (S.state side.new) }
     ensures stays { X.says extras.new ≡ X.says extras.old }
+    ensures set { X.directives extras.new ≡ X.directives extras.old }
 {
     let behind = steps.behind;
     let Some((step, front)) = steps.front.split_first() else {
@@ -76,6 +77,7 @@ fn run_others<'a, S: Side, X: Extras>(
         (mean (others_steps (X.says extras.old) chain.now.rewrites chain.now.back) query.now)
         (decided result room.new.plugins.slot) (S.state side.old) (S.state side.new) }
     ensures stays { X.says extras.new ≡ X.says extras.old }
+    ensures set { X.directives extras.new ≡ X.directives extras.old }
 {
     match extras.answer(alloc, query, &mut room.plugins.slot)? {
         Some(ended) => Ok(ended),

@@ -1,22 +1,29 @@
 ghost use Rattle.std.specs.Prelude.{◌≡◌, None, Some, true, map, IfOk, OnOk};
+ghost use Rattle.plugin_api.specs.{rank_of};
 ghost use Rattle.plugin_api.specs.declared.ranks.Rank.TheVariants as rank;
 ghost use Rattle.plain_plugins.specs.{IsPlain};
-ghost use Rattle.chain_meaning.specs.Accepting.{stands_in};
+ghost use Rattle.chain_meaning.specs.{brought_of};
+ghost use Rattle.chain_meaning.specs.Accepting.{directive_task, stands_in};
 ghost use Rattle.std.specs.List.{All};
 ghost use Rattle.corefile_blocks.specs.Readable.{HasShortBytes};
 ghost use Rattle.chain_meaning.specs.Steps.{file_plans};
-ghost use Rattle.chain_build.specs.Places.{ReadsBlock, ReadsMore, behind_at, context_at};
+ghost use Rattle.chain_build.specs.Places.{AreTaken, ReadsBlock, ReadsMore};
+ghost use Rattle.chain_build.specs.Places.{behind_at, context_at};
 ghost use Rattle.chain_build.specs.Places.{no_places, placed_by, placed_plain};
-ghost use Rattle.chain_build.specs.Reading.{CountsOn, IsFixed, ReadsAs, ReadsRank, Refuses};
+ghost use Rattle.chain_build.specs.Reading.{CountsOn, IsFixed, ReadsAs, ReadsExtra, ReadsRank};
+ghost use Rattle.chain_build.specs.Reading.{Refuses};
 ghost use Rattle.chain_build.specs.Reading.{check_behind};
 ghost use Rattle.chain_build.specs.declared.fault.CheckFault.TheVariants as fault;
 ghost use Rattle.chain_meaning.specs.declared.refusal.Refusal.TheVariants as refusal;
 
 use crate::fault::CheckFault;
+use crate::judges::Judges;
 use acl_plugin::AclPlan;
 use chain_meaning::Refusal;
 use corefile_blocks::{file_of, file_word, hosts_word};
-use dns_data::{Block, BlockKey, Copies, Directive, FileText, Names, NoMemory, Seq, Text};
+use dns_data::{
+    Block, BlockKey, Copies, Directive, Directives, FileText, Names, NoMemory, Seq, Text,
+};
 use file_plugin::{FileFault, FilePlan};
 use hosts_plugin::HostsPlan;
 use outside::PatternMaker;
@@ -33,6 +40,8 @@ pub struct Places {
     pub logs: Seq<PlainPlan>,
     pub acls: Seq<AclPlan>,
     pub any: bool,
+    /// The directives of extras.
+    pub extras: Directives,
     pub rewrites: Seq<RewritePlan>,
     pub templates: Seq<TemplatePlan>,
     pub hosts: Seq<HostsPlan>,
@@ -62,6 +71,7 @@ impl Places {
             logs: Seq::new(alloc),
             acls: Seq::new(alloc),
             any: false,
+            extras: Seq::new(alloc),
             rewrites: Seq::new(alloc),
             templates: Seq::new(alloc),
             hosts: Seq::new(alloc),
@@ -73,15 +83,17 @@ impl Places {
 }
 
 /// Reads the directives of a block in a bundle with these files, behind so many patterns.
-pub fn read_block<M: PatternMaker>(
+pub fn read_block<J: Judges, M: PatternMaker>(
     alloc: Global,
+    judges: &J,
     patterns: usize,
     files: &[FileText],
     block: &Block,
     maker: &mut M,
 ) -> Result<Places, CheckFault>
     requires { All HasShortBytes files.now }
-    ensures reads { ReadsBlock patterns files.now block.now (M.last maker.new) result }
+    ensures reads { ReadsBlock (brought_of (J.named judges.now) (J.taken judges.now)) patterns
+        files.now block.now (M.last maker.new) result }
     ensures maker { M.state maker.new ≡ check_behind result (M.state maker.old) }
 {
     let zones = key_zones(alloc, block.keys.as_slice())?;
@@ -94,7 +106,7 @@ pub fn read_block<M: PatternMaker>(
             before: &all[..index],
             directive,
         };
-        read_more(alloc, &reading, maker, &mut places)?;
+        read_more(alloc, judges, &reading, maker, &mut places)?;
     }
     Ok(places)
 }
@@ -113,21 +125,29 @@ fn key_zones(alloc: Global, keys: &[BlockKey]) -> Result<Names, NoMemory>
 }
 
 // Reads one more directive.
-fn read_more<M: PatternMaker>(
+fn read_more<J: Judges, M: PatternMaker>(
     alloc: Global,
+    judges: &J,
     reading: &Reading<'_>,
     maker: &mut M,
     places: &mut Places,
 ) -> Result<(), CheckFault>
     requires short { All HasShortBytes reading.now.files.now }
     requires plans { places.old.files ≡ file_plans (context_at reading.now) reading.now.before.now }
-    ensures reads { ReadsMore (behind_at reading.now places.old) reading.now.directive.now
-        places.old places.new (M.last maker.new) result }
+    ensures reads { ReadsMore
+        (directive_task (brought_of (J.named judges.now) (J.taken judges.now))
+        (behind_at reading.now places.old) reading.now.directive.now)
+        (places.new ≡ placed_by (rank_of reading.now.directive.now.name) (context_at reading.now)
+        reading.now.directive.now places.old)
+        (M.last maker.new) result }
+    ensures taken { OnOk result
+        (AreTaken (J.taken judges.now) places.old.extras
+        → AreTaken (J.taken judges.now) places.new.extras) }
     ensures maker { M.state maker.new ≡ check_behind result (M.state maker.old) }
 {
     let directive = reading.directive;
     let Some(rank) = rank(&directive.name) else {
-        return Err(unknown(directive));
+        return read_extra(alloc, judges, directive, places);
     };
     if rank.is_once() && stands_in(reading.before, &directive.name) {
         return Err(CheckFault::Refused(Refusal::Directive {
@@ -139,6 +159,29 @@ fn read_more<M: PatternMaker>(
         Rank::Rewrite => read_rewrite(alloc, reading, maker, places),
         Rank::Template => read_template(alloc, reading, maker, places),
         _ => read_as(alloc, rank, reading, places),
+    }
+}
+
+// Reads the directive of an extra, which the judges take or refuse.
+fn read_extra<J: Judges>(
+    alloc: Global,
+    judges: &J,
+    directive: &Directive,
+    places: &mut Places,
+) -> Result<(), CheckFault>
+    ensures { ReadsExtra (brought_of (J.named judges.now) (J.taken judges.now)) directive.now
+        places.old places.new result }
+{
+    match judges.judge(directive) {
+        Some(true) => {
+            places.extras.push(directive.copy(alloc)?)?;
+            Ok(())
+        }
+        Some(false) => Err(CheckFault::Refused(Refusal::Directive {
+            line: directive.line,
+            why: DirectiveWhy::Extra,
+        })),
+        None => Err(unknown(directive)),
     }
 }
 

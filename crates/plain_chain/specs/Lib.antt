@@ -3,6 +3,6 @@ pub mod Reading
 pub mod Serving
 pub mod Turning
 -- what public clauses cite
-pub use Rattle.plain_chain.specs.Reading.{IsReadOf, IsWhole, ReadsPlain, plain_behind}
+pub use Rattle.plain_chain.specs.Reading.{IsReadOf, IsWhole, ReadsPlain, plain_behind, plain_terms}
 pub use Rattle.plain_chain.specs.Serving.{PlainServes}
 pub use Rattle.plain_chain.specs.Turning.{Turns}

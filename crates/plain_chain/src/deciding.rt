@@ -1,10 +1,11 @@
-ghost use Rattle.std.specs.Prelude.{◌≡◌, ◌<◌, ◌^◌, IfOk, length, option_and_then, option_map};
+ghost use Rattle.std.specs.Prelude.{◌≡◌, ◌<◌, ◌^◌, [], false, IfOk, length, option_and_then, option_map};
 ghost use Rattle.std.specs.Prelude.{slice_get};
-ghost use Rattle.plugin_api.specs.{picked};
+ghost use Rattle.plugin_api.specs.{Sayings, picked};
 ghost use Rattle.chain_build.specs.Plans.{steps_in};
-ghost use Rattle.chain_meaning.specs.Serving.{chain_decides, query_decides};
+ghost use Rattle.chain_meaning.specs.{steps_of};
+ghost use Rattle.chain_meaning.specs.Serving.{block_of, chain_decides, query_decides};
 ghost use Rattle.plain_chain.specs.Meant.{Means};
-ghost use Rattle.plain_chain.specs.Reading.{IsWhole, has_none};
+ghost use Rattle.plain_chain.specs.Reading.{IsWhole, asks_extra, has_extra, has_none};
 
 use crate::evaluating::evaluate;
 use crate::meant::{Meant, bare};
@@ -24,9 +25,10 @@ pub(crate) fn decide<'a>(
     query: &Query,
     marks: &'a [Mark],
 ) -> Result<Meant<'a>, NoMemory>
-    requires { IsWhole read.now }
-    ensures { IfOk result
-        (Means (query_decides opt class read.now.files.now read.now.blocks query.now) marks.now) }
+    requires whole { IsWhole read.now }
+    requires own { asks_extra opt class read.now.blocks query.now ≡ false }
+    ensures { (said : Sayings) → IfOk result (Means (query_decides opt class
+        (steps_of said read.now.files.now) read.now.blocks query.now) marks.now) }
 {
     if !is_known_version(opt) {
         return Ok(bare(alloc, rcode::NOERROR, marks));
@@ -38,6 +40,26 @@ pub(crate) fn decide<'a>(
         return Ok(bare(alloc, rcode::REFUSED, marks));
     };
     decide_by(alloc, chain, query, marks)
+}
+
+/// Whether a query with this OPT record and class is for a block, and that has an extra's
+/// directive.
+pub(crate) fn asks_extra(read: &PlainRead<'_>, opt: Option<Opt>, class: u16, query: &Query) -> bool
+    requires { IsWhole read.now }
+    ensures { result ≡ asks_extra opt class read.now.blocks query.now }
+{
+    is_known_version(opt) && class == class::IN && has_extra(read, query)
+}
+
+// Whether the block with the longest zone on the port at which a query came has one.
+fn has_extra(read: &PlainRead<'_>, query: &Query) -> bool
+    requires { IsWhole read.now }
+    ensures { result ≡ has_extra (block_of read.now.blocks query.now) }
+{
+    match chain_for(read, query) {
+        Some(chain) => 0 < chain.extras.len(),
+        None => false,
+    }
 }
 
 // The chain of the block with the longest zone on the port at which the query came.
@@ -58,7 +80,9 @@ fn decide_by<'a>(
     query: &Query,
     marks: &'a [Mark],
 ) -> Result<Meant<'a>, NoMemory>
-    ensures { IfOk result (Means (chain_decides (steps_in chain.now) query.now) marks.now) }
+    requires own { chain.now.extras ≡ [] }
+    ensures { (said : Sayings)
+        → IfOk result (Means (chain_decides (steps_in said chain.now) query.now) marks.now) }
 {
     if has_none(chain) {
         return Ok(bare(alloc, rcode::REFUSED, marks));
@@ -68,7 +92,8 @@ fn decide_by<'a>(
 
 // Whether there is no step.
 fn has_none(chain: &BlockChain) -> bool
-    ensures { result ≡ has_none (steps_in chain.now) }
+    requires own { chain.now.extras ≡ [] }
+    ensures { (said : Sayings) → result ≡ has_none (steps_in said chain.now) }
 {
     let front = chain.front.as_slice();
     if 0 < front.len() {

@@ -6,6 +6,8 @@ use dns_data::NoMemory;
 pub enum PlainFault {
     /// The bundle is refused.
     Refused(Refusal),
+    /// The block that is asked has an extra's directive, and what extras say isn't known here.
+    HasExtra,
     /// The marks end too early, or one is another than what is taken there.
     Short,
     NoMemory,

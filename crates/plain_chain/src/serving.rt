@@ -47,6 +47,7 @@ pub fn plain_serve<M: PatternMaker>(
             let used = used_of(marks, left)?;
             Ok(Plain { reply, used })
         }
+        PlainTurn::HasExtra => Err(PlainFault::HasExtra),
         PlainTurn::More => Err(PlainFault::Short),
         PlainTurn::Off(_) => Err(PlainFault::Short),
     }

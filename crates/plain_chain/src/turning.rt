@@ -1,11 +1,13 @@
 ghost use Rattle.std.specs.Prelude.{◌≡◌, Some, None, IfOk};
 ghost use Rattle.dns_data.specs.Message.{no_answer};
 ghost use Rattle.dns_wire.specs.{QueriesThis};
+ghost use Rattle.plugin_api.specs.{Sayings};
+ghost use Rattle.chain_meaning.specs.{steps_of};
 ghost use Rattle.plain_chain.specs.Reading.{IsWhole};
 ghost use Rattle.plain_chain.specs.Serving.{GivesAnswer};
 ghost use Rattle.plain_chain.specs.Turning.{Turns};
 
-use crate::deciding::decide;
+use crate::deciding::{asks_extra, decide};
 use crate::meant::Meant;
 use crate::reading::PlainRead;
 use chain_build::{header_reply, limit_of, opt_reply, query_of, reply_message, upper_code};
@@ -21,6 +23,8 @@ use std::alloc::Global;
 pub enum PlainTurn<'a> {
     /// The reply's bytes, where there is one, and the marks that are left.
     Done(Option<Buffer>, &'a [Mark]),
+    /// The block that is asked has an extra's directive, and what extras say isn't known here.
+    HasExtra,
     /// The marks end too early.
     More,
     /// The marks from the first one on that is another than what is taken there.
@@ -35,7 +39,8 @@ pub fn plain_turn<'a>(
     marks: &'a [Mark],
 ) -> Result<PlainTurn<'a>, NoMemory>
     requires { IsWhole read.now }
-    ensures { Turns read.now.files.now read.now.blocks datagram.now marks.now result }
+    ensures { (said : Sayings) → Turns (steps_of said read.now.files.now) read.now.blocks
+        datagram.now marks.now result }
 {
     match read_asked(alloc, datagram.bytes.as_slice()) {
         Ok(asked) => reply(alloc, read, datagram, asked, marks),
@@ -63,11 +68,15 @@ fn reply<'a>(
 ) -> Result<PlainTurn<'a>, NoMemory>
     requires whole { IsWhole read.now }
     requires asks { QueriesThis datagram.now.bytes asked }
-    ensures { Turns read.now.files.now read.now.blocks datagram.now marks.now result }
+    ensures { (said : Sayings) → Turns (steps_of said read.now.files.now) read.now.blocks
+        datagram.now marks.now result }
 {
     let (id, class, opt) = (asked.id, asked.question.class, asked.opt);
     let limit = limit_of(datagram.by, opt);
     let query = query_of(datagram, asked);
+    if asks_extra(read, opt, class, &query) {
+        return Ok(PlainTurn::HasExtra);
+    }
     let (decision, left) = match decide(alloc, read, opt, class, &query, marks)? {
         Meant::Done(decision, left) => (decision, left),
         Meant::More => return Ok(PlainTurn::More),

@@ -1,7 +1,8 @@
-use Rattle.std.proofs.Common.{◌∙◌, ap}
+use Rattle.std.proofs.Common.{◌∙◌, ap, subst, sym}
 use Rattle.chain_meaning.specs.Steps.{context_of}
-use Rattle.chain_build.specs.Compiled.{whole}
-use Rattle.chain_build.specs.PlacesLaws.{patterns-placed, steps-placed}
+use Rattle.chain_build.specs.Compiled.{whole_by}
+use Rattle.chain_build.specs.Places.{AreTaken}
+use Rattle.chain_build.specs.PlacesLaws.{extras-placed, patterns-placed, steps-placed}
 use Rattle.chain_build.proofs.checking.block_chain.Goals as goal
 
 pub returns-clause-made : goal.returns-clause-made
@@ -10,8 +11,10 @@ returns-clause-made g c =
     let front = c.in_ok-chain.chain.front in
     let back = c.in_ok-chain.chain.back in
     record {
-      well = reads.0;
-      steps = ap (λ ds. whole front ds back) c.in_ok-chain.ensures.rewrites
-          ∙ steps-placed c.args.files.now c.args.block.now c.args.patterns front back c.in_ok-places.places reads.1 c.in_ok-chain.ensures.front c.in_ok-chain.ensures.back;
-      count = ap (λ p. p.patterns) reads.1 ∙ patterns-placed (context_of c.args.files.now c.args.block.now) c.args.block.now.directives c.args.patterns;
+      well = reads.well;
+      steps = λ said. (λ i. whole_by said front (c.in_ok-chain.ensures.extras i) (c.in_ok-chain.ensures.rewrites i) back)
+          ∙ steps-placed said c.args.files.now c.args.block.now c.args.patterns front back c.in_ok-places.places reads.is c.in_ok-chain.ensures.front c.in_ok-chain.ensures.back;
+      extras = c.in_ok-chain.ensures.extras ∙ ap (λ p. p.extras) reads.is ∙ extras-placed (context_of c.args.files.now c.args.block.now) c.args.block.now.directives c.args.patterns;
+      taken = subst (AreTaken (g.J.Judges.taken c.args.judges.now)) (sym c.in_ok-chain.ensures.extras) reads.taken;
+      count = ap (λ p. p.patterns) reads.is ∙ patterns-placed (context_of c.args.files.now c.args.block.now) c.args.block.now.directives c.args.patterns;
     }

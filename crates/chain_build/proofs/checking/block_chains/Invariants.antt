@@ -1,14 +1,20 @@
 use Rattle.std.proofs.Common.{◌≡◌, ◌++◌, map, length}
 use Rattle.pattern_judging.specs.Tasks.{Carries}
+use Rattle.chain_meaning.specs.{brought_of}
 use Rattle.chain_meaning.specs.Accepting.{blocks_task, told}
-use Rattle.chain_meaning.specs.Steps.{steps_of}
-use Rattle.chain_build.specs.Plans.{steps_in}
+use Rattle.chain_meaning.specs.Steps.{block_extras, steps_of}
+use Rattle.std.specs.List.{All}
+use Rattle.plugin_api.specs.{Sayings}
+use Rattle.chain_build.specs.Chains.{HasTaken}
+use Rattle.chain_build.specs.Plans.{extras_in, steps_in}
 use Rattle.chain_build.proofs.checking.block_chains.Given as goal
 
 abbrev pub invariant-loop-block : goal.invariant-loop-block
 invariant-loop-block g l = record {
-  carried : Carries told (blocks_task l.patterns l.files l.rest) (blocks_task 0 l.files l.fn.blocks);
-  made : map steps_in l.chains ++ map (steps_of l.files) l.rest ≡ map (steps_of l.files) l.fn.blocks;
+  carried : Carries told (blocks_task (brought_of (g.J.Judges.named l.judges) (g.J.Judges.taken l.judges)) l.patterns l.files l.rest) (blocks_task (brought_of (g.J.Judges.named l.judges) (g.J.Judges.taken l.judges)) 0 l.files l.fn.blocks);
+  made : (said : Sayings) → map (steps_in said) l.chains ++ map (steps_of said l.files) l.rest ≡ map (steps_of said l.files) l.fn.blocks;
+  extras : map extras_in l.chains ++ map block_extras l.rest ≡ map block_extras l.fn.blocks;
+  taken : All (HasTaken (g.J.Judges.taken l.judges)) l.chains;
   state : g.M.PatternMaker.state l.maker ≡ g.M.PatternMaker.state l.fn.maker;
 }
 

@@ -5,7 +5,7 @@ use Rattle.chain_meaning.specs.declared.decision.Decision.TheVariants as decisio
 use Rattle.chain_build.proofs.Served.{block_none}
 use Rattle.chain_build.proofs.serving.decide_block.Goals as goal
 
-pub returns : goal.returns
-returns g c =
+pub returns-clause-takes : goal.returns-clause-takes
+returns-clause-takes g c =
     takes-nothing _
-    (λ left. block_none _ _ c.args.query.now c.in_default.ensures left ∙ ap (λ a. Done (decision.Reply a) left) (sym c.set_code.ensures))
+    (λ left. block_none _ _ c.args.query.now c.in_default.ensures.steps left ∙ ap (λ a. Done (decision.Reply a) left) (sym c.set_code.ensures))

@@ -1,19 +1,49 @@
-use Rattle.std.proofs.Common.{◌∙◌, inl, map, refl, sym}
-use Rattle.outside.specs.TakingLaws.{takes-as}
+use Rattle.std.proofs.Common.{◌∙◌, inl, inr, sym, ap, arith}
+use Rattle.outside.specs.Meanings.{Done}
+use Rattle.outside.specs.TakingLaws.{takes-as, takes-nothing}
 use Rattle.chain_meaning.specs.Mean.{mean}
-use Rattle.chain_meaning.specs.MeanLaws.{mean-others}
+use Rattle.chain_meaning.specs.MeanLaws.{extras_say}
 use Rattle.chain_meaning.specs.Serving.{chain_decides}
+use Rattle.chain_meaning.specs.declared.decision.Decision.TheVariants as decision
 use Rattle.chain_meaning.specs.Steps.{none_said}
-use Rattle.chain_build.specs.Compiled.{back_steps, front_of, whole, whole_with}
-use Rattle.chain_build.proofs.Served.{runs}
+use Rattle.chain_build.specs.Compiled.{whole_by, whole_with}
+use Rattle.chain_build.proofs.Served.{runs_extras, runs_none, runs_own}
 use Rattle.chain_build.proofs.serving.run_chain.Goals as goal
 
-pub returns-then-front-gt0 : goal.returns-then-front-gt0
-returns-then-front-gt0 g c =
+pub returns-then-len-gt0-clause-takes : goal.returns-then-len-gt0-clause-takes
+returns-then-len-gt0-clause-takes g c =
+    let said = g.B.Rulebook.said in
+    let q = c.args.query.now in
     let f = c.as_slice-front.result.now in
+    let x = c.args.chain.now.extras in
     let r = c.args.chain.now.rewrites in
     let b = c.args.chain.now.back in
-    takes-as (mean (whole_with none_said f r b) c.args.query.now) _
-    (λ marks. (λ i. chain_decides (whole (sym c.as_slice-front.ensures i) r b) c.args.query.now marks) ∙ runs f r b c.args.query.now (inl c.if-front-gt0.true) marks
-    ∙ sym (mean-others none_said (λ q. refl) (map front_of f) (back_steps r b) c.args.query.now marks))
+    takes-as (mean (whole_with (extras_say said c.args.seats.now) f r b) q) _
+    (λ marks. (λ i. chain_decides (whole_by said (sym c.as_slice-front.ensures i) x r b) q marks) ∙ runs_extras said f x r b q (inr (inl (omega (arith, c.len.ensures, c.if-len-gt0.true)))) marks
+    ∙ (λ i. mean (whole_with (extras_say said (sym c.requires.seated i)) f r b) q marks))
     c.run_front.ensures.takes
+
+pub returns-then-front-gt0-clause-takes : goal.returns-then-front-gt0-clause-takes
+returns-then-front-gt0-clause-takes g c =
+    let said = g.B.Rulebook.said in
+    let q = c.args.query.now in
+    let f = c.as_slice-front.result.now in
+    let x = c.args.chain.now.extras in
+    let r = c.args.chain.now.rewrites in
+    let b = c.args.chain.now.back in
+    takes-as (mean (whole_with none_said f r b) q) _
+    (λ marks. (λ i. chain_decides (whole_by said (sym c.as_slice-front.ensures i) x r b) q marks) ∙ runs_own said f x r b q (omega (arith, c.len.ensures, c.if-len-gt0.false)) c.if-front-gt0.true marks)
+    c.run_front-then-front-gt0.ensures.takes
+
+pub returns-clause-takes : goal.returns-clause-takes
+returns-clause-takes g c =
+    let said = g.B.Rulebook.said in
+    let q = c.args.query.now in
+    let f = c.as_slice-front.result.now in
+    let x = c.args.chain.now.extras in
+    let r = c.args.chain.now.rewrites in
+    let b = c.args.chain.now.back in
+    takes-nothing _
+    (λ left. (λ i. chain_decides (whole_by said (sym c.as_slice-front.ensures i) x r b) q left)
+    ∙ runs_none said f x r b q (omega (arith, c.if-front-gt0.false)) (omega (arith, c.len.ensures, c.if-len-gt0.false)) (omega (arith, c.len-2.ensures, c.if-len-gt0-2.false)) (omega (arith, c.len-else-len-gt0-2.ensures, c.if-len-gt0-3.false)) left
+    ∙ ap (λ a. Done (decision.Reply a) left) (sym c.set_code.ensures))

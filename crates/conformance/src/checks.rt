@@ -3,10 +3,11 @@
 use crate::case::Case;
 use crate::corefile::read_environment;
 use case_fields::{CaseFault, put_bytes, put_word, read_bytes, read_text};
-use chain_build::{CheckFault, check as check_bundle};
+use chain_build::{CheckFault, OwnPlans, check as check_bundle};
 use chain_meaning::Refusal;
 use corefile_blocks::Bundle;
 use dns_data::{Bytes, FileText, FileTexts};
+use extra_stock::Passing;
 use outside::RegexMaker;
 use std::alloc::Global;
 
@@ -16,7 +17,15 @@ pub fn check(alloc: Global, case: &Case<'_>, out: &mut String) -> Result<(), Cas
     if !bundle.is_readable() {
         return Err(CaseFault::Bad);
     }
-    match check_bundle(alloc, bundle, port, &mut RegexMaker::new()) {
+    let judges: &[Passing] = &[];
+    let checked: Result<OwnPlans, CheckFault> = check_bundle(
+        alloc,
+        bundle,
+        port,
+        judges,
+        &mut RegexMaker::new(),
+    );
+    match checked {
         Ok(_) => put_word(out, "ok"),
         Err(CheckFault::Refused(refusal)) => put_refusal(alloc, out, &refusal),
         Err(CheckFault::NoMemory) => Err(CaseFault::NoMemory),

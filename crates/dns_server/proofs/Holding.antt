@@ -6,7 +6,8 @@ use Rattle.std.proofs.lemmas.List.Elements.{All-head, All-tail}
 use Rattle.corefile_blocks.specs.declared.bundle.Bundle.{Bundle}
 use Rattle.corefile_bundle.specs.declared.fault.GatherFault.{GatherFault}
 use Rattle.corefile_bundle.specs.Gathering.{Source}
-use Rattle.chain_build.specs.declared.chain.Chain.{Chain}
+use Rattle.chain_build.specs.{OwnChain}
+use Rattle.chain_meaning.specs.{Terms}
 use Rattle.pin_table.specs.declared.free_slots.Left.{Left}
 use Rattle.pin_table.specs.declared.views.PassView.{PassView}
 use Rattle.pin_table.specs.declared.views.Past.{Past}
@@ -29,7 +30,7 @@ use Rattle.run_meaning.specs.WatchTurn.{WatchTurn, AreLooks, IsLook, looked, sta
 use Rattle.dns_server.specs.Holding.{AreHeld, IsHeld, IsHeldFor, IsHeldTurn}
 
 -- once the first chains are published
-pub placed_opened : (n : ℕ) (chains : List Chain) (found : ℕ) → IsPlaced (opened_plan n chains found)
+pub placed_opened : (n : ℕ) (chains : List OwnChain) (found : ℕ) → IsPlaced (opened_plan n chains found)
 placed_opened n chains found = record { each_serial = refl; each_slot = refl; placed = at }
   where
     at : (i : ℕ) → i < SLOTS → is_free (plan_slot (opened_plan n chains found) i).phase ≡ false
@@ -42,20 +43,20 @@ placed_opened n chains found = record { each_serial = refl; each_slot = refl; pl
     at (suc (suc (suc (suc i)))) low free = absurd (omega (arith, low))
 
 -- a pass that holds no pin
-abbrev pub IsSettled : PassView Chain → Type 0
+abbrev pub IsSettled : PassView OwnChain → Type 0
 IsSettled q = (q.held ≡ None) × (q.taken ≡ None)
 
-serials_settled : (serials : List ℕ) (q : PassView Chain) → IsSettled q → serials_of serials q ≡ pinned_by q
+serials_settled : (serials : List ℕ) (q : PassView OwnChain) → IsSettled q → serials_of serials q ≡ pinned_by q
 serials_settled serials q is = λ i. serials_by serials (is.0 i) (is.1 i) (turn_serials q.turns)
 
 -- what the pass of a worker holds, one of the passes holds
-held_at : (serials : List ℕ) (last serial : ℕ) (qs : List (PassView Chain)) (w : ℕ) (d : PassView Chain) → w < length qs → AllByRecursion IsSettled qs
+held_at : (serials : List ℕ) (last serial : ℕ) (qs : List (PassView OwnChain)) (w : ℕ) (d : PassView OwnChain) → w < length qs → AllByRecursion IsSettled qs
     → last_below last (serials_of serials (slice_index_or qs w d)) ≡ Some serial → IsHeld last serial (map (λ q. pinned_by q) qs)
 held_at serials last serial [] w d some settled is = absurd (omega (arith, some))
 held_at serials last serial (q ∷ qs) zero d some settled is = inl (subst (λ (l : List ℕ). last_below last l ≡ Some serial) (serials_settled serials q settled.0) is)
 held_at serials last serial (q ∷ qs) (suc w) d some settled is = inr (held_at serials last serial qs w d (omega (arith, some)) settled.1 is)
 
-module _ (n : ℕ) (past : Past Chain) (qs : List (PassView Chain)) (count : n ≡ length qs) (settled : AllByRecursion IsSettled qs) where
+module _ (n : ℕ) (past : Past OwnChain) (qs : List (PassView OwnChain)) (count : n ≡ length qs) (settled : AllByRecursion IsSettled qs) where
   -- by a sweep that saw open pins
   swept_held : (sweeps : List Sweep) (last serial : ℕ) (left : Left) → All (IsSweep n past (joined_at qs)) sweeps → HasSwept sweeps last serial left → left.ended < left.total
       → IsHeld last serial (map (λ q. pinned_by q) qs)
@@ -87,15 +88,15 @@ module _ (n : ℕ) (past : Past Chain) (qs : List (PassView Chain)) (count : n �
   answer_held sweeps standing gives published (looking.Published serial) all is swept = tt
   answer_held sweeps standing gives published looking.NoMemory all is swept = tt
 
-  turn_held : (sweeps : List Sweep) (source : Source) (port : ℕ) (bundles : List Bundle) (turn : WatchTurn) → All (IsSweep n past (joined_at qs)) sweeps
-      → IsLook source port bundles turn → IsSweptTurn sweeps (length bundles) turn → IsHeldTurn (map (λ q. pinned_by q) qs) (length bundles) turn
-  turn_held sweeps source port bundles (looked times reads gives answer flag) all is swept =
-      answer_held sweeps (record { default_port = port; bundle = is.1.last; blocks = is.1.blocks; published = length bundles }) gives (length bundles) answer all is.1.is swept
-  turn_held sweeps source port bundles (starved times reads gives) all is swept = tt
+  turn_held : (sweeps : List Sweep) (source : Source) (terms : Terms) (bundles : List Bundle) (turn : WatchTurn) → All (IsSweep n past (joined_at qs)) sweeps
+      → IsLook source terms bundles turn → IsSweptTurn sweeps (length bundles) turn → IsHeldTurn (map (λ q. pinned_by q) qs) (length bundles) turn
+  turn_held sweeps source terms bundles (looked times reads gives answer flag) all is swept =
+      answer_held sweeps (record { terms = terms; bundle = is.1.last; blocks = is.1.blocks; published = length bundles }) gives (length bundles) answer all is.1.is swept
+  turn_held sweeps source terms bundles (starved times reads gives) all is swept = tt
 
   -- of all looks
-  pub looks_held : (sweeps : List Sweep) (source : Source) (port : ℕ) (bundles : List Bundle) (turns : List WatchTurn) → All (IsSweep n past (joined_at qs)) sweeps
-      → AreLooks source port bundles turns → AreSwept sweeps bundles turns → AreHeld (map (λ q. pinned_by q) qs) bundles turns
-  looks_held sweeps source port bundles [] all are swept = tt
-  looks_held sweeps source port bundles (turn ∷ turns) all are swept =
-      (turn_held sweeps source port bundles turn all are.0 swept.0, looks_held sweeps source port (bundles ++ published_by turn) turns all are.1 swept.1)
+  pub looks_held : (sweeps : List Sweep) (source : Source) (terms : Terms) (bundles : List Bundle) (turns : List WatchTurn) → All (IsSweep n past (joined_at qs)) sweeps
+      → AreLooks source terms bundles turns → AreSwept sweeps bundles turns → AreHeld (map (λ q. pinned_by q) qs) bundles turns
+  looks_held sweeps source terms bundles [] all are swept = tt
+  looks_held sweeps source terms bundles (turn ∷ turns) all are swept =
+      (turn_held sweeps source terms bundles turn all are.0 swept.0, looks_held sweeps source terms (bundles ++ published_by turn) turns all are.1 swept.1)

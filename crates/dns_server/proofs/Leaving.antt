@@ -7,8 +7,10 @@ use Rattle.std.proofs.lemmas.List.{length-map, take_all}
 use Rattle.outside.specs.Causes.{RoseJust}
 use Rattle.outside.specs.States.{SideState, WatchState}
 use Rattle.corefile_blocks.specs.declared.bundle.Bundle.{Bundle}
-use Rattle.chain_build.specs.declared.chain.Chain.{Chain}
-use Rattle.chain_build.specs.{ArePlans, chain_identity, chain_log, plans_of}
+use Rattle.chain_build.specs.{OwnChain}
+use Rattle.chain_build.specs.{AreOwnPlans, chain_identity, chain_log, own_ground, own_terms, plans_of}
+use Rattle.chain_meaning.specs.{Ground, terms_on}
+use Rattle.extra_stock.specs.{all_pass, all_taken}
 use Rattle.pin_core.specs.declared.slots.TheConstants.{WORKERS}
 use Rattle.pin_table.specs.declared.passes.Pass.{Pass}
 use Rattle.pin_table.specs.declared.table.PinTable.{PinTable}
@@ -69,15 +71,15 @@ mid_count R (x ∷ xs) (y ∷ ys) [] each = absurd each
 mid_count R (x ∷ xs) (y ∷ ys) (z ∷ zs) each = ap suc (mid_count R xs ys zs each.1)
 
 -- the pins of sides are those of their passes
-pins_are : (qs : List (PassView Chain)) → joined_marks qs ≡ side_pins (map (λ q. pinned_by q) qs)
+pins_are : (qs : List (PassView OwnChain)) → joined_marks qs ≡ side_pins (map (λ q. pinned_by q) qs)
 pins_are [] = refl
 pins_are (q ∷ qs) = ap (λ l. pin_marks (reverse (pinned_by q)) ∷ l) (pins_are qs)
 
 -- the passes of all workers, none of which holds a pin
-pub idle_all : (table : PinTable Chain) (passes : List (Pass Chain)) → IdleFrom (id_of table) 0 passes → AreIdle (id_of table) passes
+pub idle_all : (table : PinTable OwnChain) (passes : List (Pass OwnChain)) → IdleFrom (id_of table) 0 passes → AreIdle (id_of table) passes
 idle_all table passes idle = λ w pass at. let is = idle w pass at in (is.0, is.1 ∙ omega arith, is.2)
 
-module _ {S W : Type 0} (side : S → SideState) (watch : W → WatchState) (setup : RunSetup) (opened : Opened S W) (last : Watcher W) (dones : List (Done S)) (passes : List (Pass Chain)) where
+module _ {S W : Type 0} (side : S → SideState) (watch : W → WatchState) (setup : RunSetup) (opened : Opened S W) (last : Watcher W) (dones : List (Done S)) (passes : List (Pass OwnChain)) where
   abbrev task : Task
   task = record { table = opened.table; source = setup.source; most = setup.most }
 
@@ -87,7 +89,7 @@ module _ {S W : Type 0} (side : S → SideState) (watch : W → WatchState) (set
   -- what each pass was given, by the table's last state
   given : (bundles : List Bundle) → length bundles ≡ count_of (plan_of last.publisher) → IsClosed (joined_plan (plan_of last.publisher) passes)
       → IsTraced chain_identity chain_log (joined_plan (plan_of last.publisher) passes)
-      → (w : ℕ) (q : PassView Chain) → slice_get (views_of passes) w ≡ Some q
+      → (w : ℕ) (q : PassView OwnChain) → slice_get (views_of passes) w ≡ Some q
       → AreGiven chain_identity chain_log (plan_of last.publisher).past.filled (0 + w) q.turns × (q.seen ≤ length bundles)
   given bundles count closed traced w q at =
       let turns = traced.turns w q at in
@@ -100,20 +102,20 @@ module _ {S W : Type 0} (side : S → SideState) (watch : W → WatchState) (set
       → Finishes setup first (map side opened.sides.items) (watch opened.watcher.watch) (record { sides = side_runs side dones; watch = watch last.watch; published = published; starved = last.starved })
   finishes others published is has leave count closed traced =
       let by = has.watches in
-      let port = is.port_is in
+      let basis = is.ground_is in
       let bundles = by.bundles in
       let filled = (plan_of last.publisher).past.filled in
       let sides_count = part_count (IsDone setup.most) (map side opened.sides.items) (side_runs side dones) (views_of passes) leave.done in
       let sides_mid = mid_count (IsDone setup.most) (map side opened.sides.items) (side_runs side dones) (views_of passes) leave.done in
       let count_is : (plan_of last.publisher).workers ≡ length (views_of passes) = has.keeps.workers ∙ has.workers ∙ is.workers ∙ sym (length-map opened.sides.items side) ∙ sym sides_count in
       let tell = all_tell setup bundles filled 0 (map side opened.sides.items) (side_runs side dones) (views_of passes) is.fresh leave.done
-      (subst (λ (p : ℕ). AreFilledBy bundles p filled) port by.filled) (given bundles by.count closed traced) in
+      (subst (λ (g : Ground). AreFilledBy bundles g filled) basis by.filled) (given bundles by.count closed traced) in
       record {
         looks = by.looks;
         ending = by.ending;
         told = by.told;
-        are = subst (λ (p : ℕ). AreLooks setup.source p (first ∷ []) by.looks) port by.are;
-        ends = subst (λ (x : ℕ × List Bundle). EndsWatch x.0 x.1 by.ending) (λ i. (port i, by.bundles_are i)) by.ends;
+        are = subst (λ (g : Ground). AreLooks setup.source (terms_on all_taken all_pass g) (first ∷ []) by.looks) basis by.are;
+        ends = subst (λ (x : Ground × List Bundle). EndsWatch (terms_on all_taken all_pass x.0) x.1 by.ending) (λ i. (basis i, by.bundles_are i)) by.ends;
         count = ap (λ (l : List Bundle). length l) (sym by.bundles_are) ∙ by.count ∙ sym count;
         starved = subst (λ (n : ℕ). RoseJust (all_starved by.looks) n last.starved) is.watcher.starved by.starved;
         refused = by.refused;
@@ -121,37 +123,37 @@ module _ {S W : Type 0} (side : S → SideState) (watch : W → WatchState) (set
         scripts = scripts_are setup.most (map side opened.sides.items) (side_runs side dones) (views_of passes) leave.done;
         pinned = map (λ q. pinned_by q) (views_of passes);
         tell = rw (sym by.bundles_are) tell;
-        held = looks_held (plan_of last.publisher).workers (plan_of last.publisher).past (views_of passes) count_is leave.settled (plan_of last.publisher).sweeps setup.source setup.default_port
-            (first ∷ []) by.looks closed.sweeps (subst (λ (p : ℕ). AreLooks setup.source p (first ∷ []) by.looks) port by.are) by.swept;
+        held = looks_held (plan_of last.publisher).workers (plan_of last.publisher).past (views_of passes) count_is leave.settled (plan_of last.publisher).sweeps setup.source (own_terms setup.default_port)
+            (first ∷ []) by.looks closed.sweeps (subst (λ (g : Ground). AreLooks setup.source (terms_on all_taken all_pass g) (first ∷ []) by.looks) basis by.are) by.swept;
         pins = subst (λ (k : ℕ). OnePinRun k published (side_pins (map (λ q. pinned_by q) (views_of passes)))) (count_is ∙ sides_count ∙ sym sides_mid)
             (subst (λ (k : ℕ). OnePinRun (plan_of last.publisher).workers k (side_pins (map (λ q. pinned_by q) (views_of passes)))) (sym count)
             (subst (OnePinRun (plan_of last.publisher).workers (count_of (plan_of last.publisher))) (pins_are (views_of passes)) closed.run));
       }
 
 -- a watcher that has published the first chains
-pub watching : {W : Type 0} (table : PinTable Chain) (w : Watcher W) (chains : List Chain) → IsPublisherOf table w.publisher → IsOpened chains (plan_of w.publisher)
+pub watching : {W : Type 0} (table : PinTable OwnChain) (w : Watcher W) (chains : List OwnChain) → IsPublisherOf table w.publisher → IsOpened chains (plan_of w.publisher)
     → AreFilled chain_identity chain_log 0 (plan_of w.publisher).past.filled → w.workers ≡ length chains → (0 < length chains) × (length chains ≤ WORKERS)
-    → All (λ chain. plans_of chain ≡ arc_value w.current) chains → ArePlans (arc_value w.current)
+    → All (λ chain. plans_of chain ≡ arc_value w.current) chains → AreOwnPlans (arc_value w.current)
     → (w.home.items ≡ []) × (vec_len w.home ≡ 0) × (4 * length chains ≤ vec_capacity w.home) → w.starved ≡ 0 → IsWatching table w
 watching table w chains own opened filled workers few serve are home starved =
     let plan = opened.1 in
-    let count : count_of (plan_of w.publisher) ≡ 1 = ap (λ (p : Plan Chain). count_of p) plan in
+    let count : count_of (plan_of w.publisher) ≡ 1 = ap (λ (p : Plan OwnChain). count_of p) plan in
     let all : take (length chains) chains ≡ chains = take_all (length chains) chains (omega arith) in
     record {
       keeps = record {
         own = own;
         filled = filled;
-        workers = ap (λ (p : Plan Chain). p.workers) plan ∙ sym workers;
+        workers = ap (λ (p : Plan OwnChain). p.workers) plan ∙ sym workers;
         some = let f = few.0 in omega (arith, workers, f);
         few = let f = few.1 in omega (arith, workers, f);
-        joined = ap (λ (p : Plan Chain). p.joined) plan;
+        joined = ap (λ (p : Plan OwnChain). p.joined) plan;
         placed = subst IsPlaced (sym plan) (placed_opened (length chains) chains opened.0);
-        count = ap (λ (p : Plan Chain). length p.past.filled) plan ∙ sym count;
+        count = ap (λ (p : Plan OwnChain). length p.past.filled) plan ∙ sym count;
         within = omega (arith, count);
         current = record {
           earlier = [];
           chains = chains;
-          last_is = ap (λ (p : Plan Chain). p.past.filled) plan ∙ ap (λ (l : List Chain). l ∷ []) all;
+          last_is = ap (λ (p : Plan OwnChain). p.past.filled) plan ∙ ap (λ (l : List OwnChain). l ∷ []) all;
           serve = serve;
         };
         are = are;

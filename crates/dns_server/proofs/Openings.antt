@@ -18,7 +18,9 @@ use Rattle.corefile_blocks.specs.declared.bundle.Bundle.{Bundle}
 use Rattle.corefile_bundle.specs.declared.fault.GatherFault.{GatherFault}
 use Rattle.corefile_bundle.specs.declared.fault.GatherFault.TheVariants as unread
 use Rattle.corefile_bundle.specs.Gathering.{GathersFrom, OneRead, Source, TellsGathering, marks_of}
-use Rattle.chain_build.specs.{ArePlans, PlansData}
+use Rattle.chain_build.specs.{AreOwnPlans, PlansData, ground_of, own_ground, own_terms}
+use Rattle.chain_meaning.specs.{Ground, Terms, terms_on}
+use Rattle.extra_stock.specs.{all_pass, all_taken}
 use Rattle.chain_meaning.specs.Accepting.{IsAccepted}
 use Rattle.chain_meaning.specs.declared.refusal.Refusal.{Refusal}
 use Rattle.reload_watch.specs.declared.fault.ReadFault.{ReadFault}
@@ -125,14 +127,14 @@ end_cause setup before after watch sides published starving status.Ended some is
     record { sides = is.0; none_starved = is.1; nothing = λ e. absurd (some e) }
 
 -- what a look publishes is accepted
-gathered_accepted : (default_port : ℕ) (gives : Result Bundle GatherFault) (bundle : Bundle) (blocks : List Block) → gives ≡ Ok bundle → IsAccepted default_port bundle blocks → AllByRecursion (IsServed default_port) (gathered gives)
-gathered_accepted default_port (Ok other) bundle blocks got is =
+gathered_accepted : (terms : Terms) (gives : Result Bundle GatherFault) (bundle : Bundle) (blocks : List Block) → gives ≡ Ok bundle → IsAccepted terms bundle blocks → AllByRecursion (IsServed terms) (gathered gives)
+gathered_accepted terms (Ok other) bundle blocks got is =
     let same : other ≡ bundle = cc in
-    (record { blocks = blocks; accepted = subst (λ (b : Bundle). IsAccepted default_port b blocks) (sym same) is }, tt)
-gathered_accepted default_port (Err fault) bundle blocks got is = tt
+    (record { blocks = blocks; accepted = subst (λ (b : Bundle). IsAccepted terms b blocks) (sym same) is }, tt)
+gathered_accepted terms (Err fault) bundle blocks got is = tt
 
 answer_accepted : (standing : Standing) (gives : Result Bundle GatherFault) (answer : Looking) → AnswersLook standing gives answer
-    → AllByRecursion (IsServed standing.default_port) (published_as gives answer)
+    → AllByRecursion (IsServed standing.terms) (published_as gives answer)
 answer_accepted standing gives looking.NoReload is = tt
 answer_accepted standing gives (looking.ReadFailed name) is = tt
 answer_accepted standing gives looking.Same is = tt
@@ -140,29 +142,29 @@ answer_accepted standing gives (looking.Refused why) is = tt
 answer_accepted standing gives (looking.PortsDiffer ports others) is = tt
 answer_accepted standing gives looking.SerialsSpent is = tt
 answer_accepted standing gives (looking.AllPinned one two three) is = tt
-answer_accepted standing gives (looking.Published serial) is = gathered_accepted standing.default_port gives is.bundle is.blocks is.got is.accepted
+answer_accepted standing gives (looking.Published serial) is = gathered_accepted standing.terms gives is.bundle is.blocks is.got is.accepted
 answer_accepted standing gives looking.NoMemory is = tt
 
-look_accepted : (source : Source) (default_port : ℕ) (bundles : List Bundle) (look : WatchTurn) → IsLook source default_port bundles look → AllByRecursion (IsServed default_port) (published_by look)
-look_accepted source default_port bundles (looked times reads gives answer flag) is =
-    answer_accepted (record { default_port = default_port; bundle = is.1.last; blocks = is.1.blocks; published = length bundles }) gives answer is.1.is
-look_accepted source default_port bundles (starved times reads gives) is = tt
+look_accepted : (source : Source) (terms : Terms) (bundles : List Bundle) (look : WatchTurn) → IsLook source terms bundles look → AllByRecursion (IsServed terms) (published_by look)
+look_accepted source terms bundles (looked times reads gives answer flag) is =
+    answer_accepted (record { terms = terms; bundle = is.1.last; blocks = is.1.blocks; published = length bundles }) gives answer is.1.is
+look_accepted source terms bundles (starved times reads gives) is = tt
 
-both_accepted : (default_port : ℕ) (xs ys : List Bundle) → AllByRecursion (IsServed default_port) xs → AllByRecursion (IsServed default_port) ys → AllByRecursion (IsServed default_port) (xs ++ ys)
-both_accepted default_port [] ys first then = then
-both_accepted default_port (x ∷ xs) ys first then = (first.0, both_accepted default_port xs ys first.1 then)
+both_accepted : (terms : Terms) (xs ys : List Bundle) → AllByRecursion (IsServed terms) xs → AllByRecursion (IsServed terms) ys → AllByRecursion (IsServed terms) (xs ++ ys)
+both_accepted terms [] ys first then = then
+both_accepted terms (x ∷ xs) ys first then = (first.0, both_accepted terms xs ys first.1 then)
 
-looks_accepted : (source : Source) (default_port : ℕ) (bundles : List Bundle) (looks : List WatchTurn) → AreLooks source default_port bundles looks → AllByRecursion (IsServed default_port) (flat_map published_by looks)
-looks_accepted source default_port bundles [] are = tt
-looks_accepted source default_port bundles (look ∷ looks) are =
-    subst (AllByRecursion (IsServed default_port)) (sym (flat_map-cons published_by look looks))
-    (both_accepted default_port (published_by look) (flat_map published_by looks) (look_accepted source default_port bundles look are.0) (looks_accepted source default_port (bundles ++ published_by look) looks are.1))
+looks_accepted : (source : Source) (terms : Terms) (bundles : List Bundle) (looks : List WatchTurn) → AreLooks source terms bundles looks → AllByRecursion (IsServed terms) (flat_map published_by looks)
+looks_accepted source terms bundles [] are = tt
+looks_accepted source terms bundles (look ∷ looks) are =
+    subst (AllByRecursion (IsServed terms)) (sym (flat_map-cons published_by look looks))
+    (both_accepted terms (published_by look) (flat_map published_by looks) (look_accepted source terms bundles look are.0) (looks_accepted source terms (bundles ++ published_by look) looks are.1))
 
-tells_looks : (source : Source) (default_port : ℕ) (first : Bundle) (looks : List WatchTurn) (ending : List WatchMark) (journal : Option (List WatchMark)) (reads : List OneRead) → GathersFrom source reads (Ok first)
-    → IfSome journal (λ told. told ≡ marks_of reads ++ Published 0 ∷ (flat_map watch_marks looks ++ ending)) → EndsWatch default_port (bundles_of first looks) ending
-    → IfSome journal (TellsLooks source default_port first looks)
-tells_looks source default_port first looks ending None reads gathers told ends = tt
-tells_looks source default_port first looks ending (Some journal) reads gathers told ends = record { reads = reads; gathers = gathers; ending = ending; told = told; ends = ends }
+tells_looks : (source : Source) (terms : Terms) (first : Bundle) (looks : List WatchTurn) (ending : List WatchMark) (journal : Option (List WatchMark)) (reads : List OneRead) → GathersFrom source reads (Ok first)
+    → IfSome journal (λ told. told ≡ marks_of reads ++ Published 0 ∷ (flat_map watch_marks looks ++ ending)) → EndsWatch terms (bundles_of first looks) ending
+    → IfSome journal (TellsLooks source terms first looks)
+tells_looks source terms first looks ending None reads gathers told ends = tt
+tells_looks source terms first looks ending (Some journal) reads gathers told ends = record { reads = reads; gathers = gathers; ending = ending; told = told; ends = ends }
 
 scripts_count : (l : List SideState) → length (scripts_of l) ≡ length l
 scripts_count [] = refl
@@ -177,13 +179,13 @@ few_sides workers ports sides few are =
 
 -- a run that served
 pub serves : (setup : RunSetup) (before after : HostState) (how : Status) (fresh read published : WatchState) (plans : PlansData) (places : List OpenedSide) (sides : List SideState) (left : Left)
-    → IsFreshWatch fresh → RefusesNone fresh read → ReadsPlans setup.source setup.default_port fresh read plans → plans.ports ≢ [] → side_count setup.workers plans.ports ≤ limits.WORKERS
+    → IsFreshWatch fresh → RefusesNone fresh read → ReadsPlans setup.source (own_ground setup.default_port) fresh read plans → plans.ports ≢ [] → side_count setup.workers plans.ports ≤ limits.WORKERS
     → AddsWatch read published (Published 0 ∷ []) → RefusesNone read published
     → places ≡ sides_of setup.workers plans.ports → OpensAll before after places sides
     → Finishes setup plans.bundle sides published left → IsEndStatus left.sides left.starved how
     → RunsBehind setup (record { status = how; sides = left.sides; watch = Some left.watch; published = left.published; starved = left.starved }) fresh before after
 serves setup before after how fresh read published plans places sides left is_fresh script reads some_ports few publishes kept places_are opens by stands =
-    let accepted : IsAccepted setup.default_port plans.bundle plans.blocks = subst (λ (p : ℕ). IsAccepted p plans.bundle plans.blocks) reads.port reads.are.accepted in
+    let accepted : IsAccepted (own_terms setup.default_port) plans.bundle plans.blocks = subst (λ (g : Ground). IsAccepted (terms_on all_taken all_pass g) plans.bundle plans.blocks) reads.ground_is reads.are.are.accepted in
     let count : length (bundles_of plans.bundle by.looks) ≡ left.published = by.count in
     let some : left.published ≢ 0 = λ e. omega (arith, e, count) in
     let told = watch-adds-then reads.tells.told (watch-adds-then publishes by.told) in
@@ -192,7 +194,7 @@ serves setup before after how fresh read published plans places sides left is_fr
       served = record {
         bundles = bundles_of plans.bundle by.looks;
         count = count;
-        accepted = (record { blocks = plans.blocks; accepted = accepted }, looks_accepted setup.source setup.default_port (plans.bundle ∷ []) by.looks by.are);
+        accepted = (record { blocks = plans.blocks; accepted = accepted }, looks_accepted setup.source (own_terms setup.default_port) (plans.bundle ∷ []) by.looks by.are);
         handed = left.watch;
         watch_is = refl;
         script = by.goes.script ∙ kept.0 ∙ script.0;
@@ -202,10 +204,10 @@ serves setup before after how fresh read published plans places sides left is_fr
           are = by.are;
           starved_is = by.starved;
           refused = subst (λ (n : ℕ). RoseWithin (all_refused by.looks) (all_starved by.looks) n left.watch.refusals) (kept.1 ∙ script.1 ∙ is_fresh.none_refused) by.refused;
-          told = tells_looks setup.source setup.default_port plans.bundle by.looks by.ending left.watch.journal reads.tells.reads reads.tells.gathers (watch_tells_since is_fresh told) by.ends;
+          told = tells_looks setup.source (own_terms setup.default_port) plans.bundle by.looks by.ending left.watch.journal reads.tells.reads reads.tells.gathers (watch_tells_since is_fresh told) by.ends;
         };
         places = places;
-        opened = record { blocks = plans.blocks; accepted = accepted; ports = plans.ports; ports_are = reads.are.ports; some = some_ports; few = few_sides setup.workers plans.ports places few (sym places_are); are = places_are };
+        opened = record { blocks = plans.blocks; accepted = accepted; ports = plans.ports; ports_are = reads.are.are.ports; some = some_ports; few = few_sides setup.workers plans.ports places few (sym places_are); are = places_are };
         told = opens.told;
         scripts = scripts_of sides;
         supplied = opens.supply;
@@ -222,7 +224,7 @@ serves setup before after how fresh read published plans places sides left is_fr
 
 -- the first reads gave no chain
 pub first_stops : (setup : RunSetup) (old new : WatchState) (why : ReadFault) (how : Status) (host : HostState)
-    → IsFreshWatch old → new.script ≡ old.script → new.refusals ≡ refusals_first {X = PlansData} (Err why) old.refusals → ReadsFirst setup.source setup.default_port old new (Err why) → IsFirstStatus why how
+    → IsFreshWatch old → new.script ≡ old.script → new.refusals ≡ refusals_first {X = PlansData} (Err why) old.refusals → ReadsFirst setup.source (own_ground setup.default_port) old new (Err why) → IsFirstStatus why how
     → RunsBehind setup (stopped_run how (Some new)) old host host
 first_stops setup old new (fault.Refused why) how host fresh script refused reads is =
     rw is (stops (status.Refused why) old new script (refused ∙ ap (λ (n : ℕ). refusals_by why n) fresh.none_refused) (opens_nothing setup.source old new reads.gives fresh reads.tells) (host-adds-nothing host) refl
@@ -235,13 +237,13 @@ first_stops setup old new fault.NoMemory how host fresh script refused reads is 
     rw is (stops status.NoMemory old new script (refused ∙ fresh.none_refused) (opens_nothing setup.source old new reads.gives fresh reads.tells) (host-adds-nothing host) refl tt)
 
 -- the first bundle is accepted, with these ports
-accepted_ports : (setup : RunSetup) (plans : PlansData) (P : List ℕ → Type 0) → plans.default_port ≡ setup.default_port → ArePlans plans → P plans.ports → WasAccepted setup (Ok plans.bundle) P
+accepted_ports : (setup : RunSetup) (plans : PlansData) (P : List ℕ → Type 0) → ground_of plans ≡ own_ground setup.default_port → AreOwnPlans plans → P plans.ports → WasAccepted setup (Ok plans.bundle) P
 accepted_ports setup plans P same is holds =
-    record { bundle = plans.bundle; got = refl; blocks = plans.blocks; accepted = subst (λ (p : ℕ). IsAccepted p plans.bundle plans.blocks) same is.accepted; ports = plans.ports; ports_are = is.ports; is = holds }
+    record { bundle = plans.bundle; got = refl; blocks = plans.blocks; accepted = subst (λ (g : Ground). IsAccepted (terms_on all_taken all_pass g) plans.bundle plans.blocks) same is.are.accepted; ports = plans.ports; ports_are = is.are.ports; is = holds }
 
 -- the first chain has no port, so that nothing is to be served
 pub no_port_stops : (setup : RunSetup) (old new : WatchState) (plans : PlansData) (host : HostState)
-    → IsFreshWatch old → RefusesNone old new → ReadsPlans setup.source setup.default_port old new plans → plans.ports ≡ []
+    → IsFreshWatch old → RefusesNone old new → ReadsPlans setup.source (own_ground setup.default_port) old new plans → plans.ports ≡ []
     → RunsBehind setup (stopped_run status.Ended (Some new)) old host host
 no_port_stops setup old new plans host fresh script reads none =
     stops status.Ended old new script.0 (script.1 ∙ fresh.none_refused) (opens_nothing setup.source old new (Ok plans.bundle) fresh reads.tells) (host-adds-nothing host) refl
@@ -250,7 +252,7 @@ no_port_stops setup old new plans host fresh script reads none =
       none_starved = refl;
       nothing = λ e. record {
         watch = λ f. absurd cc;
-        gave = gave setup old new status.Ended (Ok plans.bundle) _ fresh reads.tells (accepted_ports setup plans (λ ports. ports ≡ []) reads.port reads.are none);
+        gave = gave setup old new status.Ended (Ok plans.bundle) _ fresh reads.tells (accepted_ports setup plans (λ ports. ports ≡ []) reads.ground_is reads.are none);
       };
     })
 
@@ -260,37 +262,37 @@ sides_refuse_none ports workers why refused = rw refused.1 refl
 
 -- the sides of the first chain are refused
 pub sides_stop : (setup : RunSetup) (old new : WatchState) (plans : PlansData) (why : Refusal) (host : HostState)
-    → IsFreshWatch old → RefusesNone old new → ReadsPlans setup.source setup.default_port old new plans → RefusesSides plans.ports setup.workers why
+    → IsFreshWatch old → RefusesNone old new → ReadsPlans setup.source (own_ground setup.default_port) old new plans → RefusesSides plans.ports setup.workers why
     → RunsBehind setup (stopped_run (status.Refused why) (Some new)) old host host
 sides_stop setup old new plans why host fresh script reads refused =
     stops (status.Refused why) old new script.0 (script.1 ∙ fresh.none_refused ∙ sym (sides_refuse_none plans.ports setup.workers why refused)) (opens_nothing setup.source old new (Ok plans.bundle) fresh reads.tells) (host-adds-nothing host) refl
     (record {
       published = refl;
       watch = λ e. absurd cc;
-      why = gave setup old new (status.Refused why) (Ok plans.bundle) _ fresh reads.tells (inr (accepted_ports setup plans (λ ports. RefusesSides ports setup.workers why) reads.port reads.are refused));
+      why = gave setup old new (status.Refused why) (Ok plans.bundle) _ fresh reads.tells (inr (accepted_ports setup plans (λ ports. RefusesSides ports setup.workers why) reads.ground_is reads.are refused));
     })
 
 -- nothing could be opened, or memory ran out, behind the first reads
 pub read_stops : {setup : RunSetup} {old new : WatchState} {plans : PlansData} {before after : HostState} (how : Status)
-    → IsFreshWatch old → RefusesNone old new → ReadsPlans setup.source setup.default_port old new plans → AddsHost before after no_telling → after.supply ≡ before.supply
+    → IsFreshWatch old → RefusesNone old new → ReadsPlans setup.source (own_ground setup.default_port) old new plans → AddsHost before after no_telling → after.supply ≡ before.supply
     → CauseOf how setup (stopped_run how (Some new)) before.counts after.counts
     → status_refusals how ≡ 0 → RunsBehind setup (stopped_run how (Some new)) old before after
 read_stops {setup} {old} {new} {plans} how fresh script reads told supply cause none =
     stops how old new script.0 (script.1 ∙ fresh.none_refused ∙ sym none) (opens_nothing setup.source old new (Ok plans.bundle) fresh reads.tells) told supply cause
 
 -- the first sides of the bundle that was read are those of its ports
-begins : (setup : RunSetup) (old new : WatchState) (how : Status) (plans : PlansData) (places others : List OpenedSide) → IsFreshWatch old → ReadsPlans setup.source setup.default_port old new plans
+begins : (setup : RunSetup) (old new : WatchState) (how : Status) (plans : PlansData) (places others : List OpenedSide) → IsFreshWatch old → ReadsPlans setup.source (own_ground setup.default_port) old new plans
     → plans.ports ≢ [] → side_count setup.workers plans.ports ≤ limits.WORKERS → sides_of setup.workers plans.ports ≡ places ++ others
     → ReadGave setup (stopped_run how (Some new)) (BeginsSides setup.default_port setup.workers places)
 begins setup old new how plans places others fresh reads some few are =
-    let is = reads.are in
+    let is = reads.are.are in
     gave setup old new how (Ok plans.bundle) (BeginsSides setup.default_port setup.workers places) fresh reads.tells (record {
       bundle = plans.bundle;
       got = refl;
       others = others;
       wants = record {
         blocks = plans.blocks;
-        accepted = subst (λ (p : ℕ). IsAccepted p plans.bundle plans.blocks) reads.port is.accepted;
+        accepted = subst (λ (g : Ground). IsAccepted (terms_on all_taken all_pass g) plans.bundle plans.blocks) reads.ground_is is.accepted;
         ports = plans.ports;
         ports_are = is.ports;
         some = some;
@@ -301,7 +303,7 @@ begins setup old new how plans places others fresh reads some few are =
 
 -- memory ran out behind the opening of the sides
 pub opened_stops : {setup : RunSetup} {old new : WatchState} {plans : PlansData} {before after : HostState} (places others : List OpenedSide) (sides : List SideState) (how : Status)
-    → IsFreshWatch old → RefusesNone old new → ReadsPlans setup.source setup.default_port old new plans → plans.ports ≢ [] → side_count setup.workers plans.ports ≤ limits.WORKERS
+    → IsFreshWatch old → RefusesNone old new → ReadsPlans setup.source (own_ground setup.default_port) old new plans → plans.ports ≢ [] → side_count setup.workers plans.ports ≤ limits.WORKERS
     → sides_of setup.workers plans.ports ≡ places ++ others → OpensAll before after places sides
     → CauseOf how setup (stopped_run how (Some new)) before.counts after.counts
     → status_refusals how ≡ 0 → RunsBehind setup (stopped_run how (Some new)) old before after
@@ -314,7 +316,7 @@ told_same {a} {c = c} places first none = subst (AddsHost a c) (λ i. record { l
 
 -- behind some sides, one failed to open
 pub fails_stops : {setup : RunSetup} {old new : WatchState} {plans : PlansData} {before after : HostState}
-    → IsFreshWatch old → RefusesNone old new → ReadsPlans setup.source setup.default_port old new plans → plans.ports ≢ [] → side_count setup.workers plans.ports ≤ limits.WORKERS
+    → IsFreshWatch old → RefusesNone old new → ReadsPlans setup.source (own_ground setup.default_port) old new plans → plans.ports ≢ [] → side_count setup.workers plans.ports ≤ limits.WORKERS
     → (some : OpensSome before after (sides_of setup.workers plans.ports) (λ mid. FailsToOpen mid after))
     → RunsBehind setup (stopped_run status.OpenFailed (Some new)) old before after
 fails_stops {setup} {old} {new} {plans} {before} {after} fresh script reads ports few some =
@@ -326,7 +328,7 @@ fails_stops {setup} {old} {new} {plans} {before} {after} fresh script reads port
 
 -- behind some sides, memory ran out
 pub starves_stops : {setup : RunSetup} {old new : WatchState} {plans : PlansData} {before after : HostState}
-    → IsFreshWatch old → RefusesNone old new → ReadsPlans setup.source setup.default_port old new plans → plans.ports ≢ [] → side_count setup.workers plans.ports ≤ limits.WORKERS
+    → IsFreshWatch old → RefusesNone old new → ReadsPlans setup.source (own_ground setup.default_port) old new plans → plans.ports ≢ [] → side_count setup.workers plans.ports ≤ limits.WORKERS
     → (some : OpensSome before after (sides_of setup.workers plans.ports) (λ mid. OpensNothing mid after))
     → RunsBehind setup (stopped_run status.NoMemory (Some new)) old before after
 starves_stops {setup} {old} {new} {plans} {before} {after} fresh script reads ports few some =

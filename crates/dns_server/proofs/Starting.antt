@@ -5,7 +5,7 @@ use Rattle.std.proofs.lemmas.List.Elements.{All-cons, All-nil}
 use Rattle.atomic_table.specs.Seated.{TableId}
 use Rattle.outside.specs.Hosts.{IsFreshSide}
 use Rattle.outside.specs.States.{SideState}
-use Rattle.chain_build.specs.declared.chain.Chain.{Chain}
+use Rattle.chain_build.specs.{OwnChain}
 use Rattle.pin_table.specs.declared.passes.Pass.{Pass}
 use Rattle.pin_table.specs.declared.table.PinTable.{PinTable}
 use Rattle.pin_table.specs.declared.views.PassView.{PassView}
@@ -18,27 +18,27 @@ use Rattle.dns_server.specs.declared.roles.Role.TheVariants.{Work, Watch}
 use Rattle.dns_server.specs.Roles.{AreStarting, IsMost, IsReady, IsStarting, Task}
 
 -- the passes from this number on
-abbrev pub PassesFrom : TableId → ℕ → List (Pass Chain) → Type 0
+abbrev pub PassesFrom : TableId → ℕ → List (Pass OwnChain) → Type 0
 PassesFrom id number passes =
-    (w : ℕ) (pass : Pass Chain) → slice_get passes w ≡ Some pass → (pass.seat.table_id ≡ id) × (pass_of pass ≡ new_pass (number + w) 1)
+    (w : ℕ) (pass : Pass OwnChain) → slice_get passes w ≡ Some pass → (pass.seat.table_id ≡ id) × (pass_of pass ≡ new_pass (number + w) 1)
 
-pub passes_all : (id : TableId) (passes : List (Pass Chain)) → ArePasses id 1 passes → PassesFrom id 0 passes
+pub passes_all : (id : TableId) (passes : List (Pass OwnChain)) → ArePasses id 1 passes → PassesFrom id 0 passes
 passes_all id passes are = λ w pass at. let is = are w pass at in (is.0, subst (λ (n : ℕ). pass_of pass ≡ new_pass n 1) (omega arith) is.1)
 
-pub first_pass : (id : TableId) (number : ℕ) (passes : List (Pass Chain)) (d : Pass Chain) → 0 < length passes → PassesFrom id number passes
+pub first_pass : (id : TableId) (number : ℕ) (passes : List (Pass OwnChain)) (d : Pass OwnChain) → 0 < length passes → PassesFrom id number passes
     → ((get_or passes 0 d).seat.table_id ≡ id) × (pass_of (get_or passes 0 d) ≡ new_pass number 1)
 first_pass id number [] d some from = absurd (omega (arith, some))
 first_pass id number (pass ∷ passes) d some from =
     let is = from 0 pass refl in
     (is.0, subst (λ (n : ℕ). pass_of pass ≡ new_pass n 1) (omega arith) is.1)
 
-pub other_passes : (id : TableId) (number : ℕ) (passes : List (Pass Chain)) → 0 < length passes → PassesFrom id number passes → PassesFrom id (number + 1) (remove passes 0)
+pub other_passes : (id : TableId) (number : ℕ) (passes : List (Pass OwnChain)) → 0 < length passes → PassesFrom id number passes → PassesFrom id (number + 1) (remove passes 0)
 other_passes id number [] some from = absurd (omega (arith, some))
 other_passes id number (pass ∷ passes) some from = λ w other at.
     let is = from (suc w) other at in
     (is.0, subst (λ (n : ℕ). pass_of other ≡ new_pass n 1) (omega arith) is.1)
 
-pub start_push : {S W : Type 0} (table : PinTable Chain) (number : ℕ) (sides : List S) (roles : List (Role S W)) (side : S) (w : Worker S) → AreStarting table number sides roles
+pub start_push : {S W : Type 0} (table : PinTable OwnChain) (number : ℕ) (sides : List S) (roles : List (Role S W)) (side : S) (w : Worker S) → AreStarting table number sides roles
     → IsStarting table (number + length sides) side w → AreStarting table number (sides ++ side ∷ []) (roles ++ Work w None ∷ [])
 start_push table number [] [] side w are is = (subst (λ (n : ℕ). IsStarting table n side w) (omega arith) is, tt)
 start_push table number [] (role ∷ roles) side w are is = absurd are
@@ -47,7 +47,7 @@ start_push table number (s ∷ sides) (Work x end ∷ roles) side w are is =
     (are.0, start_push table (number + 1) sides roles side w are.1 (subst (λ (n : ℕ). IsStarting table n side w) (omega arith) is))
 start_push table number (s ∷ sides) (Watch x ∷ roles) side w are is = absurd are
 
-pub start_count : {S W : Type 0} (table : PinTable Chain) (number : ℕ) (sides : List S) (roles : List (Role S W)) → AreStarting table number sides roles → length roles ≡ length sides
+pub start_count : {S W : Type 0} (table : PinTable OwnChain) (number : ℕ) (sides : List S) (roles : List (Role S W)) → AreStarting table number sides roles → length roles ≡ length sides
 start_count table number [] [] are = refl
 start_count table number [] (role ∷ roles) are = absurd are
 start_count table number (s ∷ sides) [] are = absurd are
@@ -59,11 +59,11 @@ ready : {S : Type 0} (task : Task) (number : ℕ) (side : S) (w : Worker S) → 
 ready task number side w is = record {
   rests = record {
     own = is.own;
-    idle = ap (λ (q : PassView Chain). q.held) is.pass_is;
+    idle = ap (λ (q : PassView OwnChain). q.held) is.pass_is;
     kept = rw is.pass_is tt;
   };
-  unused = ap (λ (q : PassView Chain). q.turns) is.pass_is;
-  settled = ap (λ (q : PassView Chain). q.taken) is.pass_is;
+  unused = ap (λ (q : PassView OwnChain). q.turns) is.pass_is;
+  settled = ap (λ (q : PassView OwnChain). q.taken) is.pass_is;
   published = rw is.pass_is (omega arith);
   idle = is.idle;
 }

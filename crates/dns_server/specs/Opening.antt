@@ -20,6 +20,7 @@ use Rattle.corefile_blocks.specs.Ports.{ArePorts}
 use Rattle.corefile_bundle.specs.declared.fault.GatherFault.{GatherFault}
 use Rattle.chain_meaning.specs.declared.refusal.Refusal.{Refusal}
 use Rattle.chain_meaning.specs.declared.refusal.Refusal.TheVariants as refusal
+use Rattle.chain_build.specs.{own_terms}
 use Rattle.chain_meaning.specs.Accepting.{IsAccepted}
 use Rattle.dns_server.specs.declared.sides.Place.{Place}
 
@@ -49,7 +50,7 @@ side_count workers ports = 2 * (length ports * workers)
 pub record WantsSides (default_port workers : ℕ) (bundle : Bundle) (sides : List OpenedSide)
     : Type 0 where
   pub blocks : List Block
-  pub accepted : IsAccepted default_port bundle blocks
+  pub accepted : IsAccepted (own_terms default_port) bundle blocks
   pub ports : List ℕ
   pub ports_are : ArePorts blocks ports
   pub some : ports ≢ []

@@ -26,7 +26,7 @@ use Rattle.run_meaning.specs.Turn.{IsLawful}
 use Rattle.run_meaning.specs.Workers.{WorkerRun}
 use Rattle.reload_watch.specs.declared.fault.ReadFault.{ReadFault}
 use Rattle.reload_watch.specs.declared.fault.ReadFault.TheVariants as fault
-use Rattle.chain_build.specs.{PlansData}
+use Rattle.chain_build.specs.{PlansData, own_ground, own_terms}
 use Rattle.run_meaning.specs.WatchTurn.{WatchTurn}
 use Rattle.reload_watch.specs.{ReadsPlans, RoseWithin, WatchGoesOn}
 use Rattle.run_meaning.specs.WatchTurn.{AreLooks}
@@ -39,6 +39,7 @@ use Rattle.chain_meaning.specs.declared.refusal.Refusal.{Refusal}
 use Rattle.dns_server.specs.declared.status.Status.{Status}
 use Rattle.dns_server.specs.declared.status.Status.TheVariants as status
 use Rattle.command_line.specs.Command.{ServeData, IsCommand, serve}
+use Rattle.chain_meaning.specs.{Terms}
 use Rattle.chain_meaning.specs.Accepting.{IsAccepted}
 use Rattle.dns_server.specs.Holding.{AreHeld, AreHeldBehind}
 use Rattle.dns_server.specs.Opening.{BeginsSides, RefusesSides, TakesSides, WantsSides, scripts_of}
@@ -70,7 +71,7 @@ run_data side watch ran = record {
 pub record TellsRun (setup : RunSetup) (bundles : List Bundle) (pinned : List ℕ) (side : SideRun)
     : Type 0 where
   pub run : IfSome side.state.journal
-      (WorkerRun (IsLawful bundles setup.default_port) setup.most pinned side.worked)
+      (WorkerRun (IsLawful bundles (own_terms setup.default_port)) setup.most pinned side.worked)
   pub at_most : side.worked.taken ≤ setup.most
   pub seen : side.worked.seen < length bundles
   pub last : side.worked.seen ≡ last_seen pinned
@@ -105,8 +106,8 @@ pub record Finishes (setup : RunSetup) (first : Bundle) (sides : List SideState)
   pub looks : List WatchTurn
   pub ending : List WatchMark
   pub told : AddsWatch watch left.watch (flat_map watch_marks looks ++ ending)
-  pub are : AreLooks setup.source setup.default_port (first ∷ []) looks
-  pub ends : EndsWatch setup.default_port (bundles_of first looks) ending
+  pub are : AreLooks setup.source (own_terms setup.default_port) (first ∷ []) looks
+  pub ends : EndsWatch (own_terms setup.default_port) (bundles_of first looks) ending
   pub count : length (bundles_of first looks) ≡ left.published
   pub starved : RoseJust (all_starved looks) 0 left.starved
   pub refused : RoseWithin (all_refused looks) (all_starved looks) watch.refusals
@@ -119,9 +120,9 @@ pub record Finishes (setup : RunSetup) (first : Bundle) (sides : List SideState)
   pub pins : OnePinRun (length left.sides) left.published (side_pins pinned)
 
 -- each published bundle is accepted
-pub record IsServed (default_port : ℕ) (bundle : Bundle) : Type 0 where
+pub record IsServed (terms : Terms) (bundle : Bundle) : Type 0 where
   pub blocks : List Block
-  pub accepted : IsAccepted default_port bundle blocks
+  pub accepted : IsAccepted terms bundle blocks
 
 -- what a host tells of a run: the watch where one was opened, and these sides
 abbrev pub opened_by : Option WatchState → List OpenedSide → HostTold
@@ -181,7 +182,7 @@ OpensSides setup run (bundle ∷ others) sides =
 pub record ServesBy (setup : RunSetup) (run : RunData) (before after : HostState) : Type 0 where
   pub bundles : List Bundle
   pub count : length bundles ≡ run.published
-  pub accepted : AllByRecursion (IsServed setup.default_port) bundles
+  pub accepted : AllByRecursion (IsServed (own_terms setup.default_port)) bundles
   pub watch : run.published ≢ 0 → run.watch ≢ None
   pub looks : List WatchTurn
   pub watched : WatchRun setup bundles looks run.watch run.starved
@@ -213,7 +214,7 @@ pub record WasAccepted (setup : RunSetup) (gives : Result Bundle GatherFault)
   pub bundle : Bundle
   pub got : gives ≡ Ok bundle
   pub blocks : List Block
-  pub accepted : IsAccepted setup.default_port bundle blocks
+  pub accepted : IsAccepted (own_terms setup.default_port) bundle blocks
   pub ports : List ℕ
   pub ports_are : ArePorts blocks ports
   pub is : P ports
@@ -221,7 +222,7 @@ pub record WasAccepted (setup : RunSetup) (gives : Result Bundle GatherFault)
 -- what was read is refused for this, or its sides are
 abbrev pub ReadWasRefused : RunSetup → Refusal → Result Bundle GatherFault → Type 0
 ReadWasRefused setup why gives =
-    Refuses setup.default_port gives why
+    Refuses (own_terms setup.default_port) gives why
     ⊎ WasAccepted setup gives (λ ports. RefusesSides ports setup.workers why)
 
 -- the first bundle has no port, so that there is nothing to serve
@@ -287,7 +288,7 @@ pub record ServesBehind (setup : RunSetup) (run : RunData) (watch : WatchState)
     (before after : HostState) : Type 0 where
   pub bundles : List Bundle
   pub count : length bundles ≡ run.published
-  pub accepted : AllByRecursion (IsServed setup.default_port) bundles
+  pub accepted : AllByRecursion (IsServed (own_terms setup.default_port)) bundles
   pub handed : WatchState
   pub watch_is : run.watch ≡ Some handed
   pub script : handed.script ≡ watch.script
@@ -329,7 +330,7 @@ RefusesNone before after = (after.script ≡ before.script) × (after.refusals �
 abbrev pub RunsPlans : RunSetup → PlansData → RunData → WatchState → HostState → HostState → Type 0
 RunsPlans setup plans run watch before after =
     (fresh : WatchState) → IsFreshWatch fresh → RefusesNone fresh watch
-    → ReadsPlans setup.source setup.default_port fresh watch plans
+    → ReadsPlans setup.source (own_ground setup.default_port) fresh watch plans
     → RunsBehind setup run fresh before after
 
 -- a run by a command

@@ -9,7 +9,7 @@ use Rattle.std.specs.List.{AllByRecursion}
 use Rattle.outside.specs.States.{SideState, WatchState}
 use Rattle.reload_watch.specs.{WatchGoesOn}
 use Rattle.corefile_bundle.specs.Gathering.{Source}
-use Rattle.chain_build.specs.declared.chain.Chain.{Chain}
+use Rattle.chain_build.specs.{OwnChain, ground_of, own_ground}
 use Rattle.pin_table.specs.declared.passes.Pass.{Pass}
 use Rattle.pin_table.specs.declared.table.PinTable.{PinTable}
 use Rattle.pin_table.specs.{ArePasses, IsPassOf, count_of, id_of, pass_of, plan_of}
@@ -33,7 +33,7 @@ use Rattle.dns_server.specs.States.{side_runs}
 -- what all roles share: the table, what a configuration is read from, and how many datagrams a
 -- worker takes at most
 pub record Task : Type 0 where
-  pub table : PinTable Chain
+  pub table : PinTable OwnChain
   pub source : Source
   pub most : ℕ
 
@@ -45,7 +45,7 @@ task_of shared = record {
 }
 
 -- a watcher that has published the first generation alone
-pub record IsWatching {W : Type 0} (table : PinTable Chain) (watcher : Watcher W) : Type 0 where
+pub record IsWatching {W : Type 0} (table : PinTable OwnChain) (watcher : Watcher W) : Type 0 where
   pub keeps : IsKeeping table watcher
   pub first : count_of (plan_of watcher.publisher) ≡ 1
   pub starved : watcher.starved ≡ 0
@@ -85,7 +85,7 @@ Becomes side watch task (Watch old) (Work new end) = ⊥
 Becomes side watch task (Watch old) (Watch new) = HasWatched watch task old new
 
 -- a worker of this side that has done nothing yet, with the pass of this number
-pub record IsStarting {S : Type 0} (table : PinTable Chain) (number : ℕ) (side : S)
+pub record IsStarting {S : Type 0} (table : PinTable OwnChain) (number : ℕ) (side : S)
     (worker : Worker S) : Type 0 where
   pub side_is : worker.side ≡ side
   pub own : IsPassOf table worker.pass
@@ -93,7 +93,7 @@ pub record IsStarting {S : Type 0} (table : PinTable Chain) (number : ℕ) (side
   pub idle : IsIdle worker.tally
 
 -- workers of these sides, with the passes from this number on
-abbrev pub AreStarting : {S W : Type 0} → PinTable Chain → ℕ → List S → List (Role S W) → Type 0
+abbrev pub AreStarting : {S W : Type 0} → PinTable OwnChain → ℕ → List S → List (Role S W) → Type 0
 AreStarting table number [] [] = Unit {0}
 AreStarting table number [] (role ∷ roles) = ⊥
 AreStarting table number (side ∷ sides) [] = ⊥
@@ -111,7 +111,7 @@ abbrev pub AreWorking : {S W : Type 0} → List (Role S W) → Type 0
 AreWorking roles = AllByRecursion IsWorking roles
 
 -- what a worker that has ended leaves
-abbrev pub IsPart : {S W : Type 0} → Role S W → Done S → Pass Chain → Type 0
+abbrev pub IsPart : {S W : Type 0} → Role S W → Done S → Pass OwnChain → Type 0
 IsPart (Work worker None) done pass = ⊥
 IsPart (Work worker (Some end)) done pass =
     (pass ≡ worker.pass)
@@ -128,7 +128,7 @@ IsPart (Watch watcher) done pass = ⊥
 pub record IsOpened {S W : Type 0} (state : S → SideState) (port : ℕ) (opened : Opened S W)
     : Type 0 where
   pub watcher : IsWatching opened.table opened.watcher
-  pub port_is : (arc_value opened.watcher.current).default_port ≡ port
+  pub ground_is : ground_of (arc_value opened.watcher.current) ≡ own_ground port
   pub passes : ArePasses (id_of opened.table) 1 opened.passes.items
   pub each : length opened.passes.items ≡ length opened.sides.items
   pub workers : opened.watcher.workers ≡ length opened.sides.items

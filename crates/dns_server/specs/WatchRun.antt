@@ -6,6 +6,7 @@ use Rattle.outside.specs.declared.mark.WatchMark.{WatchMark}
 use Rattle.outside.specs.Causes.{RoseJust}
 use Rattle.outside.specs.States.{WatchState}
 use Rattle.corefile_blocks.specs.declared.bundle.Bundle.{Bundle}
+use Rattle.chain_build.specs.{own_terms}
 use Rattle.run_meaning.specs.WatchTurn.{WatchTurn}
 use Rattle.reload_watch.specs.{RoseWithin}
 use Rattle.run_meaning.specs.WatchTurn.{AreLooks}
@@ -23,10 +24,10 @@ Tells watch P = IfSome watch (λ w. IfSome w.journal P)
 pub record LooksBehind (setup : RunSetup) (first : Bundle) (others : List Bundle)
     (looks : List WatchTurn) (watch : Option WatchState) (starved : ℕ) : Type 0 where
   pub published : others ≡ flat_map published_by looks
-  pub are : AreLooks setup.source setup.default_port (first ∷ []) looks
+  pub are : AreLooks setup.source (own_terms setup.default_port) (first ∷ []) looks
   pub starved_is : RoseJust (all_starved looks) 0 starved
   pub refused : IfSome watch (λ w. RoseWithin (all_refused looks) (all_starved looks) 0 w.refusals)
-  pub told : Tells watch (TellsLooks setup.source setup.default_port first looks)
+  pub told : Tells watch (TellsLooks setup.source (own_terms setup.default_port) first looks)
 
 -- the watch's run, by the list of published bundles
 abbrev pub WatchRun : RunSetup → List Bundle → List WatchTurn → Option WatchState → ℕ → Type 0

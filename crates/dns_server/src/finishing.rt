@@ -10,7 +10,7 @@ ghost use Rattle.dns_server.specs.States.{run_setup};
 use crate::report::Done;
 use crate::roles::{Role, Shared, act_all, part, push_workers};
 use crate::setup::Setup;
-use chain_build::Chain;
+use chain_build::OwnChain;
 use outside::{Side, Watch};
 use pin_table::{Pass, PinTable};
 use reload_watch::Watcher;
@@ -22,8 +22,8 @@ use std::thread::Threads;
 /// roles and for what they leave.
 #[derive(Drop)]
 pub(crate) struct Opened<S, W> {
-    pub table: PinTable<Chain>,
-    pub passes: Vec<Pass<Chain>>,
+    pub table: PinTable<OwnChain>,
+    pub passes: Vec<Pass<OwnChain>>,
     pub sides: Vec<S>,
     pub watcher: Watcher<W>,
     pub roles: Vec<Role<S, W>>,

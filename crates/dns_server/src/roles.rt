@@ -11,7 +11,7 @@ ghost use Rattle.dns_server.specs.Roles.{AreStarting, AreWorking, Becomes, IsPar
 ghost use Rattle.dns_server.specs.Roles.{task_of};
 
 use crate::report::Done;
-use chain_build::Chain;
+use chain_build::OwnChain;
 use outside::{Side, Watch};
 use pin_table::{Pass, PinTable};
 use query_worker::{Worker, work};
@@ -32,7 +32,7 @@ pub(crate) enum Role<S, W> {
 /// What all roles share.
 #[derive(Clone, Copy)]
 pub(crate) struct Shared<'a> {
-    pub table: &'a PinTable<Chain>,
+    pub table: &'a PinTable<OwnChain>,
     pub source: Source<'a>,
     pub most: u64,
 }
@@ -94,9 +94,9 @@ fn act_each<R: Threads + Wait + Sync, S: Side + Send + Drop, W: Watch + Send + D
 /// A worker for each side, in their order, with the passes from the first on.
 pub(crate) fn push_workers<S: Side + Drop, W>(
     alloc: Global,
-    table: &PinTable<Chain>,
+    table: &PinTable<OwnChain>,
     sides: Vec<S>,
-    passes: &mut Vec<Pass<Chain>>,
+    passes: &mut Vec<Pass<OwnChain>>,
     roles: &mut Vec<Role<S, W>>,
 )
     requires passes { ArePasses (id_of table.now) 1 passes.old.items }
@@ -119,7 +119,7 @@ pub(crate) fn push_workers<S: Side + Drop, W>(
 pub(crate) fn part<S: Drop, W: Drop>(
     roles: Vec<Role<S, W>>,
     dones: &mut Vec<Done<S>>,
-    passes: &mut Vec<Pass<Chain>>,
+    passes: &mut Vec<Pass<OwnChain>>,
 )
     requires workers { AreWorking roles.items }
     requires none { (dones.old.items ≡ []) × (passes.old.items ≡ []) }

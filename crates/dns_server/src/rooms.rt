@@ -11,8 +11,9 @@ ghost use Rattle.dns_server.specs.Opening.{place_of, sides_of, side_count};
 use crate::report::Done;
 use crate::roles::Role;
 use crate::sides::{Place, places_of};
-use chain_build::{Chain, Plans, build};
+use chain_build::{OwnChain, OwnPlans, build};
 use dns_data::NoMemory;
+use reload_watch::no_stock;
 use std::alloc::Global;
 use std::sync::Arc;
 
@@ -21,18 +22,18 @@ use std::sync::Arc;
 /// generations.
 #[derive(Drop)]
 pub(crate) struct Rooms<S, W> {
-    pub plans: Arc<Plans>,
+    pub plans: Arc<OwnPlans>,
     pub places: Vec<Place>,
-    pub chains: Vec<Chain>,
+    pub chains: Vec<OwnChain>,
     pub sides: Vec<S>,
     pub roles: Vec<Role<S, W>>,
     pub dones: Vec<Done<S>>,
-    pub home: Vec<Chain>,
+    pub home: Vec<OwnChain>,
 }
 
 impl<S: Drop, W: Drop> Rooms<S, W> {
     /// So many workers an endpoint.
-    pub fn new(alloc: Global, plans: Plans, workers: u64) -> Result<Rooms<S, W>, NoMemory>
+    pub fn new(alloc: Global, plans: OwnPlans, workers: u64) -> Result<Rooms<S, W>, NoMemory>
         requires few { side_count workers plans.ports ≤ limits.WORKERS }
         requires workers { workers ≤ limits.WORKERS }
         ensures plans { IfOk result (λ rooms. arc_value rooms.plans ≡ plans) }
@@ -53,7 +54,10 @@ impl<S: Drop, W: Drop> Rooms<S, W> {
         let places = places_of(alloc, plans.ports.as_slice(), workers)?;
         let count = places.len();
         let plans = Arc::new(alloc, plans)?;
-        let chains = build(alloc, &plans, 0, count as u64)?;
+        let mut stock = no_stock(alloc);
+        let Ok(chains) = build(alloc, &plans, 0, count as u64, &mut stock) else {
+            return Err(NoMemory);
+        };
         Ok(Rooms {
             plans,
             places,

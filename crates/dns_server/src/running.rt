@@ -1,7 +1,7 @@
 ghost use Rattle.dns_data.specs.declared.limit.TheConstants as limits;
 ghost use Rattle.std.specs.Prelude.{◌≡◌, ◌≢◌, ◌≤◌, ◌<◌, [], option_map};
 ghost use Rattle.dns_server.specs.Opening.{side_count};
-ghost use Rattle.chain_build.specs.{ArePlans};
+ghost use Rattle.chain_build.specs.{AreOwnPlans, ground_of, own_ground};
 ghost use Rattle.command_line.specs.declared.bounds.TheConstants as defaults;
 ghost use Rattle.outside.specs.Causes.{HostNoneFell};
 ghost use Rattle.outside.specs.Hosts.{IsFreshWatch};
@@ -18,7 +18,7 @@ use crate::setup::Setup;
 use crate::sides::{open_places, refused_sides};
 use crate::status::Status;
 use crate::telling::tell_status;
-use chain_build::Plans;
+use chain_build::OwnPlans;
 use command_line::{Command, read_command};
 use corefile_words::Pair;
 use dns_data::Text;
@@ -136,10 +136,10 @@ fn run_plans<R: Threads + Wait + Sync, H: Host>(
     setup: Setup<'_>,
     host: &mut H,
     mut watch: H::Watch,
-    plans: Plans,
+    plans: OwnPlans,
 ) -> Ran<H::Side, H::Watch>
-    requires are { ArePlans plans }
-    requires port { plans.default_port ≡ setup.port }
+    requires are { AreOwnPlans plans }
+    requires basis { ground_of plans ≡ own_ground setup.port }
     requires workers { (0 < setup.workers) × (setup.workers ≤ defaults.WORKERS) }
     requires ports { plans.ports ≢ [] }
     requires few { side_count setup.workers plans.ports ≤ limits.WORKERS }

@@ -9,7 +9,7 @@ use Rattle.outside.specs.Marks.{Adds, Grows}
 use Rattle.outside.specs.Journals.{adds-nothing, adds-then}
 use Rattle.outside.specs.States.{SideState}
 use Rattle.pin_table.specs.declared.views.PassView.{PassView}
-use Rattle.chain_build.specs.declared.chain.Chain.{Chain}
+use Rattle.chain_build.specs.{OwnChain}
 use Rattle.query_worker.specs.declared.turn.Turned.{Turned}
 use Rattle.query_worker.specs.declared.turn.Turned.TheVariants as turned
 use Rattle.query_worker.specs.declared.worker.Tally.{Tally}
@@ -232,7 +232,7 @@ none_behind-push most taken [] turn few = (omega (arith, few), tt)
 none_behind-push most taken (t ∷ turns) turn few = (omega (arith, few), none_behind-push most (taken + datagrams t) turns turn (omega (arith, few)))
 
 -- marks that are known are those that were added
-adds_just : {a b : SideState} {q r : PassView Chain} {known : List Mark} → Grows a b (λ marks. (marks ≡ known) × (r ≡ q)) → Adds a b known
+adds_just : {a b : SideState} {q r : PassView OwnChain} {known : List Mark} → Grows a b (λ marks. (marks ≡ known) × (r ≡ q)) → Adds a b known
 adds_just {a} {b} grows = subst (Adds a b) grows.are.0 grows.told
 
 -- what is at most one number is at most a greater one
@@ -241,7 +241,7 @@ all_below a b [] le below = tt
 all_below a b (n ∷ numbers) le below = (omega (arith, le, below.0), all_below a b numbers le below.1)
 
 -- what a worker did since its side's journal stood at old, by what its pass knows and what it counted
-pub record HasWorked (old new : SideState) (q : PassView Chain) (t : Tally) : Type 0 where
+pub record HasWorked (old new : SideState) (q : PassView OwnChain) (t : Tally) : Type 0 where
   pub turns : List Turn
   pub told : Adds old new (flat_map marks_of turns)
   pub are : AreTurns (IsOfPass q.turns) t.pins t.starved turns
@@ -257,7 +257,7 @@ pub record HasWorked (old new : SideState) (q : PassView Chain) (t : Tally) : Ty
   pub unmet : t.has_starved ≡ false → last_unread 0 turns ≡ 0
 
 -- nothing yet
-pub starts : (a : SideState) (q : PassView Chain) (t : Tally) → IsIdle t → q.turns ≡ [] → q.taken ≡ None → 0 < q.seen → HasWorked a a q t
+pub starts : (a : SideState) (q : PassView OwnChain) (t : Tally) → IsIdle t → q.turns ≡ [] → q.taken ≡ None → 0 < q.seen → HasWorked a a q t
 starts a q t idle unused settled some = subst (HasWorked a a q) (sym idle) (record {
   turns = [];
   told = adds-nothing a;
@@ -275,12 +275,12 @@ starts a q t idle unused settled some = subst (HasWorked a a q) (sym idle) (reco
 })
 
 -- a turn that took a datagram
-takes : {a b c : SideState} {q r : PassView Chain} {t : Tally} (s want : ℕ) → HasWorked a b q t → Grows b c (TakesOne q r s want)
+takes : {a b c : SideState} {q r : PassView OwnChain} {t : Tally} (s want : ℕ) → HasWorked a b q t → Grows b c (TakesOne q r s want)
     → HasWorked a c r (record { pins = t.pins + 1; seen = s; starved = t.starved + want; failures = 0; has_starved = false })
 takes {a} {b} {c} {q} {r} {t} s want w grows =
     let one = grows.are in
     let turn = one.turn in
-    let pin : PastPin = pin_of s one.chain in
+    let pin : PastPin = pin_of s one.chain one.home in
     let later : t.seen ≤ s = let within = w.counts.within in let newest = one.newest in omega (arith, within, newest) in
     let below = all_below t.seen s (flat_map serials w.turns) later w.seen in
     let same : flat_map marks_of w.turns ++ grows.marks ≡ flat_map marks_of (w.turns ++ turn ∷ []) =
@@ -288,7 +288,7 @@ takes {a} {b} {c} {q} {r} {t} s want w grows =
     let serials_are : flat_map serials (w.turns ++ turn ∷ []) ≡ flat_map serials w.turns ++ s ∷ [] =
     serials-push w.turns turn ∙ ap (λ (l : List ℕ). flat_map serials w.turns ++ l) (serials_by pin turn one.by_pin) in
     let counted = w.counts.pins in
-    subst (λ (x : PassView Chain). HasWorked a c x (record { pins = t.pins + 1; seen = s; starved = t.starved + want; failures = 0; has_starved = false })) (sym one.pass) (record {
+    subst (λ (x : PassView OwnChain). HasWorked a c x (record { pins = t.pins + 1; seen = s; starved = t.starved + want; failures = 0; has_starved = false })) (sym one.pass) (record {
       turns = w.turns ++ turn ∷ [];
       told = subst (Adds a c) same (adds-then w.told grows.told);
       are = record {
@@ -326,7 +326,7 @@ missed_are pins turns turn is same are =
     }
 
 -- what a worker did, whose last receive gave no datagram
-record HasMissed (old new : SideState) (q : PassView Chain) (t : Tally) : Type 0 where
+record HasMissed (old new : SideState) (q : PassView OwnChain) (t : Tally) : Type 0 where
   pub before : List Turn
   pub last : Turn
   pub told : Adds old new (flat_map marks_of (before ++ last ∷ []))
@@ -347,7 +347,7 @@ record HasMissed (old new : SideState) (q : PassView Chain) (t : Tally) : Type 0
 abbrev missed_tally : Tally → ℕ → Bool → Tally
 missed_tally t starving flag = record { pins = t.pins; seen = t.seen; starved = starving; failures = t.failures + 1; has_starved = flag }
 
-misses : {a b c : SideState} {q : PassView Chain} {t : Tally} (turn : Turn) (starving : ℕ) (flag : Bool) → IsMiss turn → (w : HasWorked a b q t) → Adds b c (marks_of turn) → t.starved + starved_in turn ≡ starving
+misses : {a b c : SideState} {q : PassView OwnChain} {t : Tally} (turn : Turn) (starving : ℕ) (flag : Bool) → IsMiss turn → (w : HasWorked a b q t) → Adds b c (marks_of turn) → t.starved + starved_in turn ≡ starving
     → (flag ≡ true → 0 < last_unread 0 (w.turns ++ turn ∷ [])) → (flag ≡ false → last_unread 0 (w.turns ++ turn ∷ []) ≡ 0)
     → HasMissed a c q (missed_tally t starving flag)
 misses {a} {b} {c} {q} {t} turn starving flag is w adds want met unmet = record {
@@ -369,15 +369,15 @@ misses {a} {b} {c} {q} {t} turn starving flag is w adds want met unmet = record 
 }
 
 -- a receive that failed, and one that met want of memory
-fails : {a b c : SideState} {q : PassView Chain} {t : Tally} → HasWorked a b q t → Adds b c (RecvFailed ∷ []) → HasMissed a c q (with_miss t)
+fails : {a b c : SideState} {q : PassView OwnChain} {t : Tally} → HasWorked a b q t → Adds b c (RecvFailed ∷ []) → HasMissed a c q (with_miss t)
 fails {t = t} w adds =
     misses failed t.starved t.has_starved tt w adds (omega arith) (λ e. let met = w.met e in omega (arith, met, unread_failed 0 w.turns)) (λ e. let none = w.unmet e in omega (arith, none, unread_failed 0 w.turns))
 
-meets_want : {a b c : SideState} {q : PassView Chain} {t : Tally} → HasWorked a b q t → Adds b c [] → HasMissed a c q (with_miss (starved_in_row t))
+meets_want : {a b c : SideState} {q : PassView OwnChain} {t : Tally} → HasWorked a b q t → Adds b c [] → HasMissed a c q (with_miss (starved_in_row t))
 meets_want {t = t} w adds = misses unread (t.starved + 1) true tt w adds refl (λ e. omega (arith, unread_more 0 w.turns)) (λ e. absurd cc)
 
 -- the row is not long yet
-still : {a c : SideState} {q : PassView Chain} {t : Tally} → HasMissed a c q t → t.failures < 64 → HasWorked a c q t
+still : {a c : SideState} {q : PassView OwnChain} {t : Tally} → HasMissed a c q t → t.failures < 64 → HasWorked a c q t
 still m few = record {
   turns = m.before ++ m.last ∷ [];
   told = m.told;
@@ -395,14 +395,14 @@ still m few = record {
 }
 
 -- a worker's run that has ended
-pub record Stopped (most : ℕ) (a c : SideState) (q : PassView Chain) (t : Tally) (end : WorkEnd) : Type 0 where
+pub record Stopped (most : ℕ) (a c : SideState) (q : PassView OwnChain) (t : Tally) (end : WorkEnd) : Type 0 where
   pub run : Grows a c (WorkerRun (IsOfPass q.turns) most (pinned_by q) (worked_of t end))
   pub pins : Grows a c (TellsPins q.turns)
   pub counts : CountsPins t q
   pub settled : q.taken ≡ None
 
 -- the turns, and what the journal has behind them
-closes : {most : ℕ} {a c : SideState} {q : PassView Chain} {t : Tally} {end : WorkEnd} {marks : List Mark} (turns : List Turn) (ending : List Mark) → Adds a c marks
+closes : {most : ℕ} {a c : SideState} {q : PassView OwnChain} {t : Tally} {end : WorkEnd} {marks : List Mark} (turns : List Turn) (ending : List Mark) → Adds a c marks
     → marks ≡ flat_map marks_of turns ++ ending → AreTurns (IsOfPass q.turns) t.pins t.starved turns → TakeUnder (reverse q.turns) turns → AllByRecursion (λ n. n ≤ t.seen) (flat_map serials turns)
     → CountsPins t q → flat_map serials turns ≡ reverse (pinned_by q) → q.taken ≡ None → NoneBehind most 0 turns → t.pins ≤ most → Ending most (worked_of t end) turns end ending → Stopped most a c q t end
 closes {marks = marks} turns ending adds told are under seen counts pinned settled behind le ends = record {
@@ -413,41 +413,41 @@ closes {marks = marks} turns ending adds told are under seen counts pinned settl
 }
 
 -- the side's end
-ends_with : {most : ℕ} {a b c : SideState} {q : PassView Chain} {t : Tally} → HasWorked a b q t → Adds b c (RecvEnd ∷ []) → t.pins < most → Stopped most a c q t ends.End
+ends_with : {most : ℕ} {a b c : SideState} {q : PassView OwnChain} {t : Tally} → HasWorked a b q t → Adds b c (RecvEnd ∷ []) → t.pins < most → Stopped most a c q t ends.End
 ends_with {most} w adds more =
     closes w.turns (RecvEnd ∷ []) (adds-then w.told adds) refl w.are w.under w.seen w.counts w.pinned w.settled (none_behind most 0 w.turns (omega (arith, more, w.are.datagrams_are))) (omega (arith, more)) (w.no_row, inl (refl, more))
 
 -- the last datagram was taken
-takes_last : {most : ℕ} {a b : SideState} {q : PassView Chain} {t : Tally} → HasWorked a b q t → t.failures ≡ 0 → t.pins ≡ most → Stopped most a b q t ends.End
+takes_last : {most : ℕ} {a b : SideState} {q : PassView OwnChain} {t : Tally} → HasWorked a b q t → t.failures ≡ 0 → t.pins ≡ most → Stopped most a b q t ends.End
 takes_last {most} w none last =
     closes w.turns [] w.told (sym (append-nil (flat_map marks_of w.turns))) w.are w.under w.seen w.counts w.pinned w.settled (w.before_last most (omega (arith, last)) none) (omega (arith, last)) (w.no_row, inr (refl, last))
 
 -- the 64th receive in a row gave no datagram, and none of these met want of memory
-fails_last : {most : ℕ} {a c : SideState} {q : PassView Chain} {t : Tally} → HasMissed a c q t → t.failures ≡ 64 → t.has_starved ≡ false → t.pins < most → Stopped most a c q t ends.RecvFailed
+fails_last : {most : ℕ} {a c : SideState} {q : PassView OwnChain} {t : Tally} → HasMissed a c q t → t.failures ≡ 64 → t.has_starved ≡ false → t.pins < most → Stopped most a c q t ends.RecvFailed
 fails_last {most} {t = t} m last none_starved more =
     closes {t = t} (m.before ++ m.last ∷ []) [] m.told (sym (append-nil (flat_map marks_of (m.before ++ m.last ∷ [])))) m.are m.under m.seen m.counts m.pinned m.settled
     (none_behind most 0 (m.before ++ m.last ∷ []) (omega (arith, more, m.are.datagrams_are))) (omega (arith, more))
     (record { before = m.before; last = m.last; turns_are = refl; first = m.first; row = m.row ∙ last; met = m.unmet none_starved }, refl)
 
 -- the 64th receive in a row gave no datagram, and one of these met want of memory
-starves_last : {most : ℕ} {a c : SideState} {q : PassView Chain} {t : Tally} → HasMissed a c q t → t.failures ≡ 64 → t.has_starved ≡ true → t.pins < most → Stopped most a c q t ends.NoMemory
+starves_last : {most : ℕ} {a c : SideState} {q : PassView OwnChain} {t : Tally} → HasMissed a c q t → t.failures ≡ 64 → t.has_starved ≡ true → t.pins < most → Stopped most a c q t ends.NoMemory
 starves_last {most} {t = t} m last has_starved more =
     closes {t = t} (m.before ++ m.last ∷ []) [] m.told (sym (append-nil (flat_map marks_of (m.before ++ m.last ∷ [])))) m.are m.under m.seen m.counts m.pinned m.settled
     (none_behind most 0 (m.before ++ m.last ∷ []) (omega (arith, more, m.are.datagrams_are))) (omega (arith, more))
     (record { before = m.before; last = m.last; turns_are = refl; first = m.first; row = m.row ∙ last; met = m.met has_starved }, refl)
 
 -- a turn that starved at no query
-takes_one : {a b c : SideState} {q r : PassView Chain} {t : Tally} (s : ℕ) → HasWorked a b q t → Grows b c (TakesOne q r s 0)
+takes_one : {a b c : SideState} {q r : PassView OwnChain} {t : Tally} (s : ℕ) → HasWorked a b q t → Grows b c (TakesOne q r s 0)
     → HasWorked a c r (record { pins = t.pins + 1; seen = s; starved = t.starved; failures = 0; has_starved = false })
 takes_one {a} {b} {c} {q} {r} {t} s w grows =
     subst (λ (n : ℕ). HasWorked a c r (record { pins = t.pins + 1; seen = s; starved = n; failures = 0; has_starved = false })) (add-zero t.starved) (takes s 0 w grows)
 
 -- a turn that made no pin
-no_pin : (P : PassView Chain → Type 0) {a b : SideState} {q r : PassView Chain} {known : List Mark} → Grows a b (λ marks. (marks ≡ known) × (r ≡ q)) → P q → P r
+no_pin : (P : PassView OwnChain → Type 0) {a b : SideState} {q r : PassView OwnChain} {known : List Mark} → Grows a b (λ marks. (marks ≡ known) × (r ≡ q)) → P q → P r
 no_pin P grows is = subst P (sym grows.are.1) is
 
 -- a turn that isn't the last
-pub goes_on : {a b c : SideState} {q r : PassView Chain} {t : Tally} (most : ℕ) (what : Turned) → HasWorked a b q t → Grows b c (AddsTurn q r what) → TurnEnds most what (tallied what t) None
+pub goes_on : {a b c : SideState} {q r : PassView OwnChain} {t : Tally} (most : ℕ) (what : Turned) → HasWorked a b q t → Grows b c (AddsTurn q r what) → TurnEnds most what (tallied what t) None
     → HasWorked a c r (tallied what t)
 goes_on most (turned.Answered s) w grows ends = takes_one s w grows
 goes_on most (turned.Starved s) w grows ends = takes s 1 w grows
@@ -456,7 +456,7 @@ goes_on {a} {b} {c} {q} {r} {t} most turned.RecvStarved w grows ends = no_pin (�
 goes_on most turned.RecvEnd w grows ends = absurd cc
 
 -- the last turn
-pub stops : {a b c : SideState} {q r : PassView Chain} {t : Tally} (most : ℕ) (what : Turned) (end : WorkEnd) → t.pins < most → HasWorked a b q t → Grows b c (AddsTurn q r what)
+pub stops : {a b c : SideState} {q r : PassView OwnChain} {t : Tally} (most : ℕ) (what : Turned) (end : WorkEnd) → t.pins < most → HasWorked a b q t → Grows b c (AddsTurn q r what)
     → TurnEnds most what (tallied what t) (Some end) → Stopped most a c r (tallied what t) end
 stops most (turned.Answered s) ends.End more w grows last = takes_last (takes_one s w grows) refl last
 stops most (turned.Answered s) ends.RecvFailed more w grows last = absurd last

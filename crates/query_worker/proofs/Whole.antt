@@ -6,7 +6,7 @@ use Rattle.outside.specs.Marks.{Grows}
 use Rattle.outside.specs.States.{SideState, Stays, left_once}
 use Rattle.outside.specs.TakingLaws.{stays-nothing, stays-then}
 use Rattle.pin_table.specs.declared.views.PassView.{PassView}
-use Rattle.chain_build.specs.declared.chain.Chain.{Chain}
+use Rattle.chain_build.specs.{OwnChain}
 use Rattle.query_worker.specs.declared.turn.Turned.{Turned}
 use Rattle.query_worker.specs.declared.turn.Turned.TheVariants as turned
 use Rattle.query_worker.specs.declared.worker.Tally.{Tally}
@@ -32,12 +32,12 @@ first_turn {most} start idle unused settled seen some =
     record { has = starts start.side start.pass start.tally idle unused settled seen; is = first.0; stands = first.1; number = refl; stays = stays-nothing start.side }
 
 -- a turn is of the same pass
-same_number : (what : Turned) (q r : PassView Chain) (marks : List Mark) → AddsTurn q r what marks → r.worker ≡ q.worker
-same_number (turned.Answered s) q r marks adds = ap (λ (x : PassView Chain). x.worker) adds.pass
-same_number (turned.Starved s) q r marks adds = ap (λ (x : PassView Chain). x.worker) adds.pass
-same_number turned.RecvFailed q r marks adds = ap (λ (x : PassView Chain). x.worker) adds.1
-same_number turned.RecvStarved q r marks adds = ap (λ (x : PassView Chain). x.worker) adds.1
-same_number turned.RecvEnd q r marks adds = ap (λ (x : PassView Chain). x.worker) adds.1
+same_number : (what : Turned) (q r : PassView OwnChain) (marks : List Mark) → AddsTurn q r what marks → r.worker ≡ q.worker
+same_number (turned.Answered s) q r marks adds = ap (λ (x : PassView OwnChain). x.worker) adds.pass
+same_number (turned.Starved s) q r marks adds = ap (λ (x : PassView OwnChain). x.worker) adds.pass
+same_number turned.RecvFailed q r marks adds = ap (λ (x : PassView OwnChain). x.worker) adds.1
+same_number turned.RecvStarved q r marks adds = ap (λ (x : PassView OwnChain). x.worker) adds.1
+same_number turned.RecvEnd q r marks adds = ap (λ (x : PassView OwnChain). x.worker) adds.1
 
 -- what is counted behind a turn
 counted : {most : ℕ} {start before after : WorkerState} {end : Option WorkEnd} → GoesOn most start before → TakesTurn most before after end

@@ -11,8 +11,10 @@ use Rattle.pin_table.specs.declared.table.PinTable.{PinTable}
 use Rattle.pin_table.specs.declared.views.PassView.{PassView}
 use Rattle.pin_table.specs.{IsPassOf, Keeps, pass_of}
 use Rattle.pin_table.specs.Opening.{new_pass}
-use Rattle.chain_build.specs.declared.chain.Chain.{Chain}
+use Rattle.chain_build.specs.{OwnChain}
 use Rattle.chain_build.specs.{chain_identity, chain_log, plans_of}
+use Rattle.chain_meaning.specs.{Ground, terms_on}
+use Rattle.extra_stock.specs.{all_pass, all_taken}
 use Rattle.query_worker.specs.declared.worker.Worker.{Worker}
 use Rattle.query_worker.specs.Pins.{PastPin, OfPin, IsPinFor, IsOfPass, IsOf, AreOf, IsReady}
 use Rattle.run_meaning.specs.Workers.{Worked}
@@ -51,49 +53,50 @@ run_as P Q to run = record {
 }
 
 -- by a pin whose chain is of a published bundle
-published_by : (bundles : List Bundle) (default_port : ℕ) (pin : PastPin) (serial : ℕ)
+published_by : (bundles : List Bundle) (basis : Ground) (pin : PastPin) (serial : ℕ)
     (d : Datagram)
     (marks : List Mark) (served : Served)
-    → IsOf bundles default_port pin
+    → IsOf bundles basis pin
     → IsPinFor serial d marks served pin
-    → IsPublished bundles serial (λ bundle. Serves bundle default_port d marks served)
-published_by bundles default_port pin serial d marks served of is = record {
+    → IsPublished bundles serial (λ bundle. Serves bundle (terms_on all_taken all_pass basis) d marks served)
+published_by bundles basis pin serial d marks served of is = record {
   bundle = (plans_of pin.given).bundle;
   at = subst (λ (n : ℕ). slice_get bundles n ≡ Some (plans_of pin.given).bundle) is.0 of.0;
-  is = subst (λ (port : ℕ). Serves (plans_of pin.given).bundle port d marks served) of.1 is.1;
+  is = subst (λ (g : Ground). Serves (plans_of pin.given).bundle (terms_on all_taken all_pass g) d marks
+      served) of.1 is.1;
 }
 
 -- by one of the pins whose chains are
-published_of : (bundles : List Bundle) (default_port : ℕ) (pins : List PastPin) (serial : ℕ)
+published_of : (bundles : List Bundle) (basis : Ground) (pins : List PastPin) (serial : ℕ)
     (d : Datagram)
     (marks : List Mark) (served : Served)
-    → AreOf bundles default_port pins
+    → AreOf bundles basis pins
     → OfPin pins (IsPinFor serial d marks served)
-    → IsPublished bundles serial (λ bundle. Serves bundle default_port d marks served)
-published_of bundles default_port [] serial d marks served are is = absurd is
-published_of bundles default_port (pin ∷ pins) serial d marks served are (inl here) =
-    published_by bundles default_port pin serial d marks served are.0 here
-published_of bundles default_port (pin ∷ pins) serial d marks served are (inr there) =
-    published_of bundles default_port pins serial d marks served are.1 there
+    → IsPublished bundles serial (λ bundle. Serves bundle (terms_on all_taken all_pass basis) d marks served)
+published_of bundles basis [] serial d marks served are is = absurd is
+published_of bundles basis (pin ∷ pins) serial d marks served are (inl here) =
+    published_by bundles basis pin serial d marks served are.0 here
+published_of bundles basis (pin ∷ pins) serial d marks served are (inr there) =
+    published_of bundles basis pins serial d marks served are.1 there
 
 -- a turn under one of these pins is lawful where each pin's chain is of the published bundle of its
 -- serial
-pub lawful_of : (bundles : List Bundle) (default_port : ℕ) (pins : List PastPin)
-    → AreOf bundles default_port pins
+pub lawful_of : (bundles : List Bundle) (basis : Ground) (pins : List PastPin)
+    → AreOf bundles basis pins
     → (turn : Turn)
     → IsOfPass pins turn
-    → IsLawful bundles default_port turn
-lawful_of bundles default_port pins are failed is = tt
-lawful_of bundles default_port pins are unread is = tt
-lawful_of bundles default_port pins are (replied serial d marks reply out) is =
-    published_of bundles default_port pins serial d marks (Reply reply) are is
-lawful_of bundles default_port pins are (silenced serial d marks why) is =
-    published_of bundles default_port pins serial d marks (Silent why) are is
-lawful_of bundles default_port pins are (starved serial d marks) is =
-    published_of bundles default_port pins serial d marks NoMemory are is
+    → IsLawful bundles (terms_on all_taken all_pass basis) turn
+lawful_of bundles basis pins are failed is = tt
+lawful_of bundles basis pins are unread is = tt
+lawful_of bundles basis pins are (replied serial d marks reply out) is =
+    published_of bundles basis pins serial d marks (Reply reply) are is
+lawful_of bundles basis pins are (silenced serial d marks why) is =
+    published_of bundles basis pins serial d marks (Silent why) are is
+lawful_of bundles basis pins are (starved serial d marks) is =
+    published_of bundles basis pins serial d marks NoMemory are is
 
 -- a worker that has done nothing yet is ready where its pass is a new one of the table
-pub ready_of : {S : Type 0} (table : PinTable Chain) (worker : Worker S) (number seen : ℕ)
+pub ready_of : {S : Type 0} (table : PinTable OwnChain) (worker : Worker S) (number seen : ℕ)
     → IsPassOf table worker.pass
     → pass_of worker.pass ≡ new_pass number seen
     → 0 < seen
@@ -102,11 +105,11 @@ pub ready_of : {S : Type 0} (table : PinTable Chain) (worker : Worker S) (number
 ready_of table worker number seen own fresh some idle = record {
   rests = record {
     own = own;
-    idle = ap (λ (q : PassView Chain). q.held) fresh;
-    kept = subst (λ (q : PassView Chain). Keeps chain_identity chain_log q.turns) (sym fresh) tt;
+    idle = ap (λ (q : PassView OwnChain). q.held) fresh;
+    kept = subst (λ (q : PassView OwnChain). Keeps chain_identity chain_log q.turns) (sym fresh) tt;
   };
-  unused = ap (λ (q : PassView Chain). q.turns) fresh;
-  settled = ap (λ (q : PassView Chain). q.taken) fresh;
-  published = subst (λ (q : PassView Chain). 0 < q.seen) (sym fresh) some;
+  unused = ap (λ (q : PassView OwnChain). q.turns) fresh;
+  settled = ap (λ (q : PassView OwnChain). q.taken) fresh;
+  published = subst (λ (q : PassView OwnChain). 0 < q.seen) (sym fresh) some;
   idle = idle;
 }

@@ -13,32 +13,35 @@ use Rattle.pin_table.specs.Known.{turn_serials}
 use Rattle.chain_meaning.specs.declared.served.Served.{Served}
 use Rattle.chain_meaning.specs.declared.served.Served.TheVariants.{Reply, Silent, NoMemory}
 use Rattle.chain_meaning.specs.Serving.{Serves}
-use Rattle.chain_build.specs.declared.chain.Chain.{Chain}
-use Rattle.chain_build.specs.{chain_identity, chain_log, plans_of}
+use Rattle.chain_build.specs.{OwnChain}
+use Rattle.chain_build.specs.{chain_identity, chain_log, ground_of, plans_of, terms_in}
+use Rattle.chain_meaning.specs.{Ground}
+use Rattle.extra_stock.specs.{all_pass, all_taken}
 use Rattle.query_worker.specs.declared.worker.Tally.{Tally}
 use Rattle.query_worker.specs.declared.worker.Worker.{Worker}
 use Rattle.query_worker.specs.Tally.{IsIdle}
 use Rattle.run_meaning.specs.Turn.{Turn, failed, unread, replied, silenced, starved, marks_of}
 
 -- the serials that a pass has pinned, the last one first
-abbrev pub pinned_by : PassView Chain → List ℕ
+abbrev pub pinned_by : PassView OwnChain → List ℕ
 pinned_by pass = turn_serials pass.turns
 
 -- a pin that has ended: its serial, and its chain as it was given and as it came home
 abbrev pub PastPin : Type 0
-PastPin = views.Turn Chain
+PastPin = views.Turn OwnChain
 
 -- one of these pins, and a fact of it
 abbrev pub OfPin : List PastPin → (PastPin → Type 0) → Type 0
 OfPin [] P = ⊥
 OfPin (pin ∷ pins) P = P pin ⊎ OfPin pins P
 
--- the pin has this serial, and by its chain's bundle and port this is what a datagram means, with
+-- the pin has this serial, and by its chain's bundle and basis this is what a datagram means, with
 -- these marks
 abbrev pub IsPinFor : ℕ → Datagram → List Mark → Served → PastPin → Type 0
 IsPinFor serial d marks served pin =
     (pin.serial ≡ serial)
-    × Serves (plans_of pin.given).bundle (plans_of pin.given).default_port d marks served
+    × Serves (plans_of pin.given).bundle (terms_in all_taken all_pass (plans_of pin.given)) d marks
+    served
 
 -- the turn took a datagram under this pin, and did what the pin's chain means
 abbrev pub IsByPin : PastPin → Turn → Type 0
@@ -85,31 +88,31 @@ last_seen (serial ∷ earlier) = serial
 
 -- what a worker counted is what its pass shows: each datagram has its pin, and the pass has seen
 -- just the last one's serial, or whatever it had where there is none
-pub record CountsPins (tally : Tally) (pass : PassView Chain) : Type 0 where
+pub record CountsPins (tally : Tally) (pass : PassView OwnChain) : Type 0 where
   pub pins : length pass.turns ≡ tally.pins
   pub seen : tally.seen ≡ last_seen (pinned_by pass)
   pub last : 0 < tally.pins → pass.seen ≡ tally.seen + 1
   pub none : tally.pins ≡ 0 → tally.seen ≡ 0
   pub within : tally.seen + 1 ≤ pass.seen
 
--- the chain of the pin is of the bundle that was published with its serial, for this port
-abbrev pub IsOf : List Bundle → ℕ → PastPin → Type 0
-IsOf bundles default_port pin =
+-- the chain of the pin is of the bundle that was published with its serial, on this basis
+abbrev pub IsOf : List Bundle → Ground → PastPin → Type 0
+IsOf bundles basis pin =
     (slice_get bundles pin.serial ≡ Some (plans_of pin.given).bundle)
-    × ((plans_of pin.given).default_port ≡ default_port)
+    × (ground_of (plans_of pin.given) ≡ basis)
 
 -- the chain of each pin is
-abbrev pub AreOf : List Bundle → ℕ → List PastPin → Type 0
-AreOf bundles default_port pins = AllByRecursion (IsOf bundles default_port) pins
+abbrev pub AreOf : List Bundle → Ground → List PastPin → Type 0
+AreOf bundles basis pins = AllByRecursion (IsOf bundles basis) pins
 
 -- the pass is this table's, holds no pin, and gave each chain home as the one that it was
-pub record IsResting (table : PinTable Chain) (pass : Pass Chain) : Type 0 where
+pub record IsResting (table : PinTable OwnChain) (pass : Pass OwnChain) : Type 0 where
   pub own : IsPassOf table pass
   pub idle : (pass_of pass).held ≡ None
   pub kept : Keeps chain_identity chain_log (pass_of pass).turns
 
 -- a worker that has done nothing yet, by a pass that has pinned nothing and has seen a generation
-pub record IsReady {S : Type 0} (table : PinTable Chain) (worker : Worker S) : Type 0 where
+pub record IsReady {S : Type 0} (table : PinTable OwnChain) (worker : Worker S) : Type 0 where
   pub rests : IsResting table worker.pass
   pub unused : (pass_of worker.pass).turns ≡ []
   pub settled : (pass_of worker.pass).taken ≡ None

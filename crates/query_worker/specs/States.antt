@@ -2,7 +2,7 @@
 use Rattle.outside.specs.States.{SideState}
 use Rattle.pin_table.specs.declared.views.PassView.{PassView}
 use Rattle.pin_table.specs.{pass_of}
-use Rattle.chain_build.specs.declared.chain.Chain.{Chain}
+use Rattle.chain_build.specs.{OwnChain}
 use Rattle.query_worker.specs.declared.worker.Tally.{Tally}
 use Rattle.run_meaning.specs.declared.work_end.WorkEnd.{WorkEnd}
 use Rattle.query_worker.specs.declared.worker.Worker.{Worker}
@@ -11,7 +11,7 @@ use Rattle.run_meaning.specs.Workers.{Worked}
 -- a worker: its side, what its pass knows, and what it has counted
 pub record WorkerState : Type 0 where
   pub side : SideState
-  pub pass : PassView Chain
+  pub pass : PassView OwnChain
   pub tally : Tally
 
 abbrev pub worker_state : {S : Type 0} → (S → SideState) → Worker S → WorkerState

@@ -11,7 +11,7 @@ use Rattle.pin_table.specs.declared.views.PassView.{PassView}
 use Rattle.pin_table.specs.Steps.{idle_pass}
 use Rattle.chain_meaning.specs.declared.served.Served.{Served}
 use Rattle.chain_meaning.specs.declared.served.Served.TheVariants.{Reply, Silent, NoMemory}
-use Rattle.chain_build.specs.declared.chain.Chain.{Chain}
+use Rattle.chain_build.specs.{OwnChain, chain_identity}
 use Rattle.query_worker.specs.declared.turn.Turned.{Turned}
 use Rattle.query_worker.specs.declared.turn.Turned.TheVariants as turned
 use Rattle.run_meaning.specs.declared.work_end.WorkEnd.{WorkEnd}
@@ -22,25 +22,27 @@ use Rattle.query_worker.specs.Tally.{TurnEnds, tallied}
 use Rattle.run_meaning.specs.Turn.{Turn, marks_of, starved_in}
 use Rattle.run_meaning.specs.Workers.{WorkerRun}
 
--- a pin that gave this chain, which came home as it was
-abbrev pub pin_of : ℕ → Chain → PastPin
-pin_of serial chain = record { serial = serial; given = chain; home = chain }
+-- a pin that gave this chain, and how it came home
+abbrev pub pin_of : ℕ → OwnChain → OwnChain → PastPin
+pin_of serial given home = record { serial = serial; given = given; home = home }
 
 -- the marks of a turn with a datagram, which took it under a pin of its own, of a serial that is
 -- not older than what the pass had seen; and how often it met want of memory
-pub record TakesOne (before after : PassView Chain) (serial want : ℕ) (marks : List Mark)
+pub record TakesOne (before after : PassView OwnChain) (serial want : ℕ) (marks : List Mark)
     : Type 0 where
   pub turn : Turn
   pub told : marks ≡ marks_of turn
-  pub chain : Chain
-  pub by_pin : IsByPin (pin_of serial chain) turn
+  pub chain : OwnChain
+  pub home : OwnChain
+  pub same : chain_identity home ≡ chain_identity chain
+  pub by_pin : IsByPin (pin_of serial chain home) turn
   pub newest : before.seen ≤ serial + 1
   pub pass : after
-      ≡ idle_pass before.worker (pin_of serial chain ∷ before.turns) (serial + 1)
+      ≡ idle_pass before.worker (pin_of serial chain home ∷ before.turns) (serial + 1)
   pub starved_are : starved_in turn ≡ want
 
 -- the marks of one turn, and what the pass knows behind it, by what it came to
-abbrev pub AddsTurn : PassView Chain → PassView Chain → Turned → List Mark → Type 0
+abbrev pub AddsTurn : PassView OwnChain → PassView OwnChain → Turned → List Mark → Type 0
 AddsTurn before after (turned.Answered serial) marks = TakesOne before after serial 0 marks
 AddsTurn before after (turned.Starved serial) marks = TakesOne before after serial 1 marks
 AddsTurn before after turned.RecvFailed marks = (marks ≡ RecvFailed ∷ []) × (after ≡ before)

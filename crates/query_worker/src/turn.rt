@@ -9,7 +9,7 @@ ghost use Rattle.pin_table.specs.{IsPassOf, IsPinnedOn, SamePass, pass_of};
 ghost use Rattle.query_worker.specs.Pins.{IsResting};
 ghost use Rattle.query_worker.specs.Worker.{AddsTurn, IsOfDatagram, SendsServed};
 
-use chain_build::{Chain, Room, serve};
+use chain_build::{OwnChain, Room, serve};
 use chain_meaning::Served;
 use outside::{Datagram, Received, Seen, Side};
 use pin_table::{Pass, Pin, PinTable};
@@ -32,8 +32,8 @@ pub enum Turned {
 pub fn take_turn<S: Side>(
     alloc: Global,
     side: &mut S,
-    pass: &mut Pass<Chain>,
-    table: &PinTable<Chain>,
+    pass: &mut Pass<OwnChain>,
+    table: &PinTable<OwnChain>,
     room: &mut Room,
 ) -> Turned
     requires rests { IsResting table.now pass.old }
@@ -63,8 +63,8 @@ pub fn take_turn<S: Side>(
 fn answer<S: Side>(
     alloc: Global,
     side: &mut S,
-    pass: &mut Pass<Chain>,
-    table: &PinTable<Chain>,
+    pass: &mut Pass<OwnChain>,
+    table: &PinTable<OwnChain>,
     datagram: &Datagram,
     room: &mut Room,
 ) -> Turned
@@ -78,9 +78,9 @@ fn answer<S: Side>(
     ensures rests { IsResting table.now pass.new }
     ensures datagram { IsOfDatagram result }
 {
-    let (serial, chain) = pin(table, pass);
+    let (serial, mut chain) = pin(table, pass);
     side.saw(Seen::Pinned(serial));
-    let served = serve(alloc, &chain, datagram, side, room);
+    let served = serve(alloc, &mut chain, datagram, side, room);
     let turned = send(side, pass, serial, served, room);
     table.unpin(pass, chain);
     show_unpinned(side, pass, serial);
@@ -89,7 +89,7 @@ fn answer<S: Side>(
 
 // Pins the current generation, and gives its serial and this worker's chain of it.
 #[inline]
-fn pin(table: &PinTable<Chain>, pass: &mut Pass<Chain>) -> (u64, Chain)
+fn pin(table: &PinTable<OwnChain>, pass: &mut Pass<OwnChain>) -> (u64, OwnChain)
     requires own { IsPassOf table.now pass.old }
     requires idle { (pass_of pass.old).held ≡ None }
     requires few { length (pass_of pass.old).turns < limits.TURNS }
@@ -104,7 +104,7 @@ fn pin(table: &PinTable<Chain>, pass: &mut Pass<Chain>) -> (u64, Chain)
 
 // Shows the side that the pin of this serial has ended: the pass holds none any more.
 #[inline]
-fn show_unpinned<S: Side>(side: &mut S, pass: &Pass<Chain>, serial: u64)
+fn show_unpinned<S: Side>(side: &mut S, pass: &Pass<OwnChain>, serial: u64)
     requires ended { (pass_of pass.now).held ≡ None }
     ensures told { Adds (S.state side.old) (S.state side.new) (Unpinned serial ∷ []) }
     ensures stays { Stays (S.state side.old) (S.state side.new) }
@@ -116,7 +116,7 @@ fn show_unpinned<S: Side>(side: &mut S, pass: &Pass<Chain>, serial: u64)
 // next one. A reply that didn't go out ends nothing: the client asks again.
 fn send<S: Side>(
     side: &mut S,
-    pass: &Pass<Chain>,
+    pass: &Pass<OwnChain>,
     serial: u64,
     served: Served,
     room: &mut Room,

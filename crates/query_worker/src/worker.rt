@@ -2,7 +2,7 @@ ghost use Rattle.dns_data.specs.declared.limit.TheConstants as limits;
 ghost use Rattle.std.specs.Prelude.{◌≡◌, ◌<◌};
 ghost use Rattle.query_worker.specs.Tally.{DatagramEnds, IsIdle, RowEnds, with_datagram, with_miss};
 
-use chain_build::{Chain, Room};
+use chain_build::{OwnChain, Room};
 use dns_data::limit;
 use pin_table::Pass;
 use run_meaning::WorkEnd;
@@ -61,14 +61,14 @@ impl Tally {
 #[derive(Drop)]
 pub struct Worker<S> {
     pub side: S,
-    pub pass: Pass<Chain>,
+    pub pass: Pass<OwnChain>,
     pub tally: Tally,
     pub room: Room,
 }
 
 impl<S> Worker<S> {
     /// A worker that has done nothing yet.
-    pub fn new(alloc: Global, side: S, pass: Pass<Chain>) -> Worker<S>
+    pub fn new(alloc: Global, side: S, pass: Pass<OwnChain>) -> Worker<S>
         ensures side { result.side ≡ side }
         ensures pass { result.pass ≡ pass }
         ensures idle { IsIdle result.tally }

@@ -7,7 +7,7 @@ ghost use Rattle.query_worker.specs.Worker.{TakesTurn, WorksToEnd};
 
 use crate::turn::{Turned, take_turn};
 use crate::worker::Worker;
-use chain_build::Chain;
+use chain_build::OwnChain;
 use outside::Side;
 use pin_table::PinTable;
 use run_meaning::WorkEnd;
@@ -19,7 +19,7 @@ pub fn work<R: Wait, S: Side>(
     rt: &R,
     alloc: Global,
     worker: &mut Worker<S>,
-    table: &PinTable<Chain>,
+    table: &PinTable<OwnChain>,
     most: u64,
 ) -> WorkEnd
     requires ready { IsReady table.now worker.old }
@@ -43,7 +43,7 @@ pub fn work<R: Wait, S: Side>(
 pub fn work_once<S: Side>(
     alloc: Global,
     worker: &mut Worker<S>,
-    table: &PinTable<Chain>,
+    table: &PinTable<OwnChain>,
     most: u64,
 ) -> Option<WorkEnd>
     requires rests { IsResting table.now worker.old.pass }

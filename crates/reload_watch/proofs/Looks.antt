@@ -7,7 +7,9 @@ use Rattle.outside.specs.WatchMarks.{AddsWatch}
 use Rattle.corefile_blocks.specs.declared.bundle.Bundle.{Bundle}
 use Rattle.corefile_bundle.specs.declared.fault.GatherFault.{GatherFault}
 use Rattle.corefile_bundle.specs.Gathering.{Source, TellsGathering, marks_of}
-use Rattle.chain_build.specs.{PlansData}
+use Rattle.chain_build.specs.{PlansData, terms_in}
+use Rattle.chain_meaning.specs.{Ground, terms_on}
+use Rattle.extra_stock.specs.{all_pass, all_taken}
 use Rattle.run_meaning.specs.declared.looking.Looking.{Looking}
 use Rattle.run_meaning.specs.declared.looking.Looking.TheVariants as looking
 use Rattle.chain_meaning.specs.Accepting.{IsAccepted}
@@ -71,8 +73,8 @@ kept_looks source old before mid after gives looking.NoMemory result again read 
   | inr w ↦ rw w.0 (starves again read w.1)
 ]
 
-accepted_next : (current : PlansData) (gives : Result Bundle GatherFault) (plans : PlansData) → IsNext current gives plans → IsAccepted current.default_port plans.bundle plans.blocks
-accepted_next current gives plans next = subst (λ (p : ℕ). IsAccepted p plans.bundle plans.blocks) next.port next.are.accepted
+accepted_next : (current : PlansData) (gives : Result Bundle GatherFault) (plans : PlansData) → IsNext current gives plans → IsAccepted (terms_in all_taken all_pass current) plans.bundle plans.blocks
+accepted_next current gives plans next = subst (λ (g : Ground). IsAccepted (terms_on all_taken all_pass g) plans.bundle plans.blocks) next.basis next.are.are.accepted
 
 -- a chain that is to serve next, and what its publication came to
 pub next_looks : (source : Source) (old new : Serving) (before mid after : WatchState) (gives : Result Bundle GatherFault) (plans : PlansData) (result : Looking) → reloads old.plans.blocks ≡ true

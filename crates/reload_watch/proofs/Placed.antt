@@ -6,7 +6,7 @@ use Rattle.std.proofs.lemmas.List.{get_or-map, get_or-set_other, get_or-set_same
 use Rattle.std.proofs.Math.ListN.{get_or-append}
 use Rattle.std.proofs.Math.Seq.{get_or-append_seam}
 use Rattle.std.proofs.lemmas.List.{length_push}
-use Rattle.chain_build.specs.declared.chain.Chain.{Chain}
+use Rattle.chain_build.specs.{OwnChain}
 use Rattle.pin_core.specs.declared.slots.TheConstants.{SLOTS}
 use Rattle.pin_core.specs.declared.slots.Phase.{Phase}
 use Rattle.pin_core.specs.declared.slots.Phase.TheVariants.{Free, Filling, Current, Replaced}
@@ -32,7 +32,7 @@ busy (Current pins) is = refl
 busy (Replaced total ready drained) is = refl
 
 -- two replaced slots have different serials
-pub apart : (p : Plan Chain) → IsPlaced p → (i j : ℕ) → i < j → j < SLOTS → is_replaced (plan_slot p i).phase ≡ true → is_replaced (plan_slot p j).phase ≡ true
+pub apart : (p : Plan OwnChain) → IsPlaced p → (i j : ℕ) → i < j → j < SLOTS → is_replaced (plan_slot p i).phase ≡ true → is_replaced (plan_slot p j).phase ≡ true
     → serial_at p.past.serials i ≢ serial_at p.past.serials j
 apart p is i j less low one two = λ same.
     let first = is.placed i (omega (arith, less, low)) (busy (plan_slot p i).phase one) in
@@ -41,7 +41,7 @@ apart p is i j less low one two = λ same.
     omega (arith, e, less)
 
 -- a slot that is free again
-placed_retired : (p : Plan Chain) (slot found : ℕ) (chains : List Chain) → slot < SLOTS → IsPlaced p → IsPlaced (retired_plan p slot found chains)
+placed_retired : (p : Plan OwnChain) (slot found : ℕ) (chains : List OwnChain) → slot < SLOTS → IsPlaced p → IsPlaced (retired_plan p slot found chains)
 placed_retired p slot found chains low is = record {
   each_serial = is.each_serial;
   each_slot = length-set p.slots slot (free_again (plan_slot p slot)) ∙ is.each_slot;
@@ -57,7 +57,7 @@ placed_retired p slot found chains low is = record {
 }
 
 -- behind a sweep
-placed_swept : (p : Plan Chain) (slot : ℕ) (home : List Chain) (x : Swept) (home' : List Chain) (p' : Plan Chain) → slot < SLOTS → IsSwept p slot home x home' p' → IsPlaced p → IsPlaced p'
+placed_swept : (p : Plan OwnChain) (slot : ℕ) (home : List OwnChain) (x : Swept) (home' : List OwnChain) (p' : Plan OwnChain) → slot < SLOTS → IsSwept p slot home x home' p' → IsPlaced p → IsPlaced p'
 placed_swept p slot home swept.Retired home' p' low swept is = subst IsPlaced (sym swept.then) (placed_retired p slot swept.found swept.chains low is)
 placed_swept p slot home (swept.NotYet ended total) home' p' low swept is =
     let same : IsPlaced (swept_plan p slot ended) = record { each_serial = is.each_serial; each_slot = is.each_slot; placed = is.placed } in
@@ -66,7 +66,7 @@ placed_swept p slot home swept.Current home' p' low swept is = subst IsPlaced (s
 placed_swept p slot home swept.Bare home' p' low swept is = subst IsPlaced (sym swept.2) is
 
 -- behind a search
-pub placed_freed : (p : Plan Chain) (home : List Chain) (answer : FreeSlot) (home' : List Chain) (p' : Plan Chain) → IsFreed p home answer home' p' → IsPlaced p → IsPlaced p'
+pub placed_freed : (p : Plan OwnChain) (home : List OwnChain) (answer : FreeSlot) (home' : List OwnChain) (p' : Plan OwnChain) → IsFreed p home answer home' p' → IsPlaced p → IsPlaced p'
 placed_freed p home answer home' p' freed is =
     let low_c = freed.order.2 in
     let low_b : freed.b < SLOTS = let l = freed.order.1 in omega (arith, l, low_c) in
@@ -106,7 +106,7 @@ at_published slots serials published slot pins v u low four_serials four old i w
 long_published : (slots : List Slot) (slot pins : ℕ) (v u : Slot) → length slots ≡ SLOTS → length (set (map (retired pins) (set slots slot v)) slot u) ≡ SLOTS
 long_published slots slot pins v u four = length-set (map (retired pins) (set slots slot v)) slot u ∙ length-map (set slots slot v) (retired pins) ∙ length-set slots slot v ∙ four
 
-pub placed_published : (p : Plan Chain) (slot : ℕ) (chains : List Chain) (found : ℕ) → slot < SLOTS → IsPlaced p → IsPlaced (next_plan p slot chains found)
+pub placed_published : (p : Plan OwnChain) (slot : ℕ) (chains : List OwnChain) (found : ℕ) → slot < SLOTS → IsPlaced p → IsPlaced (next_plan p slot chains found)
 placed_published p slot chains found low is = record {
   each_serial = length-set p.past.serials slot (length p.past.published) ∙ is.each_serial;
   each_slot = long_published p.slots slot _ _ _ is.each_slot;

@@ -7,6 +7,7 @@ use Rattle.corefile_bundle.specs.declared.fault.GatherFault.{GatherFault}
 use Rattle.corefile_bundle.specs.declared.fault.GatherFault.TheVariants as unread
 use Rattle.corefile_bundle.specs.Gathering.{Source, TellsGathering}
 use Rattle.chain_build.specs.{PlansData}
+use Rattle.chain_meaning.specs.{Ground}
 use Rattle.reload_watch.specs.declared.found.Found.TheVariants.{Kept}
 use Rattle.reload_watch.specs.Faults.{answer_to, read_fault}
 use Rattle.reload_watch.specs.Going.{found_behind, refusals_first}
@@ -14,13 +15,13 @@ use Rattle.reload_watch.specs.Look.{Finds}
 use Rattle.reload_watch.specs.Opening.{ReadsFirst}
 
 -- of the first reading
-pub first_fails : (source : Source) (port : ℕ) (old new : WatchState) (f : GatherFault) → TellsGathering source old new (Err f)
+pub first_fails : (source : Source) (basis : Ground) (old new : WatchState) (f : GatherFault) → TellsGathering source old new (Err f)
     → ((name : List ℕ) → ◌≡◌ {A = Result Bundle GatherFault} (Err f) (Err (unread.ReadFailed name)) → Rose old.counts.reads new.counts.reads)
-    → ReadsFirst source port old new (Err (read_fault f))
-first_fails source port old new unread.NoCorefile tells rose = record { gives = Err unread.NoCorefile; tells = tells; is = refl }
-first_fails source port old new (unread.ReadFailed name) tells rose = (tells, rose name refl)
-first_fails source port old new (unread.TooMany what number) tells rose = record { gives = Err (unread.TooMany what number); tells = tells; is = refl }
-first_fails source port old new unread.NoMemory tells rose = record { gives = Err unread.NoMemory; tells = tells; is = tt }
+    → ReadsFirst source basis old new (Err (read_fault f))
+first_fails source basis old new unread.NoCorefile tells rose = record { gives = Err unread.NoCorefile; tells = tells; is = refl }
+first_fails source basis old new (unread.ReadFailed name) tells rose = (tells, rose name refl)
+first_fails source basis old new (unread.TooMany what number) tells rose = record { gives = Err (unread.TooMany what number); tells = tells; is = refl }
+first_fails source basis old new unread.NoMemory tells rose = record { gives = Err unread.NoMemory; tells = tells; is = tt }
 
 -- it refused no pattern
 pub first_refuses : (f : GatherFault) (n : ℕ) → refusals_first {X = PlansData} (Err (read_fault f)) n ≡ n

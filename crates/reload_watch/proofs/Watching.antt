@@ -15,8 +15,10 @@ use Rattle.corefile_blocks.specs.declared.bundle.Bundle.{Bundle}
 use Rattle.corefile_bundle.specs.declared.fault.GatherFault.{GatherFault}
 use Rattle.corefile_bundle.specs.Gathering.{GathersFrom, OneRead, Source}
 use Rattle.chain_meaning.specs.Accepting.{IsAccepted}
-use Rattle.chain_build.specs.declared.chain.Chain.{Chain}
-use Rattle.chain_build.specs.{ArePlans, PlansData, plans_of}
+use Rattle.chain_build.specs.{OwnChain}
+use Rattle.chain_build.specs.{AreOwnPlans, PlansData, ground_of, plans_of}
+use Rattle.chain_meaning.specs.{Ground, Terms, terms_on}
+use Rattle.extra_stock.specs.{all_pass, all_taken}
 use Rattle.run_meaning.specs.declared.looking.Looking.{Looking}
 use Rattle.run_meaning.specs.declared.looking.Looking.TheVariants as looking
 use Rattle.reload_watch.specs.Filled.{AreFilledBy, EndsWith, IsOf}
@@ -48,13 +50,17 @@ starved_in-push : (looks : List WatchTurn) (look : WatchTurn) → all_starved (l
 starved_in-push [] look = omega arith
 starved_in-push (l ∷ looks) look = omega (arith, starved_in-push looks look)
 
-looks-push : (source : Source) (default_port : ℕ) (bundles : List Bundle) (looks : List WatchTurn) (look : WatchTurn) → AreLooks source default_port bundles looks
-    → IsLook source default_port (bundles ++ flat_map published_by looks) look → AreLooks source default_port bundles (looks ++ look ∷ [])
-looks-push source default_port bundles [] look are is = (subst (λ (b : List Bundle). IsLook source default_port b look) (append-nil bundles) is, tt)
-looks-push source default_port bundles (l ∷ looks) look are is =
+-- the terms of a basis
+abbrev on : Ground → Terms
+on basis = terms_on all_taken all_pass basis
+
+looks-push : (source : Source) (terms : Terms) (bundles : List Bundle) (looks : List WatchTurn) (look : WatchTurn) → AreLooks source terms bundles looks
+    → IsLook source terms (bundles ++ flat_map published_by looks) look → AreLooks source terms bundles (looks ++ look ∷ [])
+looks-push source terms bundles [] look are is = (subst (λ (b : List Bundle). IsLook source terms b look) (append-nil bundles) is, tt)
+looks-push source terms bundles (l ∷ looks) look are is =
     let same : bundles ++ flat_map published_by (l ∷ looks) ≡ (bundles ++ published_by l) ++ flat_map published_by looks =
     ap (λ (b : List Bundle). bundles ++ b) (flat_map-cons published_by l looks) ∙ sym (append_assoc bundles (published_by l) (flat_map published_by looks)) in
-    (are.0, looks-push source default_port (bundles ++ published_by l) looks look are.1 (subst (λ (b : List Bundle). IsLook source default_port b look) same is))
+    (are.0, looks-push source terms (bundles ++ published_by l) looks look are.1 (subst (λ (b : List Bundle). IsLook source terms b look) same is))
 
 -- what was swept for a turn is known later too
 swept_for_more : (before after : List Sweep) (n : ℕ) (answer : Looking) → KeepsSweeps before after → SweptFor before n answer → SweptFor after n answer
@@ -100,46 +106,46 @@ length-more [] item = refl
 length-more (i ∷ items) item = omega (arith, length-more items item)
 
 -- one generation more
-filled-push : (bundles : List Bundle) (bundle : Bundle) (port : ℕ) (filled : List (List Chain)) (chains : List Chain) → AreFilledBy bundles port filled → All (IsOf bundle port) chains
-    → AreFilledBy (bundles ++ bundle ∷ []) port (filled ++ chains ∷ [])
-filled-push [] bundle port [] chains are all = (all, tt)
-filled-push [] bundle port (cs ∷ css) chains are all = absurd are
-filled-push (b ∷ bundles) bundle port [] chains are all = absurd are
-filled-push (b ∷ bundles) bundle port (cs ∷ css) chains are all = (are.0, filled-push bundles bundle port css chains are.1 all)
+filled-push : (bundles : List Bundle) (bundle : Bundle) (basis : Ground) (filled : List (List OwnChain)) (chains : List OwnChain) → AreFilledBy bundles basis filled → All (IsOf bundle basis) chains
+    → AreFilledBy (bundles ++ bundle ∷ []) basis (filled ++ chains ∷ [])
+filled-push [] bundle basis [] chains are all = (all, tt)
+filled-push [] bundle basis (cs ∷ css) chains are all = absurd are
+filled-push (b ∷ bundles) bundle basis [] chains are all = absurd are
+filled-push (b ∷ bundles) bundle basis (cs ∷ css) chains are all = (are.0, filled-push bundles bundle basis css chains are.1 all)
 
 -- chains that serve by these plans serve by their bundle
-of_plans : (plans : PlansData) (bundle : Bundle) (port : ℕ) (chains : List Chain) → plans.bundle ≡ bundle → plans.default_port ≡ port → All (λ chain. plans_of chain ≡ plans) chains → All (IsOf bundle port) chains
-of_plans plans bundle port chains b p all =
-    All-weaker (λ (chain : Chain). plans_of chain ≡ plans) (IsOf bundle port)
-    (λ chain e. record { bundle_is = ap (λ (x : PlansData). x.bundle) e ∙ b; port_is = ap (λ (x : PlansData). x.default_port) e ∙ p }) chains all
+of_plans : (plans : PlansData) (bundle : Bundle) (basis : Ground) (chains : List OwnChain) → plans.bundle ≡ bundle → ground_of plans ≡ basis → All (λ chain. plans_of chain ≡ plans) chains → All (IsOf bundle basis) chains
+of_plans plans bundle basis chains b p all =
+    All-weaker (λ (chain : OwnChain). plans_of chain ≡ plans) (IsOf bundle basis)
+    (λ chain e. record { bundle_is = ap (λ (x : PlansData). x.bundle) e ∙ b; ground_is = ap ground_of e ∙ p }) chains all
 
-first_filled : (plans : PlansData) (earlier : List (List Chain)) (chains : List Chain) → length (earlier ++ chains ∷ []) ≡ 1 → All (λ chain. plans_of chain ≡ plans) chains
-    → AreFilledBy (plans.bundle ∷ []) plans.default_port (earlier ++ chains ∷ [])
-first_filled plans [] chains one all = (of_plans plans plans.bundle plans.default_port chains refl refl all, tt)
+first_filled : (plans : PlansData) (earlier : List (List OwnChain)) (chains : List OwnChain) → length (earlier ++ chains ∷ []) ≡ 1 → All (λ chain. plans_of chain ≡ plans) chains
+    → AreFilledBy (plans.bundle ∷ []) (ground_of plans) (earlier ++ chains ∷ [])
+first_filled plans [] chains one all = (of_plans plans plans.bundle (ground_of plans) chains refl refl all, tt)
 first_filled plans (cs ∷ earlier) chains one all = absurd (omega (arith, length-more earlier chains, one))
 
 -- what a watcher did since its watch stood at old: these looks, behind which this serves
-pub record HasWatched (source : Source) (default_port : ℕ) (first : Bundle) (looks : List WatchTurn) (old new : WatchState) (g : Serving) (was starving : ℕ) : Type 0 where
+pub record HasWatched (source : Source) (p : Ground) (first : Bundle) (looks : List WatchTurn) (old new : WatchState) (g : Serving) (was starving : ℕ) : Type 0 where
   pub told : AddsWatch old new (flat_map watch_marks looks)
-  pub are : AreLooks source default_port (first ∷ []) looks
+  pub are : AreLooks source (on p) (first ∷ []) looks
   pub count : length (bundles_of first looks) ≡ g.published
   pub earlier : List Bundle
   pub last : bundles_of first looks ≡ earlier ++ g.plans.bundle ∷ []
-  pub port : g.plans.default_port ≡ default_port
-  pub is : ArePlans g.plans
-  pub filled : AreFilledBy (bundles_of first looks) default_port g.filled
+  pub port : ground_of g.plans ≡ p
+  pub is : AreOwnPlans g.plans
+  pub filled : AreFilledBy (bundles_of first looks) p g.filled
   pub starved : RoseJust (all_starved looks) was starving
   pub refused : RoseWithin (all_refused looks) (all_starved looks) old.refusals new.refusals
 
 -- a further look
-extends : {source : Source} {p : ℕ} {first : Bundle} {looks : List WatchTurn} {a b c : WatchState} {g h : Serving} {was had has : ℕ} (look : WatchTurn) (earlier : List Bundle)
-    → HasWatched source p first looks a b g was had → AddsWatch b c (watch_marks look) → IsLook source p (bundles_of first looks) look
+extends : {source : Source} {p : Ground} {first : Bundle} {looks : List WatchTurn} {a b c : WatchState} {g h : Serving} {was had has : ℕ} (look : WatchTurn) (earlier : List Bundle)
+    → HasWatched source p first looks a b g was had → AddsWatch b c (watch_marks look) → IsLook source (on p) (bundles_of first looks) look
     → length (bundles_of first looks ++ published_by look) ≡ h.published → bundles_of first looks ++ published_by look ≡ earlier ++ h.plans.bundle ∷ []
-    → h.plans.default_port ≡ p → ArePlans h.plans → AreFilledBy (bundles_of first looks ++ published_by look) p h.filled → RoseJust (look_starved look) had has
+    → ground_of h.plans ≡ p → AreOwnPlans h.plans → AreFilledBy (bundles_of first looks ++ published_by look) p h.filled → RoseJust (look_starved look) had has
     → RoseWithin (look_refused look) (look_starved look) b.refusals c.refusals → HasWatched source p first (looks ++ look ∷ []) a c h was has
 extends {source} {p} {first} {looks} {a} {b} {c} {g} {h} {was} {had} {has} look earlier w adds is count last port plans filled starved_in refused_in = record {
   told = subst (AddsWatch a c) (sym (watch_marks-push looks look)) (watch-adds-then w.told adds);
-  are = looks-push source p (first ∷ []) looks look w.are is;
+  are = looks-push source (on p) (first ∷ []) looks look w.are is;
   count = ap length (bundles-push first looks look) ∙ count;
   earlier = earlier;
   last = bundles-push first looks look ∙ last;
@@ -157,19 +163,19 @@ extends {source} {p} {first} {looks} {a} {b} {c} {g} {h} {was} {had} {has} look 
 }
 
 -- what is known of what serves, as a look needs it
-looked_of : {source : Source} {p : ℕ} {first : Bundle} {looks : List WatchTurn} {a b : WatchState} {g : Serving} {was had : ℕ} (gives : Result Bundle GatherFault) (answer : Looking)
+looked_of : {source : Source} {p : Ground} {first : Bundle} {looks : List WatchTurn} {a b : WatchState} {g : Serving} {was had : ℕ} (gives : Result Bundle GatherFault) (answer : Looking)
     → HasWatched source p first looks a b g was had → reloads g.plans.blocks ≡ true → AnswersLook (standing_of g.plans g.published) gives answer
-    → IsLooked p (bundles_of first looks) (times_of g.plans.blocks) (λ last blocks. AnswersLook (record { default_port = p; bundle = last; blocks = blocks; published = length (bundles_of first looks) }) gives answer)
+    → IsLooked (on p) (bundles_of first looks) (times_of g.plans.blocks) (λ last blocks. AnswersLook (record { terms = on p; bundle = last; blocks = blocks; published = length (bundles_of first looks) }) gives answer)
 looked_of {source} {p} {first} {looks} {g = g} gives answer w again answers = record {
   before = w.earlier;
   last = g.plans.bundle;
   last_is = w.last;
   blocks = g.plans.blocks;
-  accepted = subst (λ (q : ℕ). IsAccepted q g.plans.bundle g.plans.blocks) w.port w.is.accepted;
+  accepted = subst (λ (q : Ground). IsAccepted (on q) g.plans.bundle g.plans.blocks) w.port w.is.are.accepted;
   again = again;
   at = refl;
-  is = subst (λ (n : ℕ). AnswersLook (record { default_port = p; bundle = g.plans.bundle; blocks = g.plans.blocks; published = n }) gives answer) (sym w.count)
-      (subst (λ (q : ℕ). AnswersLook (record { default_port = q; bundle = g.plans.bundle; blocks = g.plans.blocks; published = g.published }) gives answer) w.port answers);
+  is = subst (λ (n : ℕ). AnswersLook (record { terms = on p; bundle = g.plans.bundle; blocks = g.plans.blocks; published = n }) gives answer) (sym w.count)
+      (subst (λ (q : Ground). AnswersLook (record { terms = on q; bundle = g.plans.bundle; blocks = g.plans.blocks; published = g.published }) gives answer) w.port answers);
 }
 
 -- the wait for a look at what serves
@@ -181,14 +187,14 @@ abbrev IsTurnOf : Looking → WatchTurn → Type 0
 IsTurnOf answer look = (sweeps : List Sweep) (n : ℕ) → SweptFor sweeps n answer → IsSweptTurn sweeps n look
 
 -- the looks with one more, which came to this answer
-pub record Again (source : Source) (p : ℕ) (first : Bundle) (looks : List WatchTurn) (a c : WatchState) (h : Serving) (was has : ℕ) (answer : Looking) : Type 0 where
+pub record Again (source : Source) (p : Ground) (first : Bundle) (looks : List WatchTurn) (a c : WatchState) (h : Serving) (was has : ℕ) (answer : Looking) : Type 0 where
   pub look : WatchTurn
   pub of : IsTurnOf answer look
   pub watched : HasWatched source p first (looks ++ look ∷ []) a c h was has
 
 -- a further look behind which nothing else serves
-same_serves : {source : Source} {p : ℕ} {first : Bundle} {looks : List WatchTurn} {a b c : WatchState} {g h : Serving} {was had has : ℕ} (answer : Looking) (look : WatchTurn)
-    → IsTurnOf answer look → HasWatched source p first looks a b g was had → published_by look ≡ [] → h ≡ g → AddsWatch b c (watch_marks look) → IsLook source p (bundles_of first looks) look
+same_serves : {source : Source} {p : Ground} {first : Bundle} {looks : List WatchTurn} {a b c : WatchState} {g h : Serving} {was had has : ℕ} (answer : Looking) (look : WatchTurn)
+    → IsTurnOf answer look → HasWatched source p first looks a b g was had → published_by look ≡ [] → h ≡ g → AddsWatch b c (watch_marks look) → IsLook source (on p) (bundles_of first looks) look
     → RoseJust (look_starved look) had has → RoseWithin (look_refused look) (look_starved look) b.refusals c.refusals
     → Again source p first looks a c h was has answer
 same_serves {source} {p} {first} {looks} {a} {b} {c} {g} {h} {was} {had} {has} answer look of w none same adds is rose refused =
@@ -200,14 +206,14 @@ same_serves {source} {p} {first} {looks} {a} {b} {c} {g} {h} {was} {had} {has} a
       watched = extends look w.earlier w adds is
           (ap length nothing ∙ w.count ∙ ap (λ (x : Serving). x.published) (sym same))
           (nothing ∙ w.last ∙ ap (λ (x : Serving). w.earlier ++ x.plans.bundle ∷ []) (sym same))
-          (ap (λ (x : Serving). x.plans.default_port) same ∙ w.port)
-          (subst (λ (x : Serving). ArePlans x.plans) (sym same) w.is)
+          (ap (λ (x : Serving). ground_of x.plans) same ∙ w.port)
+          (subst (λ (x : Serving). AreOwnPlans x.plans) (sym same) w.is)
           (subst (λ (x : Serving). AreFilledBy (bundles_of first looks ++ published_by look) p x.filled) (sym same) (subst (λ (l : List Bundle). AreFilledBy l p g.filled) (sym nothing) w.filled))
           rose refused;
     }
 
 -- a look that published nothing
-kept : {source : Source} {p : ℕ} {first : Bundle} {looks : List WatchTurn} {a b : WatchState} {g : Serving} {was had : ℕ} (answer : Looking) (mid c : WatchState) (h : Serving) (has : ℕ)
+kept : {source : Source} {p : Ground} {first : Bundle} {looks : List WatchTurn} {a b : WatchState} {g : Serving} {was had : ℕ} (answer : Looking) (mid c : WatchState) (h : Serving) (has : ℕ)
     → HasWatched source p first looks a b g was had → Waits g b mid → (over : LooksOver source g h mid c answer) → published_by (looked (times_of g.plans.blocks) over.reads over.gives answer over.flag) ≡ [] → h ≡ g → has ≡ had
     → RoseWithin (answer_refused answer) 0 b.refusals c.refusals → Again source p first looks a c h was has answer
 kept {g = g} answer mid c h has w waits over none same none_starved refused =
@@ -215,7 +221,7 @@ kept {g = g} answer mid c h has w waits over none same none_starved refused =
     (over.gathers, looked_of over.gives answer w over.again over.answers) (record { least = omega (arith, none_starved); most = omega (arith, none_starved) }) refused
 
 -- a look that published
-published_look : {source : Source} {p : ℕ} {first : Bundle} {looks : List WatchTurn} {a b : WatchState} {g : Serving} {was had : ℕ} (serial : ℕ) (mid c : WatchState) (h : Serving) (has : ℕ) (reads : List OneRead) (gives : Result Bundle GatherFault) (flag : Bool)
+published_look : {source : Source} {p : Ground} {first : Bundle} {looks : List WatchTurn} {a b : WatchState} {g : Serving} {was had : ℕ} (serial : ℕ) (mid c : WatchState) (h : Serving) (has : ℕ) (reads : List OneRead) (gives : Result Bundle GatherFault) (flag : Bool)
     → HasWatched source p first looks a b g was had → Waits g b mid → reloads g.plans.blocks ≡ true → GathersFrom source reads gives → AddsWatch mid c (look_marks reads (looking.Published serial) flag)
     → AnswersLook (standing_of g.plans g.published) gives (looking.Published serial) → ServesGathered g h gives → has ≡ had → c.refusals ≡ b.refusals
     → Again source p first looks a c h was has (looking.Published serial)
@@ -226,15 +232,15 @@ published_look {source} {p} {first} {looks} {a} {b} {g} {was} {had} serial mid c
       (gathers, looked_of (Ok bundle) (looking.Published serial) w again answers)
       (let r = replaces.published in let n = w.count in omega (arith, length-more (bundles_of first looks) bundle, r, n))
       (ap (λ (b : Bundle). bundles_of first looks ++ b ∷ []) (sym replaces.bundle_is))
-      (replaces.port ∙ w.port) replaces.are
+      (replaces.basis ∙ w.port) replaces.are
       (subst (AreFilledBy (bundles_of first looks ++ bundle ∷ []) p) (sym replaces.filled)
-      (filled-push (bundles_of first looks) bundle p g.filled replaces.chains w.filled (of_plans h.plans bundle p replaces.chains replaces.bundle_is (replaces.port ∙ w.port) replaces.serve)))
+      (filled-push (bundles_of first looks) bundle p g.filled replaces.chains w.filled (of_plans h.plans bundle p replaces.chains replaces.bundle_is (replaces.basis ∙ w.port) replaces.serve)))
       (record { least = omega (arith, none_starved); most = omega (arith, none_starved) }) (stays_within 0 b.refusals c.refusals same_refusals);
 }
 published_look serial mid c h has reads (Err fault) flag w waits again gathers told answers replaces none_starved same_refusals = absurd replaces
 
 -- a look that met want of memory
-starved_look : {source : Source} {p : ℕ} {first : Bundle} {looks : List WatchTurn} {a b : WatchState} {g : Serving} {was had : ℕ} (mid c : WatchState) (h : Serving) (has : ℕ)
+starved_look : {source : Source} {p : Ground} {first : Bundle} {looks : List WatchTurn} {a b : WatchState} {g : Serving} {was had : ℕ} (mid c : WatchState) (h : Serving) (has : ℕ)
     → HasWatched source p first looks a b g was had → Waits g b mid → Starves source g h mid c → has ≡ raised had → CountsRefusals looking.NoMemory b.refusals c.refusals
     → Again source p first looks a c h was has looking.NoMemory
 starved_look {source} {p} {first} {looks} {a} {b} {g} {was} {had} mid c h has w waits starves want refused =
@@ -245,14 +251,14 @@ starved_look {source} {p} {first} {looks} {a} {b} {g} {was} {had} mid c h has w 
         last = g.plans.bundle;
         last_is = w.last;
         blocks = g.plans.blocks;
-        accepted = subst (λ (q : ℕ). IsAccepted q g.plans.bundle g.plans.blocks) w.port w.is.accepted;
+        accepted = subst (λ (q : Ground). IsAccepted (on q) g.plans.bundle g.plans.blocks) w.port w.is.are.accepted;
         again = starves.again;
         at = refl;
         is = tt;
       },
     ) (record { least = omega (arith, want); most = omega (arith, want) }) (starved_within b.refusals c.refusals refused)
 
-by_answer : {source : Source} {p : ℕ} {first : Bundle} {looks : List WatchTurn} {a b : WatchState} {g : Serving} {was had : ℕ} (answer : Looking) (mid c : WatchState) (h : Serving) (has : ℕ)
+by_answer : {source : Source} {p : Ground} {first : Bundle} {looks : List WatchTurn} {a b : WatchState} {g : Serving} {was had : ℕ} (answer : Looking) (mid c : WatchState) (h : Serving) (has : ℕ)
     → HasWatched source p first looks a b g was had → Waits g b mid → LooksOnce source g h mid c answer → answer ≢ looking.NoReload
     → has ≡ starved_by answer had → CountsRefusals answer b.refusals c.refusals → Again source p first looks a c h was has answer
 by_answer {b = b} looking.NoReload mid c h has w waits looks made rose refused = absurd (made refl)
@@ -269,7 +275,7 @@ by_answer {b = b} looking.NoMemory mid c h has w waits looks made rose refused =
 -- what a watcher did since the start
 pub record Watched (source : Source) (start now : WatcherState) : Type 0 where
   pub looks : List WatchTurn
-  pub so : HasWatched source start.serving.plans.default_port start.serving.plans.bundle looks start.watch now.watch now.serving start.starved now.starved
+  pub so : HasWatched source (ground_of start.serving.plans) start.serving.plans.bundle looks start.watch now.watch now.serving start.starved now.starved
   pub swept : AreSwept now.sweeps (start.serving.plans.bundle ∷ []) looks
 
 -- a further look, by what the watcher's step came to
@@ -293,7 +299,7 @@ watch-adds-nothing : (state : WatchState) → AddsWatch state state []
 watch-adds-nothing state = record { told = same_journal state.journal }
 
 -- nothing was looked at yet
-pub starts : (source : Source) (start : WatcherState) → ArePlans start.serving.plans → start.serving.published ≡ 1 → length start.serving.filled ≡ 1 → EndsWith start.serving.filled start.serving.plans
+pub starts : (source : Source) (start : WatcherState) → AreOwnPlans start.serving.plans → start.serving.published ≡ 1 → length start.serving.filled ≡ 1 → EndsWith start.serving.filled start.serving.plans
     → Watched source start start
 starts source start is one long ends = record {
   looks = [];
@@ -306,7 +312,7 @@ starts source start is one long ends = record {
     last = refl;
     port = refl;
     is = is;
-    filled = subst (AreFilledBy (start.serving.plans.bundle ∷ []) start.serving.plans.default_port) (sym ends.last_is)
+    filled = subst (AreFilledBy (start.serving.plans.bundle ∷ []) (ground_of start.serving.plans)) (sym ends.last_is)
         (first_filled start.serving.plans ends.earlier ends.chains (sym (ap length ends.last_is) ∙ long) ends.serve);
     starved = record { least = omega arith; most = omega arith };
     refused = stays_within 0 start.watch.refusals start.watch.refusals refl;

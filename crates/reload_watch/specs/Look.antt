@@ -15,8 +15,9 @@ use Rattle.outside.specs.WatchMarks.{AddsWatch}
 use Rattle.corefile_blocks.specs.declared.bundle.Bundle.{Bundle}
 use Rattle.corefile_bundle.specs.declared.fault.GatherFault.{GatherFault}
 use Rattle.corefile_bundle.specs.Gathering.{GathersFrom, OneRead, Source}
-use Rattle.chain_build.specs.declared.chain.Chain.{Chain}
-use Rattle.chain_build.specs.{ArePlans, PlansData, plans_of}
+use Rattle.chain_build.specs.{OwnChain}
+use Rattle.chain_build.specs.{AreOwnPlans, PlansData, ground_of, plans_of, terms_in}
+use Rattle.extra_stock.specs.{all_pass, all_taken}
 use Rattle.reload_watch.specs.declared.found.Found.{Found}
 use Rattle.reload_watch.specs.declared.found.Found.TheVariants.{Kept, Next}
 use Rattle.run_meaning.specs.declared.looking.Looking.{Looking}
@@ -29,7 +30,7 @@ use Rattle.run_meaning.specs.Answers.{AnswersLook, SamePorts, Standing, look_mar
 
 abbrev pub standing_of : PlansData → ℕ → Standing
 standing_of plans published = record {
-  default_port = plans.default_port;
+  terms = terms_in all_taken all_pass plans;
   bundle = plans.bundle;
   blocks = plans.blocks;
   published = published;
@@ -38,12 +39,12 @@ standing_of plans published = record {
 -- a further generation serves: the bundle that was read, by a chain for each worker
 pub record Replaces (old new : Serving) (bundle : Bundle) : Type 0 where
   pub published : new.published ≡ old.published + 1
-  pub chains : List Chain
+  pub chains : List OwnChain
   pub filled : new.filled ≡ old.filled ++ chains ∷ []
   pub serve : All (λ chain. plans_of chain ≡ new.plans) chains
   pub bundle_is : new.plans.bundle ≡ bundle
-  pub port : new.plans.default_port ≡ old.plans.default_port
-  pub are : ArePlans new.plans
+  pub basis : ground_of new.plans ≡ ground_of old.plans
+  pub are : AreOwnPlans new.plans
 
 -- what serves behind a gathering that is published
 abbrev pub ServesGathered : Serving → Serving → Result Bundle GatherFault → Type 0
@@ -96,8 +97,8 @@ pub record IsNext (current : PlansData) (gives : Result Bundle GatherFault) (pla
     : Type 0 where
   pub got : gives ≡ Ok plans.bundle
   pub differs : plans.bundle ≢ current.bundle
-  pub port : plans.default_port ≡ current.default_port
-  pub are : ArePlans plans
+  pub basis : ground_of plans ≡ ground_of current
+  pub are : AreOwnPlans plans
   pub ports : SamePorts plans.blocks current.blocks
 
 abbrev pub Finds : PlansData → Result Bundle GatherFault → Found → Type 0
@@ -180,9 +181,9 @@ LooksOnce source old new before after (looking.Published serial) =
 LooksOnce source old new before after looking.NoMemory = Starves source old new before after
 
 -- where no slot was free, that is what a search for one came to in this call
-abbrev pub SearchesFirst : Plan Chain → Plan Chain → Looking → Type 0
+abbrev pub SearchesFirst : Plan OwnChain → Plan OwnChain → Looking → Type 0
 SearchesFirst before after (looking.AllPinned first second third) =
-    (home : List Chain) × IsFreed before [] (found.AllPinned first second third) home after
+    (home : List OwnChain) × IsFreed before [] (found.AllPinned first second third) home after
 SearchesFirst before after answer = Unit {0}
 
 -- how the count of looks that met want of memory goes on

@@ -4,7 +4,7 @@ use Rattle.std.specs.Prelude.{ℕ, List}
 use Rattle.std.specs.Arc.{arc_value}
 use Rattle.outside.specs.States.{WatchState}
 use Rattle.corefile_bundle.specs.Gathering.{Source}
-use Rattle.chain_build.specs.declared.chain.Chain.{Chain}
+use Rattle.chain_build.specs.{OwnChain}
 use Rattle.chain_build.specs.{PlansData}
 use Rattle.pin_table.specs.declared.views.Sweep.{Sweep}
 use Rattle.pin_table.specs.{count_of, plan_of}
@@ -18,7 +18,7 @@ source_data source = record { conf = source.conf.now; env = source.env.now }
 -- how many generations were published, the chains of each by worker, and what the last serves by
 pub record Serving : Type 0 where
   pub published : ℕ
-  pub filled : List (List Chain)
+  pub filled : List (List OwnChain)
   pub plans : PlansData
 
 -- what a watcher has published

@@ -7,6 +7,8 @@ use Rattle.outside.specs.Causes.{RoseJust}
 use Rattle.outside.specs.WatchMarks.{AddsWatch}
 use Rattle.corefile_blocks.specs.declared.bundle.Bundle.{Bundle}
 use Rattle.corefile_bundle.specs.Gathering.{Source}
+use Rattle.chain_build.specs.{ground_of, terms_in}
+use Rattle.extra_stock.specs.{all_pass, all_taken}
 use Rattle.run_meaning.specs.declared.watch_end.WatchEnd.{WatchEnd}
 use Rattle.reload_watch.specs.Filled.{AreFilledBy}
 use Rattle.reload_watch.specs.Going.{RoseWithin}
@@ -29,11 +31,11 @@ pub record Watches (source : Source) (before after : WatcherState) (result : Wat
   pub ending : List WatchMark
   pub ending_is : ending ≡ end_marks result
   pub told : AddsWatch before.watch after.watch (flat_map watch_marks looks ++ ending)
-  pub are : AreLooks source before.serving.plans.default_port (before.serving.plans.bundle ∷ [])
-      looks
+  pub are : AreLooks source (terms_in all_taken all_pass before.serving.plans)
+      (before.serving.plans.bundle ∷ []) looks
   pub swept : AreSwept after.sweeps (before.serving.plans.bundle ∷ []) looks
-  pub ends : EndsWatch before.serving.plans.default_port bundles ending
-  pub filled : AreFilledBy bundles before.serving.plans.default_port after.serving.filled
+  pub ends : EndsWatch (terms_in all_taken all_pass before.serving.plans) bundles ending
+  pub filled : AreFilledBy bundles (ground_of before.serving.plans) after.serving.filled
   pub count : length bundles ≡ after.serving.published
   pub starved : RoseJust (all_starved looks) before.starved after.starved
   pub refused : RoseWithin (all_refused looks) (all_starved looks) before.watch.refusals

@@ -1,13 +1,14 @@
 //! What a gathering comes to, beside what serves.
 ghost use Rattle.std.specs.Prelude.{◌≡◌, ◌≢◌, IfOk, IsTrue, ◌↔◌, Ok};
 ghost use Rattle.corefile_blocks.specs.{IsReadable};
-ghost use Rattle.chain_build.specs.{ArePlans};
+ghost use Rattle.chain_build.specs.{AreOwnPlans, ground_of};
 ghost use Rattle.outside.specs.States.{WatchState};
 ghost use Rattle.reload_watch.specs.Going.{found_behind};
 ghost use Rattle.reload_watch.specs.Look.{Finds};
 
 use crate::fault::{answer_to, read_fault};
-use chain_build::{CheckFault, Plans, check};
+use crate::judges::no_judges;
+use chain_build::{CheckFault, OwnPlans, check};
 use corefile_blocks::Bundle;
 use corefile_bundle::GatherFault;
 use dns_data::{NoMemory, Seq};
@@ -18,16 +19,16 @@ use std::alloc::Global;
 /// What a gathering comes to: the answer of the look, or what is to serve next.
 pub(crate) enum Found {
     Kept(Looking),
-    Next(Plans),
+    Next(OwnPlans),
 }
 
 pub(crate) fn find<W: Watch>(
     alloc: Global,
     gathered: Result<Bundle, GatherFault>,
-    current: &Plans,
+    current: &OwnPlans,
     watch: &mut W,
 ) -> Found
-    requires current { ArePlans current.now }
+    requires current { AreOwnPlans current.now }
     requires readable { IfOk gathered (λ bundle. IsReadable bundle) }
     ensures finds { Finds current.now gathered result }
     ensures watch { W.state watch.new ≡ found_behind result (W.state watch.old) }
@@ -39,8 +40,8 @@ pub(crate) fn find<W: Watch>(
 }
 
 // What a bundle comes to.
-fn compare<W: Watch>(alloc: Global, bundle: Bundle, current: &Plans, watch: &mut W) -> Found
-    requires current { ArePlans current.now }
+fn compare<W: Watch>(alloc: Global, bundle: Bundle, current: &OwnPlans, watch: &mut W) -> Found
+    requires current { AreOwnPlans current.now }
     requires readable { IsReadable bundle }
     ensures finds { Finds current.now (Ok bundle) result }
     ensures watch { W.state watch.new ≡ found_behind result (W.state watch.old) }
@@ -48,7 +49,7 @@ fn compare<W: Watch>(alloc: Global, bundle: Bundle, current: &Plans, watch: &mut
     if bundle.equals(&current.bundle) {
         return Found::Kept(Looking::Same);
     }
-    match check(alloc, bundle, current.default_port, watch) {
+    match check(alloc, bundle, current.default_port, no_judges(), watch) {
         Ok(plans) => compare_ports(alloc, plans, current),
         Err(CheckFault::Refused(refusal)) => Found::Kept(Looking::Refused(refusal)),
         Err(CheckFault::NoMemory) => Found::Kept(Looking::NoMemory),
@@ -56,10 +57,10 @@ fn compare<W: Watch>(alloc: Global, bundle: Bundle, current: &Plans, watch: &mut
 }
 
 // What the plans of another bundle come to: a reload keeps the ports.
-fn compare_ports(alloc: Global, plans: Plans, current: &Plans) -> Found
-    requires current { ArePlans current.now }
-    requires are { ArePlans plans }
-    requires port { plans.default_port ≡ current.now.default_port }
+fn compare_ports(alloc: Global, plans: OwnPlans, current: &OwnPlans) -> Found
+    requires current { AreOwnPlans current.now }
+    requires are { AreOwnPlans plans }
+    requires basis { ground_of plans ≡ ground_of current.now }
     requires differs { plans.bundle ≢ current.now.bundle }
     ensures finds { Finds current.now (Ok plans.bundle) result }
     ensures quiet { (state : WatchState) → found_behind result state ≡ state }

@@ -5,10 +5,12 @@
 mod fault;
 mod first;
 mod found;
+mod judges;
 mod look;
 mod publishing;
 mod reloads;
 mod source;
+mod stock;
 mod turns;
 mod watcher;
 
@@ -17,5 +19,6 @@ pub use first::read_first;
 pub use look::look_once;
 pub use publishing::show_published;
 pub use source::Source;
+pub use stock::no_stock;
 pub use turns::watch;
 pub use watcher::Watcher;

@@ -10,7 +10,7 @@ use crate::publishing::{note_look, publish_next};
 use crate::reloads::reloads;
 use crate::source::Source;
 use crate::watcher::Watcher;
-use chain_build::Chain;
+use chain_build::OwnChain;
 use corefile_bundle::gather;
 use outside::Watch;
 use pin_table::PinTable;
@@ -23,7 +23,7 @@ use std::alloc::Global;
 pub fn look_once<W: Watch>(
     alloc: Global,
     watcher: &mut Watcher<W>,
-    table: &PinTable<Chain>,
+    table: &PinTable<OwnChain>,
     source: Source<'_>,
 ) -> Looking
     requires keeping { IsKeeping table.now watcher.old }
@@ -42,7 +42,7 @@ pub fn look_once<W: Watch>(
 fn look<W: Watch>(
     alloc: Global,
     watcher: &mut Watcher<W>,
-    table: &PinTable<Chain>,
+    table: &PinTable<OwnChain>,
     source: Source<'_>,
 ) -> Looking
     requires keeping { IsKeeping table.now watcher.old }

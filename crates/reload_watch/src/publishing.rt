@@ -4,7 +4,7 @@ ghost use Rattle.std.specs.Vec.{vec_len, vec_capacity};
 ghost use Rattle.outside.specs.declared.mark.WatchMark.TheVariants as mark;
 ghost use Rattle.outside.specs.States.{WatchStays};
 ghost use Rattle.outside.specs.WatchMarks.{AddsWatch};
-ghost use Rattle.chain_build.specs.{ArePlans, chain_identity, chain_log};
+ghost use Rattle.chain_build.specs.{AreOwnPlans, OwnChain, chain_identity, chain_log, ground_of};
 ghost use Rattle.pin_table.specs.{AreFilled, AreNew, IsFound, IsFreed, IsFreeSlot};
 ghost use Rattle.pin_table.specs.{IsPublisherOf, SamePublisher, count_of, plan_of};
 ghost use Rattle.std.specs.Arc.{arc_value};
@@ -15,8 +15,9 @@ ghost use Rattle.reload_watch.specs.Publishing.{AddsGeneration, KeepsPast};
 ghost use Rattle.reload_watch.specs.States.{serving_of};
 ghost use Rattle.reload_watch.specs.Sweeps.{KeepsSweeps};
 
+use crate::stock::no_stock;
 use crate::watcher::Watcher;
-use chain_build::{Chain, Plans, build};
+use chain_build::{OwnChain, OwnPlans, build};
 use outside::Watch;
 use pin_core::MOST_SERIALS;
 use pin_table::{FreeSlot, PinTable, Published, Publisher};
@@ -51,12 +52,12 @@ fn note_line<W: Watch>(watch: &mut W, line: &[u8])
 pub(crate) fn publish_next<W: Watch>(
     alloc: Global,
     watcher: &mut Watcher<W>,
-    table: &PinTable<Chain>,
-    plans: Plans,
+    table: &PinTable<OwnChain>,
+    plans: OwnPlans,
 ) -> Looking
     requires keeping { IsKeeping table.now watcher.old }
-    requires are { ArePlans plans }
-    requires port { plans.default_port ≡ (arc_value watcher.old.current).default_port }
+    requires are { AreOwnPlans plans }
+    requires basis { ground_of plans ≡ ground_of (arc_value watcher.old.current) }
     ensures keeping { IsKeeping table.now watcher.new }
     ensures own { SamePublisher watcher.old.publisher watcher.new.publisher }
     ensures workers { watcher.new.workers ≡ watcher.old.workers }
@@ -76,7 +77,8 @@ pub(crate) fn publish_next<W: Watch>(
     let Ok(next) = Arc::new(alloc, plans) else {
         return Looking::NoMemory;
     };
-    let Ok(chains) = build(alloc, &next, serial, watcher.workers) else {
+    let mut stock = no_stock(alloc);
+    let Ok(chains) = build(alloc, &next, serial, watcher.workers, &mut stock) else {
         return Looking::NoMemory;
     };
     let looking = Looking::Published(serial);
@@ -99,7 +101,7 @@ pub(crate) fn publish_next<W: Watch>(
 }
 
 /// Shows a watch that the generation of this serial was published: it is the publisher's last one.
-pub fn show_published<W: Watch>(watch: &mut W, publisher: &Publisher<Chain>, serial: u64)
+pub fn show_published<W: Watch>(watch: &mut W, publisher: &Publisher<OwnChain>, serial: u64)
     requires last { count_of (plan_of publisher.now) ≡ serial + 1 }
     ensures told { AddsWatch (W.state watch.old) (W.state watch.new) (mark.Published serial ∷ []) }
     ensures stays { WatchStays (W.state watch.old) (W.state watch.new) }
@@ -109,9 +111,9 @@ pub fn show_published<W: Watch>(watch: &mut W, publisher: &Publisher<Chain>, ser
 
 // Sweeps the slots of replaced generations, lets go what came home, and gives a free slot.
 fn free_slot(
-    table: &PinTable<Chain>,
-    publisher: &mut Publisher<Chain>,
-    home: &mut Vec<Chain>,
+    table: &PinTable<OwnChain>,
+    publisher: &mut Publisher<OwnChain>,
+    home: &mut Vec<OwnChain>,
 ) -> FreeSlot
     requires own { IsPublisherOf table.now publisher.old }
     requires none { (home.old.items ≡ []) × (vec_len home.old ≡ 0) }
@@ -120,7 +122,7 @@ fn free_slot(
     ensures own { SamePublisher publisher.old publisher.new }
     ensures keeps { KeepsPast (plan_of publisher.old) (plan_of publisher.new) }
     ensures placed { IsPlaced (plan_of publisher.new) }
-    ensures freed { (came : List Chain)
+    ensures freed { (came : List OwnChain)
         × IsFreed (plan_of publisher.old) [] result came (plan_of publisher.new) }
     ensures sweeps { KeepsSweeps (plan_of publisher.old).sweeps (plan_of publisher.new).sweeps }
     ensures found { IsFound result (plan_of publisher.new) }
@@ -133,7 +135,12 @@ fn free_slot(
 }
 
 // Publishes chains in a free slot, where serials are left.
-fn publish(table: &PinTable<Chain>, publisher: &mut Publisher<Chain>, slot: u32, chains: Vec<Chain>)
+fn publish(
+    table: &PinTable<OwnChain>,
+    publisher: &mut Publisher<OwnChain>,
+    slot: u32,
+    chains: Vec<OwnChain>,
+)
     requires own { IsPublisherOf table.now publisher.old }
     requires few { count_of (plan_of publisher.old) < MOST_SERIALS }
     requires free { IsFreeSlot (plan_of publisher.old) slot }

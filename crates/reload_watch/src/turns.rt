@@ -11,7 +11,7 @@ use crate::look::look_once;
 use crate::reloads::{reloads, times_of};
 use crate::source::Source;
 use crate::watcher::Watcher;
-use chain_build::Chain;
+use chain_build::OwnChain;
 use outside::{Look, Watch};
 use pin_table::PinTable;
 use run_meaning::WatchEnd;
@@ -24,7 +24,7 @@ pub fn watch<R: Wait, W: Watch>(
     rt: &R,
     alloc: Global,
     watcher: &mut Watcher<W>,
-    table: &PinTable<Chain>,
+    table: &PinTable<OwnChain>,
     source: Source<'_>,
 ) -> WatchEnd
     requires keeping { IsKeeping table.now watcher.old }
@@ -48,7 +48,7 @@ pub fn watch<R: Wait, W: Watch>(
 fn take_look<W: Watch>(
     alloc: Global,
     watcher: &mut Watcher<W>,
-    table: &PinTable<Chain>,
+    table: &PinTable<OwnChain>,
     source: Source<'_>,
 ) -> Option<WatchEnd>
     requires keeping { IsKeeping table.now watcher.old }

@@ -1,4 +1,4 @@
-use chain_build::{Chain, Plans};
+use chain_build::{OwnChain, OwnPlans};
 use pin_table::Publisher;
 use std::sync::Arc;
 
@@ -7,13 +7,13 @@ use std::sync::Arc;
 #[derive(Drop)]
 pub struct Watcher<W> {
     pub watch: W,
-    pub publisher: Publisher<Chain>,
+    pub publisher: Publisher<OwnChain>,
     /// How many workers pin, each a chain of its own.
     pub workers: u64,
     /// What serves: that of the last publication.
-    pub current: Arc<Plans>,
+    pub current: Arc<OwnPlans>,
     /// Where the chains of replaced generations come home; with room for those of four.
-    pub home: Vec<Chain>,
+    pub home: Vec<OwnChain>,
     /// How many looks met want of memory.
     pub starved: u64,
 }

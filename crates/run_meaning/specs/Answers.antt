@@ -14,18 +14,18 @@ use Rattle.corefile_bundle.specs.declared.fault.GatherFault.TheVariants as unrea
 use Rattle.corefile_bundle.specs.{OneRead, marks_of}
 use Rattle.chain_meaning.specs.declared.refusal.Refusal.{Refusal}
 use Rattle.chain_meaning.specs.declared.refusal.Refusal.TheVariants as refusal
-use Rattle.chain_meaning.specs.{IsAccepted, IsRefused}
+use Rattle.chain_meaning.specs.{IsAccepted, IsRefused, Terms}
 use Rattle.run_meaning.specs.declared.looking.Looking.{Looking}
 use Rattle.run_meaning.specs.declared.looking.Looking.TheVariants as looking
 use Rattle.run_meaning.specs.Messages.{look_text}
 
 -- what a gathering gave is refused for this
-abbrev pub Refuses : ℕ → Result Bundle GatherFault → Refusal → Type 0
-Refuses default_port (Ok bundle) why = IsRefused default_port bundle why
-Refuses default_port (Err unread.NoCorefile) why = why ≡ refusal.NoCorefile
-Refuses default_port (Err (unread.ReadFailed name)) why = ⊥
-Refuses default_port (Err (unread.TooMany what number)) why = why ≡ refusal.TooMany what number
-Refuses default_port (Err unread.NoMemory) why = ⊥
+abbrev pub Refuses : Terms → Result Bundle GatherFault → Refusal → Type 0
+Refuses terms (Ok bundle) why = IsRefused terms bundle why
+Refuses terms (Err unread.NoCorefile) why = why ≡ refusal.NoCorefile
+Refuses terms (Err (unread.ReadFailed name)) why = ⊥
+Refuses terms (Err (unread.TooMany what number)) why = why ≡ refusal.TooMany what number
+Refuses terms (Err unread.NoMemory) why = ⊥
 
 -- two lists of blocks have the same ports
 pub record SamePorts (a b : List Block) : Type 0 where
@@ -33,10 +33,10 @@ pub record SamePorts (a b : List Block) : Type 0 where
   pub first : ArePorts a ports
   pub second : ArePorts b ports
 
--- what serves, as far as a look's answer depends on it: the bundle, its blocks with this default
--- port, and how many generations were published
+-- what serves, as far as a look's answer depends on it: the terms of the run, the bundle, its
+-- blocks, and how many generations were published
 pub record Standing : Type 0 where
-  pub default_port : ℕ
+  pub terms : Terms
   pub bundle : Bundle
   pub blocks : List Block
   pub published : ℕ
@@ -48,7 +48,7 @@ pub record GaveOther (standing : Standing) (gives : Result Bundle GatherFault)
   pub got : gives ≡ Ok bundle
   pub differs : bundle ≢ standing.bundle
   pub blocks : List Block
-  pub accepted : IsAccepted standing.default_port bundle blocks
+  pub accepted : IsAccepted standing.terms bundle blocks
   pub is : P blocks
 
 -- another bundle could be published, and each of these slots had open pins
@@ -66,7 +66,7 @@ AnswersLook standing gives looking.NoReload = ⊥
 AnswersLook standing gives (looking.ReadFailed name) = gives ≡ Err (unread.ReadFailed name)
 AnswersLook standing gives looking.Same = gives ≡ Ok standing.bundle
 AnswersLook standing gives (looking.Refused why) =
-    Refuses standing.default_port gives why × (gives ≢ Ok standing.bundle)
+    Refuses standing.terms gives why × (gives ≢ Ok standing.bundle)
 AnswersLook standing gives (looking.PortsDiffer kept read) =
     GaveOther standing gives
     (λ other. ArePorts standing.blocks kept × ArePorts other read × (kept ≢ read))

@@ -8,6 +8,7 @@ use Rattle.corefile_blocks.specs.declared.bundle.Bundle.{Bundle}
 use Rattle.chain_meaning.specs.declared.served.Served.TheVariants.{Reply, Silent, NoMemory}
 use Rattle.chain_meaning.specs.declared.served.Silence.{Silence}
 use Rattle.chain_meaning.specs.Serving.{Serves}
+use Rattle.chain_meaning.specs.Grounds.{Terms}
 
 -- a receive that failed; one that met want of memory; or a datagram, served by the generation with
 -- this serial, with the marks that serving took, and the reply with whether it went out, or the
@@ -35,15 +36,15 @@ pub record IsPublished (bundles : List Bundle) (serial : ℕ) (P : Bundle → Ty
   pub is : P bundle
 
 -- the turn did what the published bundle of its serial means
-abbrev pub IsLawful : List Bundle → ℕ → Turn → Type 0
-IsLawful bundles default_port failed = Unit {0}
-IsLawful bundles default_port unread = Unit {0}
-IsLawful bundles default_port (replied serial d marks reply out) =
-    IsPublished bundles serial (λ bundle. Serves bundle default_port d marks (Reply reply))
-IsLawful bundles default_port (silenced serial d marks why) =
-    IsPublished bundles serial (λ bundle. Serves bundle default_port d marks (Silent why))
-IsLawful bundles default_port (starved serial d marks) =
-    IsPublished bundles serial (λ bundle. Serves bundle default_port d marks NoMemory)
+abbrev pub IsLawful : List Bundle → Terms → Turn → Type 0
+IsLawful bundles terms failed = Unit {0}
+IsLawful bundles terms unread = Unit {0}
+IsLawful bundles terms (replied serial d marks reply out) =
+    IsPublished bundles serial (λ bundle. Serves bundle terms d marks (Reply reply))
+IsLawful bundles terms (silenced serial d marks why) =
+    IsPublished bundles serial (λ bundle. Serves bundle terms d marks (Silent why))
+IsLawful bundles terms (starved serial d marks) =
+    IsPublished bundles serial (λ bundle. Serves bundle terms d marks NoMemory)
 
 -- 1 for a turn that took a datagram, and so a pin
 abbrev pub datagrams : Turn → ℕ

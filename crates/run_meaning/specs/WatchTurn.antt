@@ -9,7 +9,7 @@ use Rattle.outside.specs.declared.mark.WatchMark.TheVariants.{Look}
 use Rattle.corefile_blocks.specs.declared.bundle.Bundle.{Bundle}
 use Rattle.corefile_bundle.specs.declared.fault.GatherFault.{GatherFault}
 use Rattle.corefile_bundle.specs.{GathersFrom, OneRead, Source, marks_of}
-use Rattle.chain_meaning.specs.{IsAccepted}
+use Rattle.chain_meaning.specs.{IsAccepted, Terms}
 use Rattle.plain_plugins.specs.declared.reload.ReloadTimes.{ReloadTimes}
 use Rattle.run_meaning.specs.declared.looking.Looking.{Looking}
 use Rattle.run_meaning.specs.declared.looking.Looking.TheVariants as looking
@@ -59,34 +59,34 @@ all_starved (turn ∷ turns) = look_starved turn + all_starved turns
 
 -- the last bundle that was published is accepted, has these blocks, and is to be looked at again,
 -- at the times of its own
-pub record IsLooked (default_port : ℕ) (bundles : List Bundle) (times : ReloadTimes)
+pub record IsLooked (terms : Terms) (bundles : List Bundle) (times : ReloadTimes)
     (P : Bundle → List Block → Type 0) : Type 0 where
   pub before : List Bundle
   pub last : Bundle
   pub last_is : bundles ≡ before ++ last ∷ []
   pub blocks : List Block
-  pub accepted : IsAccepted default_port last blocks
+  pub accepted : IsAccepted terms last blocks
   pub again : reloads blocks ≡ true
   pub at : times ≡ times_of blocks
   pub is : P last blocks
 
 -- the turn came to what a look behind these published bundles comes to
-abbrev pub IsLook : Source → ℕ → List Bundle → WatchTurn → Type 0
-IsLook source default_port bundles (looked times reads gives answer flag) =
-    GathersFrom source reads gives × IsLooked default_port bundles times (λ last blocks. AnswersLook
+abbrev pub IsLook : Source → Terms → List Bundle → WatchTurn → Type 0
+IsLook source terms bundles (looked times reads gives answer flag) =
+    GathersFrom source reads gives × IsLooked terms bundles times (λ last blocks. AnswersLook
     (record {
-      default_port = default_port;
+      terms = terms;
       bundle = last;
       blocks = blocks;
       published = length bundles;
     }) gives answer)
-IsLook source default_port bundles (starved times reads gives) =
+IsLook source terms bundles (starved times reads gives) =
     GathersFrom source reads gives
-    × IsLooked default_port bundles times (λ last blocks. Unit {0})
+    × IsLooked terms bundles times (λ last blocks. Unit {0})
 
 -- turns one after another, behind these published bundles
-abbrev pub AreLooks : Source → ℕ → List Bundle → List WatchTurn → Type 0
-AreLooks source default_port bundles [] = Unit {0}
-AreLooks source default_port bundles (turn ∷ turns) =
-    IsLook source default_port bundles turn
-    × AreLooks source default_port (bundles ++ published_by turn) turns
+abbrev pub AreLooks : Source → Terms → List Bundle → List WatchTurn → Type 0
+AreLooks source terms bundles [] = Unit {0}
+AreLooks source terms bundles (turn ∷ turns) =
+    IsLook source terms bundles turn
+    × AreLooks source terms (bundles ++ published_by turn) turns

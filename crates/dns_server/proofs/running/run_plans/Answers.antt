@@ -2,7 +2,7 @@ use Rattle.std.proofs.Common.{◌≡◌, List, [], length, map, append-nil, refl
 use Rattle.std.specs.List.{All}
 use Rattle.outside.specs.Hosts.{FailsToOpen, OpenedSide, OpensNothing}
 use Rattle.outside.specs.Journals.{host-adds-nothing}
-use Rattle.chain_build.specs.{ArePlans, PlansData, plans_of}
+use Rattle.chain_build.specs.{AreOwnPlans, PlansData, ground_of, plans_of}
 use Rattle.reload_watch.specs.declared.watcher.Watcher.{Watcher}
 use Rattle.dns_server.specs.declared.sides.Place.{Place}
 use Rattle.dns_server.specs.declared.status.Status.TheVariants as status
@@ -75,9 +75,9 @@ finish-finished-requires-clause-opened g c = λ κs b.
     let room = rooms.room in
     record {
       watcher = watching c.in-Ok-new.table w chains made.own made.plan made.filled workers few
-          (subst (λ (p : PlansData). All (λ chain. plans_of chain ≡ p) chains) (sym rooms.plans) rooms.chains) (subst ArePlans (sym rooms.plans) c.requires.are)
+          (subst (λ (p : PlansData). All (λ chain. plans_of chain ≡ p) chains) (sym rooms.plans) rooms.chains) (subst AreOwnPlans (sym rooms.plans) c.requires.are)
           (rooms.none.3, rooms.none.4, let r = room.3 in omega (arith, r, each)) refl;
-      port_is = ap (λ (p : PlansData). p.default_port) rooms.plans ∙ c.requires.port;
+      ground_is = ap ground_of rooms.plans ∙ c.requires.basis;
       passes = made.passes.1;
       each = let p = made.passes.0 in omega (arith, p, each, count);
       workers = omega (arith, workers, each, count);

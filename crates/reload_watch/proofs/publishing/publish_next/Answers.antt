@@ -17,7 +17,7 @@ returns-in-Free-clause-publishes g c = record {
     filled = search rules;
     serve = search rules;
     bundle_is = search rules;
-    port = search rules;
+    basis = search rules;
     are = search rules;
   };
   flag = c.note_line.ensures.notes.flag;

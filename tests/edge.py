@@ -219,8 +219,9 @@ def refused_threads(rows):
         os.chmod(room, 0o755)
         path = corefile(room, WHOAMI.replace("{port}", str(free_port())))
         ran = subprocess.run([*limited, PROGRAM, "serve", "--conf", path, "--workers", "4"], capture_output=True, text=True, timeout=SECONDS)
-        rows.equal("threads that can't run end the run before it serves", (ran.returncode, ran.stdout, ran.stderr),
-                   told(3, "cannot open", "threads: resource temporarily unavailable: 4 asked for"))
+        # A thread that has ended counts until the system has let go of it, so the third may be refused.
+        allowed = [told(3, "cannot open", f"threads: resource temporarily unavailable: {count} asked for") for count in (3, 4)]
+        rows.row("threads that can't run end the run before it serves", (ran.returncode, ran.stdout, ran.stderr) in allowed, ran)
     with Served(WHOAMI, "--workers", "1", mode=0o755, under=limited) as server:
         rows.row("as many as are allowed serve", server.is_serving(QUERY))
 

@@ -303,7 +303,8 @@ def main():
     if not chosen:
         examples = os.path.join(TOP, "examples")
         for name in sorted(os.listdir(examples)):
-            run_try(rows, os.path.join(examples, name))
+            if os.path.exists(os.path.join(examples, name, "TRY")):
+                run_try(rows, os.path.join(examples, name))
     rows.end()
 
 

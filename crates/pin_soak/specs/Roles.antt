@@ -1,5 +1,5 @@
 -- What each role has before and after its run.
-use Rattle.std.specs.Prelude.{List, All}
+use Rattle.std.specs.Prelude.{ℕ, List, All}
 use Rattle.atomic_table.specs.Seated.{TableId}
 use Rattle.pin_table.specs.declared.table.PinTable.{PinTable}
 use Rattle.pin_table.specs.declared.passes.Pass.{Pass}
@@ -12,7 +12,7 @@ use Rattle.pin_soak.specs.Workers.{IsIdle}
 use Rattle.pin_soak.specs.Keepers.{IsKeeping}
 
 -- a worker is idle, and the publisher keeps the table
-abbrev pub IsRole : PinTable Chain → Role → Type 0
+abbrev pub IsRole : PinTable Chain ℕ ℕ → Role → Type 0
 IsRole table (Work worker) = IsIdle table worker
 IsRole table (Keep keeper) = IsKeeping table keeper
 

@@ -191,7 +191,7 @@ module _ {C : Type 0} where
 
 module _ {C K N : Type 0} (identity : C → Identity K) (log : C → List (List N)) where
   -- what holds of each pass that came back, and of one that did nothing
-  of_joined : (P : ℕ → List (Turn C) → Type 0) (qs : List (PassView C))
+  pub of_joined : (P : ℕ → List (Turn C) → Type 0) (qs : List (PassView C))
       → ((w : ℕ) (q : PassView C) → slice_get qs w ≡ Some q → P w q.turns) → ((w : ℕ) → P w []) → (w : ℕ)
       → P w (joined_at qs w).turns
   of_joined P qs each none w = by_two (ltb w (length qs))

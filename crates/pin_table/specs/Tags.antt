@@ -3,6 +3,7 @@ use Rattle.std.specs.Prelude.{◌≡◌, ℕ, ◌+◌, ◌==◌, List, [], ◌�
 use Rattle.pin_table.specs.declared.views.Turn.{Turn}
 use Rattle.pin_table.specs.declared.views.Taken.{Taken}
 use Rattle.pin_table.specs.declared.views.Drain.{Drain}
+use Rattle.pin_table.specs.declared.views.Plan.{Plan}
 use Rattle.pin_table.specs.Known.{filled_at}
 
 -- its serial, its worker, and what else tells it from other chains
@@ -31,6 +32,22 @@ module _ {N : Type 0} where
   abbrev pub IsKeptLog : Option (List (List N)) → List (List N) → Type 0
   IsKeptLog None log = IsEmpty log
   IsKeptLog (Some kept) log = log ≡ kept
+
+module _ {C I : Type 0} (identity : C → I) where
+  -- each turn gave home the chain that it was given
+  abbrev pub AreSame : List (Turn C) → Type 0
+  AreSame [] = Unit {0}
+  AreSame (t ∷ ts) = (identity t.home ≡ identity t.given) × AreSame ts
+
+  -- it is the chain that was filled for its serial and worker
+  abbrev pub IsNamed : List (List C) → Drain C → Type 0
+  IsNamed filled d =
+      (first : C) × (filled_at filled d.serial d.worker ≡ Some first)
+      × (identity d.chain ≡ identity first)
+
+  -- so is each chain that came home
+  abbrev pub AreNamed : Plan C → Type 0
+  AreNamed p = All (IsNamed p.past.filled) p.drains
 
 module _ {C N : Type 0} (log : C → List (List N)) where
   -- the log that these turns keep of a serial: as the newest of them gave it home

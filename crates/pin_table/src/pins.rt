@@ -22,7 +22,7 @@ impl<C> Pass<C> {
     }
 }
 
-impl<C> PinTable<C> {
+impl<C: Tagged> PinTable<C> {
     /// Pins the current generation, and gives its serial and this worker's chain of it.
     pub fn pin(&self, pass: &mut Pass<C>) -> Pin<C>
         requires own { IsPassOf self.now pass.old }
@@ -77,7 +77,7 @@ impl<C: Tagged + Drop> PinTable<C> {
     }
 }
 
-impl<C> PinTable<C> {
+impl<C: Tagged> PinTable<C> {
     /// The pass has then seen at least what was told.
     pub fn meet(&self, pass: &mut Pass<C>, told: Told<C>)
         requires own { IsPassOf self.now pass.old }

@@ -1,8 +1,9 @@
 //! The publication of generations.
-ghost use Rattle.std.specs.Prelude.{◌≡◌, ◌+◌, ◌<◌, [], ◌∷◌, None, Some, true, length};
+ghost use Rattle.std.specs.Prelude.{◌≡◌, ℕ, ◌+◌, ◌<◌, [], ◌∷◌, None, Some, true, length};
 ghost use Rattle.pin_table.specs.Known.{place};
 ghost use Rattle.pin_table.specs.Steps.{plan_in, count_of, named_plan, filled_seat};
-ghost use Rattle.pin_table.specs.Tags.{AreNew, AreFilled};
+ghost use Rattle.pin_table.specs.Tags.{AreFilled, AreNew};
+ghost use Rattle.pin_table.specs.Standing.{IsStanding, StandsBehind};
 ghost use Rattle.pin_table.specs.Handles.{id_of, plan_of, IsPublisherOf, SamePublisher, seen_of};
 ghost use Rattle.pin_table.specs.Handles.{IsToldOf};
 ghost use Rattle.pin_table.specs.Publishing.{IsFreeSlot, CanFill, IsReady, fill_to, IsPublished};
@@ -18,7 +19,7 @@ use crate::views::View;
 use atomic_table::Seat;
 use pin_core::{MOST_SERIALS, SLOTS, WORKERS};
 
-impl<C: Drop> PinTable<C> {
+impl<C: Tagged + Drop> PinTable<C> {
     fn name(&self, seat: &mut Seat<Option<C>, View<C>>, slot: usize, serial: u64)
         requires own { seat.old.table_id ≡ id_of self.now }
         requires at { seat.old.me ≡ (OfPublisher (plan_in seat.old.me.0), []) }
@@ -80,6 +81,10 @@ impl<C: Tagged + Drop> PinTable<C> {
         ensures filled { AreFilled C.identity C.log 0 (plan_of publisher.new).past.filled }
         ensures published { let before = plan_of publisher.old in
             IsPublished before slot chains.items result (plan_of publisher.new) }
+        ensures stands { IsStanding C.identity (plan_of publisher.old)
+            → IsStanding C.identity (plan_of publisher.new) }
+        ensures sum { (f : C → ℕ) → IsStanding C.identity (plan_of publisher.old)
+            → StandsBehind f (plan_of publisher.old) chains.items result (plan_of publisher.new) }
     {
         if publisher.published >= MOST_SERIALS {
             return Published::SerialsSpent(chains);
@@ -100,7 +105,7 @@ impl<C: Tagged + Drop> PinTable<C> {
     }
 }
 
-impl<C> PinTable<C> {
+impl<C: Tagged> PinTable<C> {
     /// How many generations were published. The serial of the last is one less.
     pub fn published(&self, publisher: &Publisher<C>) -> u64
         requires { IsPublisherOf self.now publisher.now }

@@ -44,7 +44,7 @@ fills_none names records sets e = record {
   each = λ i name set at is. ap (picked records) (e.each i set is) ∙ picked_none records;
 }
 
-no_false : (b : Bool) → (b ≡ true → ⊥) → b ≡ false
+pub no_false : (b : Bool) → (b ≡ true → ⊥) → b ≡ false
 no_false true h = absurd (h refl)
 no_false false h = refl
 
@@ -164,7 +164,7 @@ any_filter : (p q : RecordData → Bool) (rs : List RecordData) → list_any q (
 any_filter p q [] = refl
 any_filter p q (r ∷ rs) = any_step (p r) q r (filter p rs) (list_any (λ (x : RecordData). p x && q x) rs) (any_filter p q rs)
 
-eqb-same : (a b : ℕ) → a ≡ b → (a == b) ≡ true
+pub eqb-same : (a b : ℕ) → a ≡ b → (a == b) ≡ true
 eqb-same a b e = grind (arith, nat_tests)
 
 asked_any : (name : List (List ℕ)) (kind : ℕ) (rs : List RecordData) → (kind == 255) ≡ true → list_any (λ r. is_at name r && is_asked kind r) rs ≡ list_any (is_at name) rs

@@ -39,7 +39,7 @@ pub unlike : (other entry : RecordData) → is_same other.owner entry.owner ≡ 
 unfolding is_of
 unlike other entry e = sym (ap (λ (b : Bool). b && (kind_of other.rdata == kind_of entry.rdata)) e)
 
-any_false : (rs : List RecordData) → false ≡ list_any (λ (r : RecordData). false) rs
+pub any_false : (rs : List RecordData) → false ≡ list_any (λ (r : RecordData). false) rs
 any_false [] = refl
 any_false (r ∷ rs) = any_false rs
 
@@ -49,11 +49,11 @@ meet_none [] rs e = any_false rs
 meet_none (x ∷ others) rs e = absurd (omega (arith, e))
 
 -- what a test finds in records, by the name and the type of one of those that pass
-and_parts : (a b : Bool) → (a && b) ≡ true → (a ≡ true) × (b ≡ true)
+pub and_parts : (a b : Bool) → (a && b) ≡ true → (a ≡ true) × (b ≡ true)
 and_parts true b e = (refl, e)
 and_parts false b e = absurd cc
 
-any_as : (name : List (List ℕ)) (kind : ℕ) (r : RecordData) (rs : List RecordData) → is_of name kind r ≡ true → list_any (is_of name kind) rs ≡ list_any (is_of r.owner (kind_of r.rdata)) rs
+pub any_as : (name : List (List ℕ)) (kind : ℕ) (r : RecordData) (rs : List RecordData) → is_of name kind r ≡ true → list_any (is_of name kind) rs ≡ list_any (is_of r.owner (kind_of r.rdata)) rs
 unfolding is_of
 any_as name kind r rs e =
     let parts = and_parts (is_same r.owner name) (kind_of r.rdata == kind) e in
@@ -61,7 +61,7 @@ any_as name kind r rs e =
     let type : kind ≡ kind_of r.rdata = sym (eqb-true (kind_of r.rdata) kind parts.1) in
     λ j. list_any (λ x. same_labels (lowered x.owner) (low j) && (kind_of x.rdata == type j)) rs
 
-or_false : (a b : Bool) → (a || b) ≡ false → (a ≡ false) × (b ≡ false)
+pub or_false : (a b : Bool) → (a || b) ≡ false → (a ≡ false) × (b ≡ false)
 or_false true b e = absurd cc
 or_false false b e = (refl, e)
 
@@ -101,7 +101,7 @@ hosts_begin zone answer added (r ∷ rs) =
     begins_then added here (with_hosts zone answer here rs) (addresses_begin zone answer added (host_of r.rdata)) (hosts_begin zone answer here rs)
 
 -- the first of the records that pass
-record Head (p : RecordData → Bool) (set : List RecordData) : Type 0 where
+pub record Head (p : RecordData → Bool) (set : List RecordData) : Type 0 where
   pub first : RecordData
   pub rest : List RecordData
   pub is : set ≡ first ∷ rest
@@ -111,7 +111,7 @@ head_more : (p : RecordData → Bool) (r : RecordData) (rs : List RecordData) (b
 head_more p r rs true e h = inr (record { first = r; rest = rs; is = refl; passes = e })
 head_more p r rs false e h = h
 
-head_of : (p : RecordData → Bool) (rs : List RecordData) → (filter p rs ≡ []) ⊎ Head p (filter p rs)
+pub head_of : (p : RecordData → Bool) (rs : List RecordData) → (filter p rs ≡ []) ⊎ Head p (filter p rs)
 head_of p [] = inl refl
 head_of p (r ∷ rs) = head_more p r (filter p rs) (p r) refl (head_of p rs)
 

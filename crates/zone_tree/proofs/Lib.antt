@@ -4,3 +4,4 @@ mod Shapes
 mod Filling
 mod Cutting
 mod Glue
+mod Marking

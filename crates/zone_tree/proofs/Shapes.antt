@@ -292,11 +292,11 @@ shape_wild names nodes name node at shape new labels wild none w short there = r
   each = λ i n of is here. each_wild names nodes name node at shape new labels wild none w short there i n of is here;
 }
 
-or_true : (b : Bool) → (b || true) ≡ true
+pub or_true : (b : Bool) → (b || true) ≡ true
 or_true true = refl
 or_true false = refl
 
-or_false : (b : Bool) → (b || false) ≡ b
+pub or_false : (b : Bool) → (b || false) ≡ b
 or_false true = refl
 or_false false = refl
 

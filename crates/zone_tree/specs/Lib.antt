@@ -1,3 +1,4 @@
 pub mod Sets
 pub mod Tree
 pub mod Ready
+pub mod Marks

@@ -5,6 +5,7 @@
 mod cuts;
 mod find;
 mod hosts;
+mod marks;
 mod node;
 mod ready;
 mod sets;

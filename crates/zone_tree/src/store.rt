@@ -1,11 +1,25 @@
 use crate::hosts::{copy_apart, copy_numbers};
+use crate::marks::push_many;
 use crate::ready::meets;
 use crate::sets::{copy_asked, copy_denying, copy_kind, has_asked};
 use crate::zone::TreeZone;
 use dns_data::{Name, NoMemory, Record, RecordRoom, Slot, kind};
 use dns_write::Tail;
 use std::alloc::Global;
-use zone_lookup::{Find, Reached, ZoneStore, nothing};
+use zone_lookup::{Find, Reached, ZoneStore, host_of, nothing};
+
+/// Where more records than so many name hosts, what is there is marked by names' numbers: that
+/// takes memory, and fewer are sooner searched.
+const MOST: usize = 16;
+
+// Whether more records than so many name hosts.
+fn have_many_hosts(records: &[Record]) -> bool {
+    records
+        .iter()
+        .filter(|record| host_of(*record).is_some())
+        .nth(MOST)
+        .is_some()
+}
 
 impl ZoneStore for TreeZone {
     ghost zone = { λ store. store };
@@ -95,6 +109,22 @@ impl ZoneStore for TreeZone {
         };
         let records = tree.zone.records.as_slice();
         copy_denying(alloc, records, tree.sets[number].as_slice(), out)
+    }
+
+    fn push_hosts(
+        &self,
+        alloc: Global,
+        answer: &[Record],
+        records: &[Record],
+        out: &mut RecordRoom,
+    ) -> Result<(), NoMemory> {
+        if MOST < records.len() && have_many_hosts(records) {
+            return push_many(alloc, &self.tree, answer, records, out);
+        }
+        for record in records {
+            self.push_addresses(alloc, answer, host_of(record), out)?;
+        }
+        Ok(())
     }
 
     fn push_servers(

@@ -39,7 +39,13 @@ def of_file(blocks):
     return "".join(f"z{number}.example.org {{\n    import /d/common\n}}\n" for number in range(blocks)), files
 
 
-CASES = [("lines of words", of_words), ("imports of one snippet", of_snippet), ("a file imported by each block", of_file)]
+def of_keys(blocks):
+    keys = " ".join(f"z{number}.example.org" for number in range(blocks * BLOCK))
+    return f"{keys} {{\n    any\n}}\n", "-"
+
+
+CASES = [("lines of words", of_words), ("imports of one snippet", of_snippet), ("a file imported by each block", of_file),
+         ("keys of one block, as many as lines", of_keys)]
 
 
 def collected(text, folder):

@@ -4,3 +4,4 @@ pub mod ImportLemmas
 pub mod ReadLemmas
 pub mod PortLemmas
 pub mod WantedLemmas
+pub mod IndexLemmas

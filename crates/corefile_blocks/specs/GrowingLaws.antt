@@ -27,7 +27,7 @@ use Rattle.corefile_blocks.specs.Keys.{header_keys}
 use Rattle.corefile_blocks.specs.LineForms.{form_at, opened, same_text, snippet_name}
 use Rattle.corefile_blocks.specs.PlacedLines.{PlacedLine, own_lines}
 use Rattle.corefile_blocks.specs.WantedFiles.{add_all, add_once, each_once, files_of}
-use Rattle.corefile_blocks.specs.Blocks.{EndedData, Reading, Step, add_directive, all_of}
+use Rattle.corefile_blocks.specs.Blocks.{EndedData, Reading, Step, add_directive}
 use Rattle.corefile_blocks.specs.Blocks.{begin_block, begin_snippet, beginning, block_line}
 use Rattle.corefile_blocks.specs.Blocks.{directive, directive_count, file_of, goes_on, header}
 use Rattle.corefile_blocks.specs.Blocks.{import, import_by, import_file, import_name, import_words}

@@ -1,5 +1,6 @@
 pub mod LineForms
 pub mod Keys
+pub mod KeyIndex
 pub mod WantedFiles
 pub mod PlacedLines
 pub mod Blocks

@@ -6,6 +6,7 @@ mod double;
 mod fault;
 mod forms;
 mod import;
+mod key_index;
 mod keys;
 mod parts;
 mod place;

@@ -1,9 +1,10 @@
-use Rattle.std.proofs.Common.{◌≡◌, length, map}
-use Rattle.corefile_blocks.specs.Keys.{double_behind, double_key, keys_of}
+use Rattle.std.proofs.Common.{◌+◌, ◌++◌, drop}
+use Rattle.corefile_blocks.specs.Keys.{double_key, keys_of}
+use Rattle.corefile_blocks.proofs.IndexLemmas.{HasRead}
 use Rattle.corefile_blocks.proofs.double.double_key.Given as goal
 
 abbrev pub invariant-loop-block : goal.invariant-loop-block
-invariant-loop-block l = double_behind (map (λ key. key.now) l.before) (keys_of l.rest) ≡ double_key l.blocks
+invariant-loop-block l = HasRead l.before (keys_of (drop l.block-index l.blocks)) (double_key l.blocks)
 
-abbrev pub decreases-loop-block : goal.decreases-loop-block
-decreases-loop-block l = length l.rest
+abbrev pub invariant-loop-key : goal.invariant-loop-key
+invariant-loop-key l = HasRead l.before (drop l.key-index l.key-items ++ keys_of (drop (l.block-index + 1) l.blocks)) (double_key l.blocks)

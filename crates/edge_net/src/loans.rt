@@ -113,6 +113,11 @@ impl Seat {
         self.loans.used.load(Ordering::SeqCst) != 0
     }
 
+    /// How many workers of the port have a place.
+    pub fn workers(&self) -> u64 {
+        self.loans.seated.load(Ordering::SeqCst)
+    }
+
     /// The sockets changed, and are shown anew before they are lent.
     pub fn forget(&mut self) {
         self.shown = false;

@@ -112,14 +112,21 @@ impl UdpEnd {
     }
 
     /// Lends its sockets to the other workers of the port until the next receive, since this one
-    /// won't take what comes to them for a while.
+    /// won't take what comes to them for a while. Where none was lent before, those that wait are
+    /// woken, since they look at their own sockets alone.
     #[cold]
     #[inline(never)]
-    pub fn lend(&mut self, rt: &impl Wait) {
-        if let Some(seat) = &mut self.seat {
-            if seat.lend(rt, &self.socket, &self.others) {
-                self.lends = true;
-                self.alone = false;
+    pub fn lend(&mut self, rt: &(impl Net + Wait)) {
+        let Some(seat) = &mut self.seat else {
+            return;
+        };
+        let is_first = !seat.is_used();
+        if seat.lend(rt, &self.socket, &self.others) {
+            let workers = seat.workers();
+            self.lends = true;
+            self.alone = false;
+            if is_first {
+                self.poke(rt, workers);
             }
         }
     }
@@ -141,6 +148,11 @@ impl UdpEnd {
         }
         match self.receive(rt, client) {
             Ok(count) => {
+                if count == 0 && self.may_lend() {
+                    // It was woken, to look at the loans before the next receive.
+                    self.row = 0;
+                    return Arrival::Nothing;
+                }
                 self.count = count;
                 Arrival::Got
             }
@@ -149,6 +161,16 @@ impl UdpEnd {
                 Arrival::Nothing
             }
             Err(Unreceived::Failed) => Arrival::Failed,
+        }
+    }
+
+    // Whether a worker of the port has lent its sockets.
+    #[cold]
+    #[inline(never)]
+    fn may_lend(&self) -> bool {
+        match &self.seat {
+            Some(seat) => seat.is_used(),
+            None => false,
         }
     }
 

@@ -1,3 +1,4 @@
+pub mod Partings
 pub mod CallLaws
 pub mod Judging
 pub mod Orders

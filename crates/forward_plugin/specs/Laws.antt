@@ -1,7 +1,12 @@
 -- Laws of what `forward` means, for those who run a chain.
 use Rattle.std.proofs.Common.{◌≡◌, ℕ, Bool, true, false, List, [], ◌∷◌, map, Option, Some, None, Result, length, refl, sym, ◌∙◌}
 use Rattle.std.proofs.lemmas.List.{append_cancel_left}
-use Rattle.std.specs.Prelude.{if◌then◌else◌}
+use Rattle.std.specs.Prelude.{Ok, Err, if◌then◌else◌}
+use Rattle.dns_data.specs.declared.directive.Directive.{Directive}
+use Rattle.dns_data.specs.declared.file.FileText.{FileText}
+use Rattle.plugin_api.specs.declared.fault.DirectiveFault.{DirectiveFault}
+use Rattle.upstream_words.specs.Words.{onward_ok}
+use Rattle.forward_plugin.specs.Reading.{args_read, fault_in, forward_data, forward_fault, forward_read, lined, lines_fault, none_seen, upstreams_in}
 use Rattle.dns_lists.specs.declared.memory.NoMemory.{NoMemory}
 use Rattle.dns_data.specs.declared.message.Transport.{Transport}
 use Rattle.dns_data.specs.declared.query.Query.{Query}
@@ -76,3 +81,28 @@ forward_nothing (plan ∷ plans) q = by_test (is_for plan q.name) (forward_nothi
         → Starved (if b then plan_means plan q [] else forward_means plans q [])
     by_test true others = plan_nothing plan q
     by_test false others = others
+
+-- the plan that is read has the data of its directive, which is not refused
+lined-data : (d : Directive) (us : List Upstream) (f : Option DirectiveFault) (plan : ForwardData)
+    → lined d f us ≡ Ok plan → plan ≡ record { directive = d; upstreams = us }
+lined-data d us None plan e = let same : record { directive = d; upstreams = us } ≡ plan = cc in sym same
+lined-data d us (Some refused) plan e = absurd cc
+
+read-by : (d : Directive) (r : Result (List Upstream) DirectiveFault) (f : Option DirectiveFault)
+    (plan : ForwardData) → onward_ok r (lined d f) ≡ Ok plan
+    → plan ≡ record { directive = d; upstreams = upstreams_in r }
+read-by d (Ok us) f plan e = lined-data d us f plan e
+read-by d (Err refused) f plan e = absurd cc
+
+pub read-data : (d : Directive) (files : List FileText) (plan : ForwardData)
+    → forward_read d files ≡ Ok plan → plan ≡ forward_data d files
+read-data d files plan e =
+    read-by d (args_read d.line files d.args) (lines_fault none_seen d.body) plan e
+
+pub read-well : (d : Directive) (files : List FileText) (plan : ForwardData)
+    → forward_read d files ≡ Ok plan → forward_fault d files ≡ None
+read-well d files plan e = λ i. fault_in (e i)
+
+pub read-refused : (d : Directive) (files : List FileText) (refused : DirectiveFault)
+    → forward_read d files ≡ Err refused → forward_fault d files ≡ Some refused
+read-refused d files refused e = λ i. fault_in (e i)

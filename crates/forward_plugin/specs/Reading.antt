@@ -99,3 +99,21 @@ args_read line files (from ∷ words) =
 abbrev pub forward_read : Directive → List FileText → Result ForwardData DirectiveFault
 forward_read d files =
     onward_ok (args_read d.line files d.args) (lined d (lines_fault none_seen d.body))
+
+-- the upstreams of a directive that is read
+abbrev pub upstreams_in : Result (List Upstream) DirectiveFault → List Upstream
+upstreams_in (Ok us) = us
+upstreams_in (Err refused) = []
+
+-- what the plan of a directive has in a bundle with these files
+abbrev pub forward_data : Directive → List FileText → ForwardData
+forward_data d files =
+    record { directive = d; upstreams = upstreams_in (args_read d.line files d.args) }
+
+abbrev pub fault_in : Result ForwardData DirectiveFault → Option DirectiveFault
+fault_in (Ok plan) = None
+fault_in (Err refused) = Some refused
+
+-- why a directive is refused in a bundle with these files
+abbrev pub forward_fault : Directive → List FileText → Option DirectiveFault
+forward_fault d files = fault_in (forward_read d files)

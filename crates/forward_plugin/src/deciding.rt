@@ -51,6 +51,7 @@ pub fn decide<R: Wait, S: Side>(
     requires own { All IsOwn pools.old }
     requires each { pool_count asked.now.plans.now ≡ length pools.old }
     ensures own { All IsOwn pools.new }
+    ensures count { length pools.new ≡ length pools.old }
     ensures asks { Forwards (forward_means asked.now.plans.now asked.now.query.now)
         (said result slot.new)
         (state_at (S.state side.old) kept.old

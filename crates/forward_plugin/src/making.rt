@@ -2,7 +2,8 @@
 ghost use Rattle.std.specs.Prelude.{◌≡◌, ◌≤◌, ◌+◌, ◌++◌, length, IfOk, OnOk};
 ghost use Rattle.forward_plugin.specs.Forward.{numbered, numbered_from};
 ghost use Rattle.forward_plugin.specs.Options.{is_round};
-ghost use Rattle.forward_plugin.specs.Reading.{args_read, forward_read, some_words};
+ghost use Rattle.forward_plugin.specs.Reading.{args_read, forward_read};
+ghost use Rattle.plugin_api.specs.declared.fault.DirectiveFault.TheVariants as fault;
 ghost use Rattle.upstream_words.specs.Words.{Reads};
 
 use crate::numbered::Numbered;
@@ -74,43 +75,23 @@ fn read_args(
     ensures few { IfOk result (λ us. (1 ≤ length us) × (length us ≤ 15)) }
 {
     let Some((from, words)) = args.split_first() else {
-        return Err(DirectiveFault::Why {
-            line,
-            why: DirectiveWhy::Args,
-        });
+        return Err(refused(line, DirectiveWhy::Args));
     };
     if read_zone(alloc, from.as_str().as_bytes())?.is_none() {
-        return Err(DirectiveFault::Why {
-            line,
-            why: DirectiveWhy::Zone,
-        });
+        return Err(refused(line, DirectiveWhy::Zone));
     }
-    read_some(alloc, line, files, words)
+    let Some((word, rest)) = words.split_first() else {
+        return Err(refused(line, DirectiveWhy::Args));
+    };
+    let none = Seq::new(alloc);
+    let upstreams = read_word(alloc, none, line, files, word.as_str().as_bytes())?;
+    read_words(alloc, upstreams, line, files, rest)
 }
 
-fn read_some(
-    alloc: Global,
-    line: u32,
-    files: &[FileText],
-    words: &[Text],
-) -> Result<Seq<Upstream>, DirectiveFault>
-    ensures reads { Reads (some_words line files.now words.now) result }
-    ensures few { IfOk result (λ us. (1 ≤ length us) × (length us ≤ 15)) }
+fn refused(line: u32, why: DirectiveWhy) -> DirectiveFault
+    ensures { result ≡ fault.Why line why }
 {
-    let Some((word, rest)) = words.split_first() else {
-        return Err(DirectiveFault::Why {
-            line,
-            why: DirectiveWhy::Args,
-        });
-    };
-    let upstreams = read_word(
-        alloc,
-        Seq::new(alloc),
-        line,
-        files,
-        word.as_str().as_bytes(),
-    )?;
-    read_words(alloc, upstreams, line, files, rest)
+    DirectiveFault::Why { line, why }
 }
 
 fn is_round(policy: Policy) -> bool

@@ -54,17 +54,12 @@ pub(crate) fn is_forced(lines: &[Line]) -> bool
 fn policy_in(word: &Text) -> Option<Policy>
     ensures { result ≡ policy_in word.now }
 {
-    let bytes = word.as_str().as_bytes();
-    if bytes == b"random".as_slice() {
-        return Some(Policy::Random);
+    match word.as_str() {
+        "random" => Some(Policy::Random),
+        "round_robin" => Some(Policy::RoundRobin),
+        "sequential" => Some(Policy::Sequential),
+        _ => None,
     }
-    if bytes == b"round_robin".as_slice() {
-        return Some(Policy::RoundRobin);
-    }
-    if bytes == b"sequential".as_slice() {
-        return Some(Policy::Sequential);
-    }
-    None
 }
 
 /// With which upstream queries begin.
@@ -108,20 +103,13 @@ pub(crate) fn fails_of(lines: &[Line]) -> u32
 fn opened(word: &Text) -> Opens
     ensures { result ≡ opened word.now }
 {
-    let bytes = word.as_str().as_bytes();
-    if bytes == b"except".as_slice() {
-        return Opens::Except;
+    match word.as_str() {
+        "except" => Opens::Except,
+        "force_tcp" => Opens::ForceTcp,
+        "policy" => Opens::Policy,
+        "max_fails" => Opens::MaxFails,
+        _ => Opens::Other,
     }
-    if bytes == b"force_tcp".as_slice() {
-        return Opens::ForceTcp;
-    }
-    if bytes == b"policy".as_slice() {
-        return Opens::Policy;
-    }
-    if bytes == b"max_fails".as_slice() {
-        return Opens::MaxFails;
-    }
-    Opens::Other
 }
 
 /// The fault of the first line that doesn't fit.

@@ -19,6 +19,8 @@ use Rattle.dns_data.specs.declared.rcode.TheConstants as rcodes
 use Rattle.dns_data.specs.declared.zone.Zone.{Zone}
 use Rattle.file_plugin.specs.{FileData}
 use Rattle.file_plugin.specs.Zones.{answer_from, file_say, longest_of}
+use Rattle.forward_plugin.specs.{ForwardData, Said as ForwardSaid, forward_means}
+use Rattle.forward_plugin.specs.Forward as forward
 use Rattle.hosts_plugin.specs.{HostsData, Said as HostsSaid}
 use Rattle.hosts_plugin.specs.Hosts as hosts
 use Rattle.hosts_plugin.specs.Hosts.{address_said, address_say, hosts_say, listed_at, listed_for, name_said, name_say, plan_listings, plan_zones}
@@ -47,11 +49,11 @@ use Rattle.template_plugin.specs.{Said as TemplateSaid}
 use Rattle.template_plugin.specs.Template as template
 use Rattle.chain_meaning.specs.declared.decision.Decision.{Decision}
 use Rattle.chain_meaning.specs.declared.decision.Decision.TheVariants as decision
-use Rattle.chain_meaning.specs.Causes.{AskedCause, HasCause, IsServFail, answer_cause, block_cause, chain_cause, hosts_cause, others_cause, rest_alone, template_cause}
+use Rattle.chain_meaning.specs.Causes.{AskedCause, HasCause, IsServFail, answer_cause, block_cause, chain_cause, forward_cause, hosts_cause, others_cause, rest_alone, template_cause}
 use Rattle.chain_meaning.specs.Serving.{asked_decides, block_decides, block_of, chain_decides, class_decides, is_known_version, query_of, refused}
-use Rattle.chain_meaning.specs.Mean.{acl_answer, answer_of, any_answer, error_noted, hosts_answer, mean, nothing, or_rest, outcome_of, query_noted, reply_restored, restored_in, rule, take_note, template_answer}
-use Rattle.chain_meaning.specs.Steps.{Answerer, Acl, Any, Template, Hosts, File, Whoami, Step, Errors, Log, Rewrite, Answers, Others}
-use Rattle.chain_meaning.specs.Steps.{acl_steps, back_steps, context_of, extra_steps, extras_of, file_plans, file_steps, front_steps, hosts_plans, hosts_steps, key_zones, log_steps, plans_of, rewrite_steps, some_has, steps_of, template_steps}
+use Rattle.chain_meaning.specs.Mean.{acl_answer, answer_of, any_answer, error_noted, forward_answered, hosts_answer, mean, nothing, or_rest, outcome_of, query_noted, reply_restored, restored_in, rule, take_note, template_answer}
+use Rattle.chain_meaning.specs.Steps.{Answerer, Acl, Any, Template, Hosts, File, Forward, Whoami, Step, Errors, Log, Rewrite, Answers, Others}
+use Rattle.chain_meaning.specs.Steps.{acl_steps, back_steps, context_of, extra_steps, extras_of, file_plans, file_steps, forward_plans, forward_steps, front_steps, hosts_plans, hosts_steps, key_zones, log_steps, plans_of, rewrite_steps, some_has, steps_of, template_steps}
 
 -- what a meaning decides, where it decides
 abbrev Gives : {A : Type 0} → (A → Type 0) → Meaning A → Type 0
@@ -74,9 +76,21 @@ gives_if : (P : Decision → Type 0) (t : Bool) (x y : Meaning Decision) → (t 
 gives_if P true x y p q = p refl
 gives_if P false x y p q = q
 
+-- the same of what is decided and the marks that are left
+abbrev GivesAt : {A : Type 0} → (A → List Mark → Type 0) → Meaning A → Type 0
+GivesAt P (Done v left) = P v left
+GivesAt P More = Unit {0}
+GivesAt P Off = Unit {0}
+
+gives_from : {A B : Type 0} (P : A → List Mark → Type 0) (Q : B → Type 0) (x : Meaning A) (next : A → List Mark → Meaning B) → GivesAt P x
+    → ((v : A) (left : List Mark) → P v left → Gives Q (next v left)) → Gives Q (onward x next)
+gives_from P Q (Done v left) next p go = go v left p
+gives_from P Q More next p go = tt
+gives_from P Q Off next p go = tt
+
 -- a decision has a cause where it is SERVFAIL
-abbrev IsCaused : List Step → Query → Decision → Type 0
-IsCaused steps q v = IsServFail v → HasCause steps q v
+abbrev IsCaused : List Step → Query → List Mark → Decision → Type 0
+IsCaused steps q marks v = IsServFail v → HasCause steps q marks v
 
 if_same : (P : Decision → Type 0) (t : Bool) (v : Decision) (left : List Mark) → P v → Gives P (if t then Done v left else Off)
 if_same P true v left p = p
@@ -135,18 +149,18 @@ unrestored_fails ds changed (decision.Code c cause) fails = fails
 unrestored_fails ds changed decision.Drop fails = fails
 
 -- what a plugin answers has its cause where it is SERVFAIL, and where it goes on the rest's is the cause
-abbrev Answered : (Type 0 → Decision → Type 0) → (Decision → Type 0) → Option Decision → Type 0
-Answered cause rest None = (v : Decision) → rest v → cause (rest v) v
-Answered cause rest (Some v) = IsServFail v → cause (rest v) v
+abbrev Answered : ((List Mark → Type 0) → Decision → Type 0) → (List Mark → Decision → Type 0) → Option Decision → List Mark → Type 0
+Answered cause rest None left = (v : Decision) → rest left v → cause (λ marks. rest marks v) v
+Answered cause rest (Some v) left = IsServFail v → cause (λ marks. rest marks v) v
 
 -- a plugin that never answers with SERVFAIL
 abbrev NeverFails : Option Decision → Type 0
 NeverFails None = Unit {0}
 NeverFails (Some v) = IsServFail v → ⊥
 
-alone_answered : (rest : Decision → Type 0) (o : Option Decision) → NeverFails o → Answered (rest_alone o) rest o
-alone_answered rest None never = λ v h. h
-alone_answered rest (Some v) never = never
+alone_answered : (rest : List Mark → Decision → Type 0) (marks : List Mark) (o : Option Decision) → NeverFails o → Answered (λ below. rest_alone o (below marks)) rest o marks
+alone_answered rest marks None never = λ v h. h
+alone_answered rest marks (Some v) never = never
 
 acl_never : (said : AclSay) → NeverFails (acl_answer said)
 acl_never acl.GoOn = tt
@@ -183,10 +197,10 @@ hosts_well plan q =
     let names = if_well (is_in q.name (plan_zones plan)) (name_say plan q) hosts.next (names_well plan q (listed_for q.name (plan_listings plan))) tt in
     if_well (q.kind == kinds.PTR) (address_say plan q) (if is_in q.name (plan_zones plan) then name_say plan q else hosts.next) pointers names
 
-hosts_answered : (rest : Decision → Type 0) (said : HostsSaid) → IsWell said → Answered (hosts_cause said) rest (hosts_answer said)
-hosts_answered rest (hosts.reply a) well = λ fails. absurd (omega (arith, fails, well))
-hosts_answered rest hosts.next well = λ v h. h
-hosts_answered rest hosts.unknown well = λ fails. refl
+hosts_answered : (rest : List Mark → Decision → Type 0) (marks : List Mark) (said : HostsSaid) → IsWell said → Answered (λ below. hosts_cause said (below marks)) rest (hosts_answer said) marks
+hosts_answered rest marks (hosts.reply a) well = λ fails. absurd (omega (arith, fails, well))
+hosts_answered rest marks hosts.next well = λ v h. h
+hosts_answered rest marks hosts.unknown well = λ fails. refl
 
 -- a zone answers with NOERROR or NXDOMAIN
 absent_well : (absent : Bool) → cond absent rcodes.NXDOMAIN rcodes.NOERROR ≡ rcodes.SERVFAIL → ⊥
@@ -211,48 +225,61 @@ unfolding file_say
 file_never plans q = zone_never q (longest_of q.name None plans)
 
 -- templates fail by their `rcode`, or with a cause
-template_answered : (rest : Decision → Type 0) (said : TemplateSaid) → Answered (template_cause said) rest (template_answer said)
-template_answered rest (template.reply a) = λ fails. (refl, fails)
-template_answered rest template.next = λ v h. h
-template_answered rest template.no_match = λ fails. refl
-template_answered rest template.not_record = λ fails. refl
+template_answered : (rest : List Mark → Decision → Type 0) (marks : List Mark) (said : TemplateSaid) → Answered (λ below. template_cause said (below marks)) rest (template_answer said) marks
+template_answered rest marks (template.reply a) = λ fails. (refl, fails)
+template_answered rest marks template.next = λ v h. h
+template_answered rest marks template.no_match = λ fails. refl
+template_answered rest marks template.not_record = λ fails. refl
 
-others_answered : (rest : Decision → Type 0) (o : Option Decision) → Answered (others_cause o) rest o
-others_answered rest None = λ v h. h
-others_answered rest (Some v) = λ fails. (refl, fails)
+-- upstreams fail by what they reply, or none of them answers
+forward_caused : (rest : List Mark → Decision → Type 0) (m : Meaning ForwardSaid) → GivesAt (Answered (forward_cause m) rest) (onward m forward_answered)
+forward_caused rest (Done (forward.reply a) left) = λ fails. (refl, fails)
+forward_caused rest (Done forward.next left) = λ v h. h
+forward_caused rest (Done forward.all_failed left) = λ fails. refl
+forward_caused rest More = tt
+forward_caused rest Off = tt
 
-answers_give : (plugin : Answerer) (rest : Decision → Type 0) (q : Query) (marks : List Mark) → Gives (Answered (answer_cause plugin q) rest) (answer_of plugin q marks)
+others_answered : (rest : List Mark → Decision → Type 0) (marks : List Mark) (o : Option Decision) → Answered (λ below. others_cause o (below marks)) rest o marks
+others_answered rest marks None = λ v h. h
+others_answered rest marks (Some v) = λ fails. (refl, fails)
+
+answers_give : (plugin : Answerer) (rest : List Mark → Decision → Type 0) (q : Query) (marks : List Mark) → GivesAt (Answered (answer_cause plugin q marks) rest) (answer_of plugin q marks)
 unfolding answer_of any_of whoami_of
-answers_give (Acl plans) rest q marks = alone_answered rest (acl_answer (acl_say plans q)) (acl_never (acl_say plans q))
-answers_give Any rest q marks = alone_answered rest (any_answer q) (if_never (is_any q) (decision.Reply (any_of q)) (λ fails. absurd (omega (arith, fails))))
-answers_give (Template plans) rest q marks = template_answered rest (template_say plans q)
-answers_give (Hosts plan) rest q marks = hosts_answered rest (hosts_say plan q) (hosts_well plan q)
-answers_give (File plans) rest q marks = alone_answered rest (option_map decision.Reply (file_say plans q)) (file_never plans q)
+answers_give (Acl plans) rest q marks = alone_answered rest marks (acl_answer (acl_say plans q)) (acl_never (acl_say plans q))
+answers_give Any rest q marks = alone_answered rest marks (any_answer q) (if_never (is_any q) (decision.Reply (any_of q)) (λ fails. absurd (omega (arith, fails))))
+answers_give (Template plans) rest q marks = template_answered rest marks (template_say plans q)
+answers_give (Hosts plan) rest q marks = hosts_answered rest marks (hosts_say plan q) (hosts_well plan q)
+answers_give (File plans) rest q marks = alone_answered rest marks (option_map decision.Reply (file_say plans q)) (file_never plans q)
+answers_give (Forward plans) rest q marks = forward_caused rest (forward_means plans q marks)
 answers_give Whoami rest q marks = λ fails. absurd (omega (arith, fails))
 
 -- where a plugin goes on, the rest decides
-rest_gives : (cause : Type 0 → Decision → Type 0) (below : Decision → Type 0) (rest : Query → List Mark → Meaning Decision) (q : Query) → ((marks : List Mark) → Gives (λ v. IsServFail v → below v) (rest q marks))
-    → (o : Option Decision) → Answered cause below o → (left : List Mark) → Gives (λ v. IsServFail v → cause (below v) v) (or_rest rest q o left)
-rest_gives cause below rest q gives (Some v) is left = is
-rest_gives cause below rest q gives None is left = gives_as (λ v. IsServFail v → below v) (λ v. IsServFail v → cause (below v) v) (λ v h fails. is v (h fails)) (rest q left) (gives left)
+rest_gives : (cause : (List Mark → Type 0) → Decision → Type 0) (below : List Mark → Decision → Type 0) (rest : Query → List Mark → Meaning Decision) (q : Query)
+    → ((marks : List Mark) → Gives (λ v. IsServFail v → below marks v) (rest q marks)) → (o : Option Decision) (left : List Mark) → Answered cause below o left
+    → Gives (λ v. IsServFail v → cause (λ marks. below marks v) v) (or_rest rest q o left)
+rest_gives cause below rest q gives (Some v) left is = is
+rest_gives cause below rest q gives None left is =
+    gives_as (λ v. IsServFail v → below left v) (λ v. IsServFail v → cause (λ marks. below marks v) v) (λ v h fails. is v (h fails)) (rest q left) (gives left)
 
-rule_gives : (step : Step) (steps : List Step) (rest : Query → List Mark → Meaning Decision) → ((q : Query) (marks : List Mark) → Gives (IsCaused steps q) (rest q marks)) → (q : Query) (marks : List Mark)
-    → Gives (IsCaused (step ∷ steps) q) (rule step rest q marks)
+rule_gives : (step : Step) (steps : List Step) (rest : Query → List Mark → Meaning Decision) → ((q : Query) (marks : List Mark) → Gives (IsCaused steps q marks) (rest q marks)) → (q : Query) (marks : List Mark)
+    → Gives (IsCaused (step ∷ steps) q marks) (rule step rest q marks)
 unfolding rule
-rule_gives Errors steps rest gives q marks = gives_onward (IsCaused steps q) (IsCaused (Errors ∷ steps) q) (rest q marks) (error_noted q) (gives q marks) (errors_give (IsCaused (Errors ∷ steps) q) q)
+rule_gives Errors steps rest gives q marks =
+    gives_onward (IsCaused steps q marks) (IsCaused (Errors ∷ steps) q marks) (rest q marks) (error_noted q) (gives q marks) (errors_give (IsCaused (Errors ∷ steps) q marks) q)
 rule_gives (Log plan) steps rest gives q marks =
-    gives_onward (IsCaused steps q) (IsCaused (Log plan ∷ steps) q) (rest q marks) (query_noted plan q) (gives q marks)
-    (λ v is left. if_noted (IsCaused (Log plan ∷ steps) q) (is_in q.name (plain_zones plan)) (log_line q (outcome_of v)) v is left)
+    gives_onward (IsCaused steps q marks) (IsCaused (Log plan ∷ steps) q marks) (rest q marks) (query_noted plan q) (gives q marks)
+    (λ v is left. if_noted (IsCaused (Log plan ∷ steps) q marks) (is_in q.name (plain_zones plan)) (log_line q (outcome_of v)) v is left)
 rule_gives (Rewrite ds) steps rest gives q marks =
     let changed = changed_by ds q in
-    gives_onward (IsCaused steps changed.query) (IsCaused (Rewrite ds ∷ steps) q) (rest changed.query marks) (reply_restored ds changed) (gives changed.query marks)
+    gives_onward (IsCaused steps changed.query marks) (IsCaused (Rewrite ds ∷ steps) q marks) (rest changed.query marks) (reply_restored ds changed) (gives changed.query marks)
     (λ v is left fails. record { rest = v; cause = is (unrestored_fails ds changed v fails); is = refl })
 rule_gives (Answers plugin) steps rest gives q marks =
-    gives_onward (Answered (answer_cause plugin q) (HasCause steps q)) (IsCaused (Answers plugin ∷ steps) q) (answer_of plugin q marks) (or_rest rest q) (answers_give plugin (HasCause steps q) q marks)
-    (rest_gives (answer_cause plugin q) (HasCause steps q) rest q (gives q))
-rule_gives (Others says) steps rest gives q marks = rest_gives (others_cause (says q)) (HasCause steps q) rest q (gives q) (says q) (others_answered (HasCause steps q) (says q)) marks
+    gives_from (Answered (answer_cause plugin q marks) (HasCause steps q)) (IsCaused (Answers plugin ∷ steps) q marks) (answer_of plugin q marks) (or_rest rest q) (answers_give plugin (HasCause steps q) q marks)
+    (rest_gives (answer_cause plugin q marks) (HasCause steps q) rest q (gives q))
+rule_gives (Others says) steps rest gives q marks =
+    rest_gives (λ below. others_cause (says q) (below marks)) (HasCause steps q) rest q (gives q) (says q) marks (others_answered (HasCause steps q) marks (says q))
 
-mean_gives : (steps : List Step) (q : Query) (marks : List Mark) → Gives (IsCaused steps q) (mean steps q marks)
+mean_gives : (steps : List Step) (q : Query) (marks : List Mark) → Gives (IsCaused steps q marks) (mean steps q marks)
 unfolding mean
 mean_gives [] q marks = λ fails. refl
 mean_gives (step ∷ steps) q marks = rule_gives step steps (mean steps) (mean_gives steps) q marks
@@ -277,59 +304,68 @@ others_fails : (o : Option Decision) (rest : Type 0) (v : Decision) → (rest �
 others_fails None rest v fails h = fails h
 others_fails (Some answer) rest v fails h = subst IsServFail (sym h.0) h.1
 
-answer_fails : (plugin : Answerer) (q : Query) (rest : Type 0) (v : Decision) → (rest → IsServFail v) → answer_cause plugin q rest v → IsServFail v
-answer_fails (Acl plans) q rest v fails h = alone_fails (acl_answer (acl_say plans q)) rest v fails h
-answer_fails Any q rest v fails h = alone_fails (any_answer q) rest v fails h
-answer_fails (Template plans) q rest v fails h = template_fails (template_say plans q) rest v fails h
-answer_fails (Hosts plan) q rest v fails h = hosts_fails (hosts_say plan q) rest v fails h
-answer_fails (File plans) q rest v fails h = alone_fails (option_map decision.Reply (file_say plans q)) rest v fails h
-answer_fails Whoami q rest v fails h = absurd h
+forward_fails : (m : Meaning ForwardSaid) (rest : List Mark → Type 0) (v : Decision) → ((left : List Mark) → rest left → IsServFail v) → forward_cause m rest v → IsServFail v
+forward_fails (Done (forward.reply a) left) rest v fails h = subst IsServFail (sym h.0) h.1
+forward_fails (Done forward.next left) rest v fails h = fails left h
+forward_fails (Done forward.all_failed left) rest v fails h = subst IsServFail (sym h) refl
+forward_fails More rest v fails h = absurd h
+forward_fails Off rest v fails h = absurd h
 
-cause_fails : (steps : List Step) (q : Query) (v : Decision) → HasCause steps q v → IsServFail v
-cause_fails [] q v h = subst IsServFail (sym h) refl
-cause_fails (Errors ∷ steps) q v h = cause_fails steps q v h
-cause_fails (Log plan ∷ steps) q v h = cause_fails steps q v h
-cause_fails (Rewrite ds ∷ steps) q v h = subst IsServFail (sym h.is) (restored_fails ds (changed_by ds q) h.rest (cause_fails steps (changed_by ds q).query h.rest h.cause))
-cause_fails (Answers plugin ∷ steps) q v h = answer_fails plugin q (HasCause steps q v) v (cause_fails steps q v) h
-cause_fails (Others says ∷ steps) q v h = others_fails (says q) (HasCause steps q v) v (cause_fails steps q v) h
+answer_fails : (plugin : Answerer) (q : Query) (marks : List Mark) (rest : List Mark → Type 0) (v : Decision) → ((left : List Mark) → rest left → IsServFail v) → answer_cause plugin q marks rest v → IsServFail v
+answer_fails (Acl plans) q marks rest v fails h = alone_fails (acl_answer (acl_say plans q)) (rest marks) v (fails marks) h
+answer_fails Any q marks rest v fails h = alone_fails (any_answer q) (rest marks) v (fails marks) h
+answer_fails (Template plans) q marks rest v fails h = template_fails (template_say plans q) (rest marks) v (fails marks) h
+answer_fails (Hosts plan) q marks rest v fails h = hosts_fails (hosts_say plan q) (rest marks) v (fails marks) h
+answer_fails (File plans) q marks rest v fails h = alone_fails (option_map decision.Reply (file_say plans q)) (rest marks) v (fails marks) h
+answer_fails (Forward plans) q marks rest v fails h = forward_fails (forward_means plans q marks) rest v fails h
+answer_fails Whoami q marks rest v fails h = absurd h
+
+cause_fails : (steps : List Step) (q : Query) (marks : List Mark) (v : Decision) → HasCause steps q marks v → IsServFail v
+cause_fails [] q marks v h = subst IsServFail (sym h) refl
+cause_fails (Errors ∷ steps) q marks v h = cause_fails steps q marks v h
+cause_fails (Log plan ∷ steps) q marks v h = cause_fails steps q marks v h
+cause_fails (Rewrite ds ∷ steps) q marks v h =
+    subst IsServFail (sym h.is) (restored_fails ds (changed_by ds q) h.rest (cause_fails steps (changed_by ds q).query marks h.rest h.cause))
+cause_fails (Answers plugin ∷ steps) q marks v h = answer_fails plugin q marks (λ left. HasCause steps q left v) v (λ left. cause_fails steps q left v) h
+cause_fails (Others says ∷ steps) q marks v h = others_fails (says q) (HasCause steps q marks v) v (cause_fails steps q marks v) h
 
 -- a decision of a chain is SERVFAIL exactly where the chain has a cause for it
-pub servfail_cause : (steps : List Step) (q : Query) (marks left : List Mark) (v : Decision) → mean steps q marks ≡ Done v left → IsServFail v ↔ HasCause steps q v
-servfail_cause steps q marks left v is = (subst (Gives (IsCaused steps q)) is (mean_gives steps q marks), cause_fails steps q v)
+pub servfail_cause : (steps : List Step) (q : Query) (marks left : List Mark) (v : Decision) → mean steps q marks ≡ Done v left → IsServFail v ↔ HasCause steps q marks v
+servfail_cause steps q marks left v is = (subst (Gives (IsCaused steps q marks)) is (mean_gives steps q marks), cause_fails steps q marks v)
 
 -- and so is one for what a datagram asks
-chain_gives : (steps : List Step) (q : Query) (marks : List Mark) → Gives (λ v. IsServFail v → chain_cause steps q v) (chain_decides steps q marks)
+chain_gives : (steps : List Step) (q : Query) (marks : List Mark) → Gives (λ v. IsServFail v → chain_cause steps q marks v) (chain_decides steps q marks)
 chain_gives [] q marks = λ fails. absurd (omega (arith, fails))
 chain_gives (step ∷ steps) q marks = mean_gives (step ∷ steps) q marks
 
-block_gives : (steps : Block → List Step) (block : Option Block) (q : Query) (marks : List Mark) → Gives (λ v. IsServFail v → block_cause steps block q v) (block_decides steps block q marks)
+block_gives : (steps : Block → List Step) (block : Option Block) (q : Query) (marks : List Mark) → Gives (λ v. IsServFail v → block_cause steps block q marks v) (block_decides steps block q marks)
 block_gives steps None q marks = λ fails. absurd (omega (arith, fails))
 block_gives steps (Some block) q marks = chain_gives (steps block) q marks
 
-asked_gives : (steps : Block → List Step) (blocks : List Block) (d : Datagram) (asked : Asked) (marks : List Mark) → Gives (λ v. IsServFail v → AskedCause steps blocks d asked v) (asked_decides steps blocks d asked marks)
+asked_gives : (steps : Block → List Step) (blocks : List Block) (d : Datagram) (asked : Asked) (marks : List Mark) → Gives (λ v. IsServFail v → AskedCause steps blocks d asked marks v) (asked_decides steps blocks d asked marks)
 asked_gives steps blocks d asked marks =
     let q = query_of d asked in
     let class = asked.question.class in
-    let P : Decision → Type 0 = λ v. IsServFail v → AskedCause steps blocks d asked v in
+    let P : Decision → Type 0 = λ v. IsServFail v → AskedCause steps blocks d asked marks v in
     gives_if P (is_known_version asked.opt) (class_decides class steps blocks q marks) (Done (decision.Reply (nothing rcodes.NOERROR)) marks)
     (λ known. gives_if P (nat_eq class classes.IN) (block_decides steps (block_of blocks q) q marks) (Done refused marks)
-    (λ own. gives_as (λ v. IsServFail v → block_cause steps (block_of blocks q) q v) P (λ v h fails. record { version = known; class = eqb-true class classes.IN own; cause = h fails })
+    (λ own. gives_as (λ v. IsServFail v → block_cause steps (block_of blocks q) q marks v) P (λ v h fails. record { version = known; class = eqb-true class classes.IN own; cause = h fails })
     (block_decides steps (block_of blocks q) q marks) (block_gives steps (block_of blocks q) q marks))
     (λ fails. absurd (omega (arith, fails))))
     (λ fails. absurd (omega (arith, fails)))
 
-chain_fails : (steps : List Step) (q : Query) (v : Decision) → chain_cause steps q v → IsServFail v
-chain_fails [] q v h = absurd h
-chain_fails (step ∷ steps) q v h = cause_fails (step ∷ steps) q v h
+chain_fails : (steps : List Step) (q : Query) (marks : List Mark) (v : Decision) → chain_cause steps q marks v → IsServFail v
+chain_fails [] q marks v h = absurd h
+chain_fails (step ∷ steps) q marks v h = cause_fails (step ∷ steps) q marks v h
 
-block_fails : (steps : Block → List Step) (block : Option Block) (q : Query) (v : Decision) → block_cause steps block q v → IsServFail v
-block_fails steps None q v h = absurd h
-block_fails steps (Some block) q v h = chain_fails (steps block) q v h
+block_fails : (steps : Block → List Step) (block : Option Block) (q : Query) (marks : List Mark) (v : Decision) → block_cause steps block q marks v → IsServFail v
+block_fails steps None q marks v h = absurd h
+block_fails steps (Some block) q marks v h = chain_fails (steps block) q marks v h
 
 pub asked_cause : (steps : Block → List Step) (blocks : List Block) (d : Datagram) (asked : Asked) (marks left : List Mark) (v : Decision) → asked_decides steps blocks d asked marks ≡ Done v left
-    → IsServFail v ↔ AskedCause steps blocks d asked v
+    → IsServFail v ↔ AskedCause steps blocks d asked marks v
 asked_cause steps blocks d asked marks left v is =
-    (subst (Gives (λ v. IsServFail v → AskedCause steps blocks d asked v)) is (asked_gives steps blocks d asked marks), λ h. block_fails steps (block_of blocks (query_of d asked)) (query_of d asked) v h.cause)
+    (subst (Gives (λ v. IsServFail v → AskedCause steps blocks d asked marks v)) is (asked_gives steps blocks d asked marks), λ h. block_fails steps (block_of blocks (query_of d asked)) (query_of d asked) marks v h.cause)
 
 -- no step is an extra's
 abbrev pub IsOwn : Step → Type 0
@@ -371,6 +407,10 @@ own_hosts : (plans : List HostsData) → AreOwn (hosts_steps plans)
 own_hosts [] = tt
 own_hosts (plan ∷ plans) = (tt, own_hosts plans)
 
+own_forwards : (plans : List ForwardData) → AreOwn (forward_steps plans)
+own_forwards [] = tt
+own_forwards (plan ∷ plans) = (tt, tt)
+
 own_files : (plans : List FileData) → AreOwn (file_steps plans)
 own_files [] = tt
 own_files (plan ∷ plans) = (tt, tt)
@@ -392,4 +432,5 @@ own_steps said files block none =
     (own_append _ _ (own_templates (plans_of rank.Template zones ds))
     (own_append _ _ (own_hosts (hosts_plans context ds))
     (own_append _ _ (own_files (file_plans context ds))
-    (own_if (some_has rank.Whoami ds) (Answers Whoami ∷ []) (tt, tt)))))))
+    (own_append _ _ (own_forwards (forward_plans context ds))
+    (own_if (some_has rank.Whoami ds) (Answers Whoami ∷ []) (tt, tt))))))))

@@ -13,6 +13,8 @@ use Rattle.outside.specs.declared.mark.Mark.{Mark}
 use Rattle.outside.specs.declared.mark.Mark.TheVariants.{Noted}
 use Rattle.acl_plugin.specs.{acl_say}
 use Rattle.file_plugin.specs.{file_say}
+use Rattle.forward_plugin.specs.{Said as ForwardSaid, forward_means}
+use Rattle.forward_plugin.specs.Forward as forward
 use Rattle.hosts_plugin.specs.{hosts_say}
 use Rattle.hosts_plugin.specs.{Said as HostsSaid}
 use Rattle.hosts_plugin.specs.Hosts as hosts
@@ -33,7 +35,7 @@ use Rattle.template_plugin.specs.Template as template
 use Rattle.zone_words.specs.{is_in}
 use Rattle.chain_meaning.specs.declared.decision.Decision.{Decision}
 use Rattle.chain_meaning.specs.declared.decision.Decision.TheVariants as decision
-use Rattle.chain_meaning.specs.Steps.{Answerer, Acl, Any, Template, Hosts, File, Whoami}
+use Rattle.chain_meaning.specs.Steps.{Answerer, Acl, Any, Template, Hosts, File, Forward, Whoami}
 use Rattle.chain_meaning.specs.Steps.{Step, Errors, Log, Rewrite, Answers, Others}
 
 -- an RCODE without records
@@ -104,13 +106,23 @@ template_answer template.next = None
 template_answer template.no_match = Some (decision.Code code.ServFail cause.NoMatch)
 template_answer template.not_record = Some (decision.Code code.ServFail cause.NotRecord)
 
--- what a plugin answers; None: it goes on
+-- forward: where no upstream answers, the query ends with SERVFAIL
+abbrev pub forward_answer : ForwardSaid → Option Decision
+forward_answer (forward.reply answer) = Some (decision.Reply answer)
+forward_answer forward.next = None
+forward_answer forward.all_failed = Some (decision.Code code.ServFail cause.AllUpstreams)
+
+abbrev pub forward_answered : ForwardSaid → List Mark → Meaning (Option Decision)
+forward_answered said left = Done (forward_answer said) left
+
+-- what a plugin answers, by the marks that it takes; None: it goes on
 unfoldable pub answer_of : Answerer → Query → List Mark → Meaning (Option Decision)
 answer_of (Acl plans) q marks = Done (acl_answer (acl_say plans q)) marks
 answer_of Any q marks = Done (any_answer q) marks
 answer_of (Template plans) q marks = Done (template_answer (template_say plans q)) marks
 answer_of (Hosts plan) q marks = Done (hosts_answer (hosts_say plan q)) marks
 answer_of (File plans) q marks = Done (option_map decision.Reply (file_say plans q)) marks
+answer_of (Forward plans) q marks = onward (forward_means plans q marks) forward_answered
 answer_of Whoami q marks = Done (Some (decision.Reply (whoami_of q))) marks
 
 -- where a plugin goes on, the rest decides

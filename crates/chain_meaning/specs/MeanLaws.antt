@@ -4,6 +4,8 @@ use Rattle.std.proofs.Common.{◌≡◌, ◌∙◌, ℕ, Bool, true, false, List
 use Rattle.std.specs.Option.{option_or}
 use Rattle.dns_data.specs.declared.directive.Directive.{Directive}
 use Rattle.dns_data.specs.declared.query.Query.{Query}
+use Rattle.forward_plugin.specs.{forward_means}
+use Rattle.forward_plugin.specs.Laws.{forward_nothing}
 use Rattle.outside.specs.Meanings.{Meaning, Done, Starved, onward}
 use Rattle.outside.specs.TakingLaws.{starved_onward}
 use Rattle.outside.specs.declared.mark.Mark.{Mark}
@@ -15,8 +17,8 @@ use Rattle.rewrite_plugin.specs.{changed_by}
 use Rattle.zone_words.specs.{is_in}
 use Rattle.chain_meaning.specs.declared.decision.Decision.{Decision}
 use Rattle.chain_meaning.specs.declared.decision.Decision.TheVariants as decision
-use Rattle.chain_meaning.specs.Mean.{answer_of, error_noted, mean, or_rest, outcome_of, query_noted, reply_restored, rewritten, rule, take_note}
-use Rattle.chain_meaning.specs.Steps.{Answerer, Acl, Step, Errors, Log, Rewrite, Answers, Others, extra_says, extra_steps}
+use Rattle.chain_meaning.specs.Mean.{answer_of, error_noted, forward_answered, mean, or_rest, outcome_of, query_noted, reply_restored, rewritten, rule, take_note}
+use Rattle.chain_meaning.specs.Steps.{Answerer, Acl, Any, Template, Hosts, File, Forward, Whoami, Step, Errors, Log, Rewrite, Answers, Others, extra_says, extra_steps}
 
 pub mean-end : (q : Query) (marks : List Mark) → mean [] q marks ≡ Done (decision.Code code.ServFail cause.EndOfChain) marks
 unfolding mean
@@ -65,8 +67,14 @@ query_nothing plan q v = note_nothing (log_line q (outcome_of v)) v (is_in q.nam
 -- a plugin that takes marks has a row of its own
 pub answer_nothing : (plugin : Answerer) (q : Query) → Starved (answer_of plugin q [])
 unfolding answer_of
+answer_nothing (Forward plans) q =
+    starved_onward (forward_means plans q []) forward_answered (forward_nothing plans q) (λ said. refl)
 answer_nothing (Acl plans) q = refl
-answer_nothing other q = refl
+answer_nothing Any q = refl
+answer_nothing (Template plans) q = refl
+answer_nothing (Hosts plan) q = refl
+answer_nothing (File plans) q = refl
+answer_nothing Whoami q = refl
 
 pub or_rest_nothing : (rest : Query → List Mark → Meaning Decision) (q : Query) → Starved (rest q []) → (v : Option Decision) → Starved (or_rest rest q v [])
 or_rest_nothing rest q none (Some v) = refl

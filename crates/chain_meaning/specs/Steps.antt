@@ -1,6 +1,7 @@
 -- The chain of a block: a list of steps, each with what its plugin reads, directives and the zones
--- of the block's keys, and for `hosts` and `file` the file. All `acl` directives are one step, and
--- so are all those of `rewrite`, of `template` and of `file`; each directive of an extra is one.
+-- of the block's keys, and for `hosts`, `file` and `forward` files. All `acl` directives are one
+-- step, and so are all those of `rewrite`, of `template`, of `file` and of `forward`; each of an
+-- extra is a step of its own.
 use Rattle.std.specs.Prelude.{ℕ, nat_eq, Bool, false, List, [], ◌∷◌, ◌++◌, map, Option, Some}
 use Rattle.std.specs.Prelude.{None, is_none, if◌then◌else◌}
 use Rattle.std.specs.List.{filter, list_any}
@@ -12,6 +13,7 @@ use Rattle.corefile_blocks.specs.Blocks.{file_of}
 use Rattle.corefile_blocks.specs.WantedFiles.{file_word, hosts_word}
 use Rattle.file_plugin.specs.{FileData}
 use Rattle.file_plugin.specs.Reading.{data_of}
+use Rattle.forward_plugin.specs.{ForwardData, forward_data}
 use Rattle.hosts_plugin.specs.{HostsData}
 use Rattle.hosts_plugin.specs.Reading.{data_of as hosts_data}
 use Rattle.plugin_api.specs.{PlanData, Sayings, order_of, rank_of}
@@ -30,6 +32,7 @@ pub data Answerer : Type 0 where
   Template : List PlanData → Answerer
   Hosts : HostsData → Answerer
   File : List FileData → Answerer
+  Forward : List ForwardData → Answerer
   Whoami : Answerer
 
 -- a step of a chain. `Others` is a plugin that a program brings besides those of this server, with
@@ -108,6 +111,15 @@ file_plan context d = data_of d context.zones (file_in context.files d)
 abbrev pub file_plans : Context → List Directive → List FileData
 file_plans context directives = map (file_plan context) (filter (has_rank rank.File) directives)
 
+-- what the plan of a `forward` directive reads
+abbrev pub forward_plan : Context → Directive → ForwardData
+forward_plan context d = forward_data d context.files
+
+-- the plans of the `forward` directives, in the order of the text
+abbrev pub forward_plans : Context → List Directive → List ForwardData
+forward_plans context directives =
+    map (forward_plan context) (filter (has_rank rank.Forward) directives)
+
 -- the directives whose names this server's own plugins don't have: those of extras, in the order of
 -- the text
 abbrev pub is_extra : Directive → Bool
@@ -157,6 +169,10 @@ abbrev pub file_steps : List FileData → List Step
 file_steps [] = []
 file_steps (plan ∷ plans) = Answers (File (plan ∷ plans)) ∷ []
 
+abbrev pub forward_steps : List ForwardData → List Step
+forward_steps [] = []
+forward_steps (plan ∷ plans) = Answers (Forward (plan ∷ plans)) ∷ []
+
 abbrev pub whoami_steps : Bool → List Step
 whoami_steps stands = if stands then Answers Whoami ∷ [] else []
 
@@ -174,7 +190,8 @@ back_steps context directives =
     ++ (template_steps (plans_of rank.Template context.zones directives)
     ++ (hosts_steps (hosts_plans context directives)
     ++ (file_steps (file_plans context directives)
-    ++ whoami_steps (some_has rank.Whoami directives))))
+    ++ (forward_steps (forward_plans context directives)
+    ++ whoami_steps (some_has rank.Whoami directives)))))
 
 -- the chain of a block in a bundle with these files, where extras say this: rank by rank, whatever
 -- the order of the text

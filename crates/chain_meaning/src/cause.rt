@@ -14,15 +14,15 @@ use crate::decision::{Decision, number};
 use dns_data::rcode;
 
 /// Whether a decision is SERVFAIL. It is exactly where the chain that decided so for a query has a
-/// cause for it, and likewise for what a datagram asks.
+/// cause for it by the marks that it took, and likewise for what a datagram asks.
 pub fn is_servfail(decision: &Decision) -> bool
     ensures chain { (steps : List Step) → (q : Query) → (marks left : List Mark)
         → mean steps q marks ≡ Done decision.now left
-        → IsTrue result ↔ HasCause steps q decision.now }
+        → IsTrue result ↔ HasCause steps q marks decision.now }
     ensures asked { (steps : Block → List Step) → (blocks : List Block) → (d : Datagram)
         → (asked : Asked) → (marks left : List Mark)
         → asked_decides steps blocks d asked marks ≡ Done decision.now left
-        → IsTrue result ↔ AskedCause steps blocks d asked decision.now }
+        → IsTrue result ↔ AskedCause steps blocks d asked marks decision.now }
 {
     has_servfail(decision)
 }

@@ -1,6 +1,6 @@
 -- A directive without patterns is never refused for one, so reading it leaves the maker as it was.
 use Rattle.std.proofs.Common.{◌≡◌, ℕ, Bool, true, false, List, [], ◌∷◌, Option, None, Some, Result, Ok, Err, refl, subst, if◌then◌else◌}
-use Rattle.std.specs.Prelude.{is_some, ◌||◌}
+use Rattle.std.specs.Prelude.{is_some, nat_le, ◌+◌, ◌++◌, length, ◌||◌}
 use Rattle.std.specs.Option.{option_or}
 use Rattle.acl_plugin.specs.Acl.{acl_fault, body_fault, lines_fault as policies_fault}
 use Rattle.acl_plugin.specs.Lines as acl
@@ -16,6 +16,19 @@ use Rattle.file_plugin.specs.Reading.{file_fault}
 use Rattle.file_plugin.specs.Zones.{origins_of, origins_or, zones_from}
 use Rattle.file_plugin.specs.declared.fault.FileFault.{FileFault}
 use Rattle.file_plugin.specs.declared.fault.FileFault.TheVariants as broken
+use Rattle.dns_data.specs.declared.file.FileText.{FileText}
+use Rattle.dns_data.specs.declared.limit.Limit.TheVariants as limit
+use Rattle.dns_data.specs.declared.limit.TheConstants as limits
+use Rattle.forward_plugin.specs.{ForwardData, forward_fault, forward_read}
+use Rattle.forward_plugin.specs.Options.{fails_in, policy_in}
+use Rattle.forward_plugin.specs.Reading as forward
+use Rattle.forward_plugin.specs.declared.seen.Opens.{Opens as ForwardOpens}
+use Rattle.forward_plugin.specs.declared.seen.Opens.TheVariants as options
+use Rattle.forward_plugin.specs.declared.seen.OptionsSeen.{OptionsSeen}
+use Rattle.outside.specs.declared.datagram.Upstream.{Upstream}
+use Rattle.upstream_words.specs.Upstreams.{servers_in, upstream_of}
+use Rattle.upstream_words.specs.Words as upstreams
+use Rattle.upstream_words.specs.Words.{by_file, by_word, is_file, onward_ok, served, with_more, with_word, with_words}
 use Rattle.hosts_plugin.specs.Hosts.{zones_behind}
 use Rattle.hosts_plugin.specs.Listings.{name_in}
 use Rattle.hosts_plugin.specs.Options.{ttl_in}
@@ -40,7 +53,7 @@ use Rattle.plugin_api.specs.declared.ranks.Rank.TheVariants as rank
 use Rattle.type_names.specs.{kind_of_text}
 use Rattle.zone_file.specs.declared.fault.ZoneFault.{ZoneFault}
 use Rattle.zone_file.specs.declared.fault.ZoneFault.TheVariants as zone
-use Rattle.zone_words.specs.{zones_or}
+use Rattle.zone_words.specs.{word_zone, zones_of, zones_or}
 use Rattle.chain_meaning.specs.Accepting.{Behind, fixed_refusal, refused_by, refused_by_file}
 use Rattle.chain_meaning.specs.Steps.{file_in}
 use Rattle.chain_meaning.specs.declared.refusal.Refusal.{Refusal}
@@ -220,6 +233,94 @@ file_no before d zones text =
     (why_if (file.some_has before origins) (Some why.DoubleZone) None tt tt)))
     (text_no d.line origins text)
 
+-- forward
+abbrev NoErr : {A : Type 0} → Result A DirectiveFault → Type 0
+NoErr (Ok v) = Unit {0}
+NoErr (Err f) = NoFault (Some f)
+
+err_if : {A : Type 0} (t : Bool) (a b : Result A DirectiveFault) → NoErr a → NoErr b → NoErr (if t then a else b)
+err_if true a b p q = p
+err_if false a b p q = q
+
+onward_no : {A B : Type 0} (r : Result A DirectiveFault) (next : A → Result B DirectiveFault) → NoErr r → ((v : A) → NoErr (next v)) → NoErr (onward_ok r next)
+onward_no (Ok v) next p q = q v
+onward_no (Err f) next p q = p
+
+more_no : (us more : List Upstream) → NoErr (with_more us more)
+more_no us more = err_if (nat_le (length us + length more) limits.UPSTREAMS) (Ok (us ++ more)) (Err (fault.TooMany limit.Upstreams (limits.UPSTREAMS + 1))) tt tt
+
+served_no : (us : List Upstream) (line : ℕ) (servers : List Upstream) → NoErr (served us line servers)
+served_no us line [] = tt
+served_no us line (server ∷ servers) = more_no us (server ∷ servers)
+
+by_file_no : (us : List Upstream) (line : ℕ) (text : Option (List ℕ)) → NoErr (by_file us line text)
+by_file_no us line None = tt
+by_file_no us line (Some text) = served_no us line (servers_in text)
+
+by_word_no : (us : List Upstream) (line : ℕ) (o : Option Upstream) → NoErr (by_word us line o)
+by_word_no us line None = tt
+by_word_no us line (Some u) = more_no us (u ∷ [])
+
+upstream_no : (us : List Upstream) (line : ℕ) (files : List FileText) (word : List ℕ) → NoErr (with_word us line files word)
+upstream_no us line files word =
+    err_if (is_file word) (by_file us line (upstreams.file_in word files)) (by_word us line (upstream_of word)) (by_file_no us line (upstreams.file_in word files)) (by_word_no us line (upstream_of word))
+
+upstreams_no : (us : List Upstream) (line : ℕ) (files : List FileText) (words : List (List ℕ)) → NoErr (with_words us line files words)
+upstreams_no us line files [] = tt
+upstreams_no us line files (word ∷ words) = onward_no (with_word us line files word) (λ more. with_words more line files words) (upstream_no us line files word) (λ more. upstreams_no more line files words)
+
+some_upstreams_no : (line : ℕ) (files : List FileText) (words : List (List ℕ)) → NoErr (forward.some_words line files words)
+some_upstreams_no line files [] = tt
+some_upstreams_no line files (word ∷ words) = upstreams_no [] line files (word ∷ words)
+
+forward_args_no : (line : ℕ) (files : List FileText) (words : List (List ℕ)) → NoErr (forward.args_read line files words)
+forward_args_no line files [] = tt
+forward_args_no line files (from ∷ words) =
+    err_if (is_some (word_zone from)) (forward.some_words line files words) (Err (fault.Why line why.Zone)) (some_upstreams_no line files words) tt
+
+except_no : (words : List (List ℕ)) → NoWhy (forward.except_why words)
+except_no [] = tt
+except_no (word ∷ words) = why_if (is_some (zones_of (word ∷ words))) None (Some why.Zone) tt tt
+
+choice_no : (words : List (List ℕ)) → NoWhy (forward.policy_why words)
+choice_no [] = tt
+choice_no (word ∷ words) = why_or (unless (is_some (policy_in word)) why.Option) (empty_why words) (why_if (is_some (policy_in word)) None (Some why.Option) tt tt) (empty_no words)
+
+fails_no : (words : List (List ℕ)) → NoWhy (forward.fails_why words)
+fails_no [] = tt
+fails_no (word ∷ words) = why_or (unless (is_some (fails_in word)) why.Number) (empty_why words) (why_if (is_some (fails_in word)) None (Some why.Number) tt tt) (empty_no words)
+
+option_no : (seen : OptionsSeen) (o : ForwardOpens) (words : List (List ℕ)) → NoWhy (forward.why_by seen o words)
+option_no seen options.Except words = why_if seen.except (Some why.Args) (forward.except_why words) tt (except_no words)
+option_no seen options.ForceTcp words = why_if seen.force_tcp (Some why.Args) (empty_why words) tt (empty_no words)
+option_no seen options.Policy words = why_if seen.policy (Some why.Args) (forward.policy_why words) tt (choice_no words)
+option_no seen options.MaxFails words = why_if seen.max_fails (Some why.Args) (forward.fails_why words) tt (fails_no words)
+option_no seen options.Other words = tt
+
+forward_line_no : (seen : OptionsSeen) (words : List (List ℕ)) → NoWhy (forward.line_why seen words)
+forward_line_no seen [] = tt
+forward_line_no seen (word ∷ words) = option_no seen (forward.opened word) words
+
+forward_lines_no : (seen : OptionsSeen) (lines : List Line) → NoFault (forward.lines_fault seen lines)
+forward_lines_no seen [] = tt
+forward_lines_no seen (line ∷ lines) =
+    fault_or (fault_at line.number (forward.line_why seen line.words)) (forward.lines_fault (forward.seen_after seen line.words) lines) (at line.number (forward.line_why seen line.words) (forward_line_no seen line.words))
+    (forward_lines_no (forward.seen_after seen line.words) lines)
+
+lined_no : (d : Directive) (f : Option DirectiveFault) (us : List Upstream) → NoFault f → NoErr (forward.lined d f us)
+lined_no d None us p = tt
+lined_no d (Some refused) us p = p
+
+fault_in_no : (r : Result ForwardData DirectiveFault) → NoErr r → NoFault (forward.fault_in r)
+fault_in_no (Ok plan) p = tt
+fault_in_no (Err refused) p = p
+
+forward_no : (d : Directive) (files : List FileText) → NoFault (forward_fault d files)
+forward_no d files =
+    let lines = forward.lines_fault forward.none_seen d.body in
+    fault_in_no (forward_read d files)
+    (onward_no (forward.args_read d.line files d.args) (forward.lined d lines) (forward_args_no d.line files d.args) (λ us. lined_no d lines us (forward_lines_no forward.none_seen d.body)))
+
 -- so no refusal is that of a pattern
 abbrev NoRefusal : Option Refusal → Type 0
 NoRefusal None = Unit {0}
@@ -248,7 +349,7 @@ fixed_no rank.File b d = refused_file_no _ (file_no _ d b.context.zones (file_in
 fixed_no rank.Dns64 b d = refl
 fixed_no rank.Extra b d = refl
 fixed_no rank.Cache b d = refl
-fixed_no rank.Forward b d = refl
+fixed_no rank.Forward b d = refused_no (forward_fault d b.context.files) (forward_no d b.context.files)
 fixed_no other b d = refused_no (plain_fault other d b.context.zones) (plain_fault_no other d b.context.zones)
 
 refusals_same : (refused : Refusal) (state : WatchState) → is_of_pattern refused ≡ false → state ≡ check_behind {X = Unit {0}} (Err (check.Refused refused)) state

@@ -6,3 +6,6 @@ pub mod Served
 pub mod Making
 pub mod Walks
 pub mod Coming
+pub mod OneForward
+pub mod Parts
+pub mod Pooled

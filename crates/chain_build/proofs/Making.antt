@@ -5,7 +5,7 @@ use Rattle.std.proofs.lemmas.List.Elements.{All-cons, All-head, All-nil, All-tai
 use Rattle.corefile_blocks.specs.declared.bundle.Bundle.{Bundle}
 use Rattle.plugin_api.specs.{Sayings, Takings}
 use Rattle.chain_meaning.specs.Grounds.{Ground, terms_on}
-use Rattle.chain_build.specs.declared.block_chain.BlockChain.{BlockChain}
+use Rattle.chain_build.specs.declared.block.BlockChain.{BlockChain}
 use Rattle.chain_build.specs.declared.fault.CheckFault.{CheckFault}
 use Rattle.chain_build.specs.declared.fault.CheckFault.TheVariants as fault
 use Rattle.chain_build.specs.Chains.{HasTaken, MakesPlans, ReadsBundle}

@@ -54,6 +54,7 @@ extras_kept rank.Rewrite c d p = refl
 extras_kept rank.Template c d p = refl
 extras_kept rank.Hosts c d p = refl
 extras_kept rank.File c d p = refl
+extras_kept rank.Forward c d p = refl
 extras_kept rank.Errors c d p = refl
 extras_kept rank.Log c d p = refl
 extras_kept rank.Any c d p = refl

@@ -31,7 +31,7 @@ use Rattle.chain_meaning.specs.Steps.{Step, extra_step, extra_steps, none_said, 
 use Rattle.chain_build.specs.Plans.{extras_in, steps_in}
 use Rattle.chain_build.specs.Compiled.{back_of, back_steps, front_of, whole_by, whole_with}
 use Rattle.chain_build.specs.declared.block_chain.BackAnswerer.{BackAnswerer}
-use Rattle.chain_build.specs.declared.block_chain.BlockChain.{BlockChain}
+use Rattle.chain_build.specs.declared.block.BlockChain.{BlockChain}
 use Rattle.chain_build.specs.declared.ended.Ended.{Ended}
 use Rattle.chain_build.specs.declared.ended.Ended.TheVariants as end
 use Rattle.chain_build.specs.declared.block_chain.FrontStep.{FrontStep}

@@ -13,7 +13,7 @@ use Rattle.chain_meaning.specs.Steps.{block_extras, steps_of}
 use Rattle.chain_meaning.specs.Grounds.{Brought, Ground, Terms, terms_on}
 use Rattle.chain_build.specs.declared.checking.Made.{Made}
 use Rattle.chain_build.specs.declared.checking.ReadBundle.{ReadBundle}
-use Rattle.chain_build.specs.declared.block_chain.BlockChain.{BlockChain}
+use Rattle.chain_build.specs.declared.block.BlockChain.{BlockChain}
 use Rattle.chain_build.specs.declared.fault.CheckFault.{CheckFault}
 use Rattle.chain_build.specs.declared.fault.CheckFault.TheVariants as fault
 use Rattle.chain_build.specs.Places.{AreTaken}

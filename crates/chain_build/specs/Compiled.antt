@@ -4,7 +4,7 @@ use Rattle.dns_data.specs.declared.directive.Directive.{Directive}
 use Rattle.dns_data.specs.declared.query.Query.{Query}
 use Rattle.plugin_api.specs.{Sayings}
 use Rattle.chain_meaning.specs.declared.decision.Decision.{Decision}
-use Rattle.chain_meaning.specs.Steps.{Answerer, Acl, Any, Template, Hosts, File, Whoami}
+use Rattle.chain_meaning.specs.Steps.{Answerer, Acl, Any, Template, Hosts, File, Forward, Whoami}
 use Rattle.chain_meaning.specs.Steps.{Step, Errors, Log, Answers, Others, extra_steps}
 use Rattle.chain_meaning.specs.Steps.{rewrite_steps}
 use Rattle.chain_build.specs.declared.block_chain.BackAnswerer.{BackAnswerer}
@@ -27,6 +27,7 @@ abbrev pub back_answerer : BackAnswerer → Answerer
 back_answerer (behind.Template plans) = Template plans
 back_answerer (behind.Hosts plan) = Hosts plan
 back_answerer (behind.File plans) = File plans
+back_answerer (behind.Forward plans) = Forward plans
 back_answerer behind.Whoami = Whoami
 
 abbrev pub back_of : BackAnswerer → Step

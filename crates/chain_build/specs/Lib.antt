@@ -2,6 +2,9 @@ pub mod Building
 pub mod Chains
 pub mod Judging
 pub mod Plans
+pub mod Pools
+pub mod BlockPools
+pub mod Holding
 pub mod Workers
 pub mod Compiled
 pub mod Own

@@ -11,7 +11,8 @@ use Rattle.dns_data.specs.declared.file.FileText.{FileText}
 use Rattle.pattern_judging.specs.{IsFault, IsWell, Task}
 use Rattle.chain_meaning.specs.Accepting.{Behind, block_task, rank_patterns, told}
 use Rattle.chain_meaning.specs.Steps.{Context, Step, acl_steps, any_steps, context_of, error_steps}
-use Rattle.chain_meaning.specs.Steps.{file_plan, file_steps, hosts_plan, hosts_steps}
+use Rattle.chain_meaning.specs.Steps.{file_plan, file_steps, forward_plan, forward_steps, hosts_plan}
+use Rattle.chain_meaning.specs.Steps.{hosts_steps}
 use Rattle.chain_meaning.specs.Steps.{log_steps, plan_in, rewrite_steps, template_steps}
 use Rattle.chain_meaning.specs.Steps.{whoami_steps}
 use Rattle.chain_meaning.specs.Grounds.{Brought}
@@ -33,6 +34,7 @@ no_places patterns = record {
   templates = [];
   hosts = [];
   files = [];
+  forwards = [];
   whoami = false;
   patterns = patterns;
 }
@@ -65,6 +67,8 @@ placed_by (Some rank.Hosts) context d places =
     record places { hosts = places.hosts ++ hosts_plan context d ∷ [] }
 placed_by (Some rank.File) context d places =
     record places { files = places.files ++ file_plan context d ∷ [] }
+placed_by (Some rank.Forward) context d places =
+    record places { forwards = places.forwards ++ forward_plan context d ∷ [] }
 placed_by None context d places = record places { extras = places.extras ++ d ∷ [] }
 placed_by other context d places = placed_plain other (plan_in context.zones d) places
 
@@ -83,7 +87,9 @@ front_in places =
 abbrev pub answers_in : Places → List Step
 answers_in places =
     template_steps places.templates
-    ++ (hosts_steps places.hosts ++ (file_steps places.files ++ whoami_steps places.whoami))
+    ++ (hosts_steps places.hosts
+    ++ (file_steps places.files
+    ++ (forward_steps places.forwards ++ whoami_steps places.whoami)))
 
 abbrev pub back_in : Places → List Step
 back_in places =

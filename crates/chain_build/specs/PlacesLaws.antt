@@ -10,7 +10,7 @@ use Rattle.plugin_api.specs.{Sayings, rank_of}
 use Rattle.plugin_api.specs.declared.ranks.Rank.{Rank}
 use Rattle.plugin_api.specs.declared.ranks.Rank.TheVariants as rank
 use Rattle.chain_meaning.specs.Accepting.{patterns_in, rank_patterns}
-use Rattle.chain_meaning.specs.Steps.{Context, context_of, extra_steps, extras_of, file_plan, file_plans, has_rank, hosts_plan, hosts_plans, plan_in, plans_of, rewrite_steps, some_has, steps_of}
+use Rattle.chain_meaning.specs.Steps.{Context, context_of, extra_steps, extras_of, file_plan, file_plans, forward_plan, forward_plans, has_rank, hosts_plan, hosts_plans, plan_in, plans_of, rewrite_steps, some_has, steps_of}
 use Rattle.chain_build.specs.declared.block_chain.BackAnswerer.{BackAnswerer}
 use Rattle.chain_build.specs.declared.block_chain.FrontStep.{FrontStep}
 use Rattle.chain_build.specs.declared.places.Places.{Places}
@@ -29,6 +29,7 @@ with_all c ds p = record {
   templates = p.templates ++ plans_of rank.Template c.zones ds;
   hosts = p.hosts ++ hosts_plans c ds;
   files = p.files ++ file_plans c ds;
+  forwards = p.forwards ++ forward_plans c ds;
   whoami = p.whoami || some_has rank.Whoami ds;
   patterns = p.patterns + length (patterns_in ds);
 }
@@ -68,7 +69,7 @@ step c d ds p (Some rank.Template) e = rw e (λ i. record (with_all c ds p) {
 })
 step c d ds p (Some rank.Hosts) e = rw e (ap (λ x. record (with_all c ds p) { hosts = x }) (append_assoc p.hosts (hosts_plan c d ∷ []) (hosts_plans c ds)))
 step c d ds p (Some rank.File) e = rw e (ap (λ x. record (with_all c ds p) { files = x }) (append_assoc p.files (file_plan c d ∷ []) (file_plans c ds)))
-step c d ds p (Some rank.Forward) e = rw e refl
+step c d ds p (Some rank.Forward) e = rw e (ap (λ x. record (with_all c ds p) { forwards = x }) (append_assoc p.forwards (forward_plan c d ∷ []) (forward_plans c ds)))
 step c d ds p (Some rank.Whoami) e = rw e (ap (λ x. record (with_all c ds p) { whoami = x }) (sym (or_true p.whoami)))
 
 all : (c : Context) (ds : List Directive) (p : Places) → placed c ds p ≡ with_all c ds p
@@ -82,6 +83,7 @@ all c [] p = λ i. record {
   templates = sym (append-nil p.templates) i;
   hosts = sym (append-nil p.hosts) i;
   files = sym (append-nil p.files) i;
+  forwards = sym (append-nil p.forwards) i;
   whoami = sym (or_false p.whoami) i;
   patterns = sym (plus_none p.patterns) i;
 }

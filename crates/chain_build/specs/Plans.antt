@@ -10,7 +10,7 @@ use Rattle.plugin_api.specs.{IndexData, IsIndexOf, Sayings, Takings}
 use Rattle.chain_meaning.specs.Accepting.{IsAccepted}
 use Rattle.chain_meaning.specs.Steps.{Step, block_extras, steps_of}
 use Rattle.chain_meaning.specs.Grounds.{Ground, Terms, ground_at, terms_on}
-use Rattle.chain_build.specs.declared.block_chain.BlockChain.{BlockChain}
+use Rattle.chain_build.specs.declared.block.BlockChain.{BlockChain}
 use Rattle.chain_build.specs.Compiled.{whole_by}
 use Rattle.chain_build.specs.Places.{AreTaken}
 

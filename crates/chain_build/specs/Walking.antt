@@ -36,6 +36,13 @@ Answered plugin q old new (Ok (Some e)) =
     (left : List Mark) → answer_of plugin q left ≡ Done (Some (decision_of e new)) left
 Answered plugin q old new (Err e) = Unit {0}
 
+-- what a plugin answered, with this answer in the slot
+abbrev pub answered : Result (Option Ended) NoMemory → AnswerData
+    → Result (Option Decision) NoMemory
+answered (Ok None) answer = Ok None
+answered (Ok (Some e)) answer = Ok (Some (decision_of e answer))
+answered (Err e) answer = Err e
+
 -- plugins of others that say this of a query said it, and left the slot as it was where they go on
 abbrev pub Said : (Query → Option Decision) → Query → AnswerData → AnswerData
     → Result (Option Ended) NoMemory → Type 0

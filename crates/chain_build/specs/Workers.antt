@@ -21,7 +21,7 @@ abbrev pub chain_identity : {B E : Type 0} {b : rulebook.Ghosts B} {e : extra.Gh
 chain_identity chain =
     tag (box_value chain.held).serial (box_value chain.held).worker (plans_of chain)
 
--- it keeps no log, since nothing that workers share answers differently with time
+-- it keeps no log: what a pool that workers share told it stands in its side's journal alone
 abbrev pub chain_log : {B E : Type 0} {b : rulebook.Ghosts B} {e : extra.Ghosts E}
     → Chain B E b e → List (List Mark)
 chain_log chain = []

@@ -1,84 +1,91 @@
-ghost use Rattle.std.specs.Prelude.{◌≡◌, OnOk, map};
+ghost use Rattle.std.specs.Prelude.{◌≡◌, None, OnOk, IfOk, length, map};
 ghost use Rattle.dns_data.specs.Message.{no_answer};
 ghost use Rattle.dns_write.specs.{with_tail};
+ghost use Rattle.forward_plugin.specs.{pool_count};
 ghost use Rattle.outside.specs.Taking.{Asks};
 ghost use Rattle.rewrite_plugin.specs.{changed_by, restored};
-ghost use Rattle.chain_meaning.specs.Mean.{mean, rewritten};
+ghost use Rattle.chain_meaning.specs.Mean.{answer_of, mean, rewritten};
+ghost use Rattle.chain_meaning.specs.Steps.{Forward};
 ghost use Rattle.chain_build.specs.Compiled.{back_answerer, back_of, back_steps};
-ghost use Rattle.chain_build.specs.Walking.{Answered, Restored, decided, decision_of};
+ghost use Rattle.chain_build.specs.Pools.{AllTake, AsksNothing, TakesPools, pools_in};
+ghost use Rattle.chain_build.specs.Walking.{Answered, Restored, answered, decided, decision_of};
 
-use crate::block_chain::{BackAnswerer, BlockChain};
+use crate::block::BlockChain;
+use crate::block_chain::BackAnswerer;
 use crate::ended::Ended;
 use crate::room::{PluginRoom, WalkRoom};
+use crate::walk::Walk;
 use dns_data::{NoMemory, Query};
 use dns_write::Tail;
 use file_plugin::FileSay;
+use forward_plugin::{ForwardPlan, ForwardQuery, ForwardSay, Pools};
 use hosts_plugin::HostsSay;
-use outside::{Kept, Side};
+use outside::Side;
 use plain_plugins::whoami_answer;
 use plugin_api::{Cause, Code};
 use rewrite_plugin::{Changed, RewritePlan, change, restore};
 use std::alloc::Global;
+use std::sync::Wait;
 use template_plugin::TemplateSay;
 
 /// Runs what stands behind a cache: the rest is asked what the rules make of the query, and its
 /// reply is restored. The slot is clear.
 #[inline(always)]
-pub fn run_behind<'a, S: Side>(
-    alloc: Global,
+pub fn run_behind<'a, R: Wait, S: Side>(
+    walk: &Walk<'_, R>,
     chain: &'a BlockChain,
-    query: &Query,
+    pools: &mut Pools,
     side: &mut S,
-    kept: &mut Kept,
     room: &mut WalkRoom,
 ) -> Result<Ended<'a>, NoMemory>
     requires clear { room.old.plugins.slot ≡ no_answer }
-    ensures { Asks (mean (back_steps chain.now.rewrites chain.now.back) query.now)
-        (decided result room.new.plugins.slot) (S.state side.old) (S.state side.new) kept.old
-        kept.new }
+    requires pools { length pools.old ≡ pools_in chain.now.back }
+    ensures count { length pools.new ≡ length pools.old }
+    ensures asks { Asks (mean (back_steps chain.now.rewrites chain.now.back) walk.now.query.now)
+        (decided result room.new.plugins.slot) (S.state side.old) (S.state side.new)
+        room.old.plugins.kept room.new.plugins.kept }
 {
     if chain.rewrites.len() == 0 {
-        return run_back(
-            alloc,
-            chain.back.as_slice(),
-            query,
-            side,
-            kept,
-            &mut room.plugins,
-        );
+        return run_back(walk, chain.back.as_slice(), pools, side, &mut room.plugins);
     }
-    run_rewritten(alloc, chain, query, side, kept, room)
+    run_rewritten(walk, chain, pools, side, room)
 }
 
 // Runs the rest on what the rules make of the query, and restores its reply. Stays a call, so that
 // a chain without rules is short.
 #[inline(never)]
-fn run_rewritten<'a, S: Side>(
-    alloc: Global,
+fn run_rewritten<'a, R: Wait, S: Side>(
+    walk: &Walk<'_, R>,
     chain: &'a BlockChain,
-    query: &Query,
+    pools: &mut Pools,
     side: &mut S,
-    kept: &mut Kept,
     room: &mut WalkRoom,
 ) -> Result<Ended<'a>, NoMemory>
     requires clear { room.old.plugins.slot ≡ no_answer }
-    ensures { Asks
+    requires pools { length pools.old ≡ pools_in chain.now.back }
+    ensures count { length pools.new ≡ length pools.old }
+    ensures asks { Asks
         (rewritten (mean (map back_of chain.now.back)) chain.now.rewrites
-        (changed_by chain.now.rewrites query.now))
-        (decided result room.new.plugins.slot) (S.state side.old) (S.state side.new) kept.old
-        kept.new }
+        (changed_by chain.now.rewrites walk.now.query.now))
+        (decided result room.new.plugins.slot) (S.state side.old) (S.state side.new)
+        room.old.plugins.kept room.new.plugins.kept }
 {
     let (rewrites, back) = (chain.rewrites.as_slice(), chain.back.as_slice());
     change(
-        alloc,
+        walk.alloc,
         rewrites,
-        query,
+        walk.query,
         &mut room.plugins.rewrite,
         &mut room.changed,
     )?;
     let changed = &room.changed;
-    let ended = run_back(alloc, back, &changed.query, side, kept, &mut room.plugins)?;
-    restore_reply(alloc, rewrites, changed, ended, &mut room.plugins)
+    let behind = Walk {
+        rt: walk.rt,
+        alloc: walk.alloc,
+        query: &changed.query,
+    };
+    let ended = run_back(&behind, back, pools, side, &mut room.plugins)?;
+    restore_reply(walk.alloc, rewrites, changed, ended, &mut room.plugins)
 }
 
 // Restores the reply in the slot, where the rest ended with one.
@@ -89,8 +96,9 @@ fn restore_reply<'a>(
     ended: Ended<'a>,
     room: &mut PluginRoom,
 ) -> Result<Ended<'a>, NoMemory>
-    ensures { Restored rewrites.now changed.now (decision_of ended.entry room.old.slot)
+    ensures restored { Restored rewrites.now changed.now (decision_of ended.entry room.old.slot)
         room.new.slot result }
+    ensures kept { room.new.kept ≡ room.old.kept }
 {
     match ended {
         Ended::Reply => {
@@ -115,37 +123,93 @@ fn restore_lent(
     tail: &Tail,
     room: &mut PluginRoom,
 ) -> Result<(), NoMemory>
-    ensures { OnOk result (room.new.slot
+    ensures restored { OnOk result (room.new.slot
         ≡ restored rewrites.now changed.now.steps (with_tail room.old.slot tail.now)) }
+    ensures kept { room.new.kept ≡ room.old.kept }
 {
     tail.copy_into(alloc, &mut room.slot)?;
     restore(alloc, rewrites, changed, &mut room.rewrite, &mut room.slot)
 }
 
 /// Runs the plugins that answer, behind a cache and the rules of `rewrite`. The slot is clear.
-pub fn run_back<'a, S: Side>(
-    alloc: Global,
+pub fn run_back<'a, R: Wait, S: Side>(
+    walk: &Walk<'_, R>,
     steps: &'a [BackAnswerer],
-    query: &Query,
+    pools: &mut Pools,
     side: &mut S,
-    kept: &mut Kept,
     room: &mut PluginRoom,
 ) -> Result<Ended<'a>, NoMemory>
     requires clear { room.old.slot ≡ no_answer }
-    ensures { Asks (mean (map back_of steps.now) query.now) (decided result room.new.slot)
-        (S.state side.old) (S.state side.new) kept.old kept.new }
+    requires pools { AllTake (length pools.old) steps.now }
+    ensures count { length pools.new ≡ length pools.old }
+    ensures asks { Asks (mean (map back_of steps.now) walk.now.query.now)
+        (decided result room.new.slot) (S.state side.old) (S.state side.new)
+        room.old.kept room.new.kept }
 {
     let Some((plugin, rest)) = steps.split_first() else {
         return Ok(Ended::Code(Code::ServFail, Cause::EndOfChain));
     };
-    match back_answer(alloc, plugin, query, room)? {
+    match answer_behind(walk, plugin, pools, side, room)? {
         Some(ended) => Ok(ended),
-        None => run_back(alloc, rest, query, side, kept, room),
+        None => run_back(walk, rest, pools, side, room),
     }
 }
 
 /// What a plugin behind a cache answers, with the answer of a reply in the slot, which is clear.
 /// None: it goes on.
+#[inline(always)]
+pub fn answer_behind<'a, R: Wait, S: Side>(
+    walk: &Walk<'_, R>,
+    plugin: &'a BackAnswerer,
+    pools: &mut Pools,
+    side: &mut S,
+    room: &mut PluginRoom,
+) -> Result<Option<Ended<'a>>, NoMemory>
+    requires clear { room.old.slot ≡ no_answer }
+    requires pools { TakesPools (length pools.old) (back_of plugin.now) }
+    ensures count { length pools.new ≡ length pools.old }
+    ensures asks { Asks (answer_of (back_answerer plugin.now) walk.now.query.now)
+        (answered result room.new.slot) (S.state side.old) (S.state side.new)
+        room.old.kept room.new.kept }
+    ensures next { IfOk result (λ r. r ≡ None → room.new.slot ≡ room.old.slot) }
+{
+    if let BackAnswerer::Forward(plans) = plugin {
+        return run_forward(walk, plans.as_slice(), pools, side, room);
+    }
+    back_answer(walk.alloc, plugin, walk.query, room)
+}
+
+// Asks the upstreams of the directives `forward` of a block.
+#[inline(never)]
+fn run_forward<R: Wait, S: Side>(
+    walk: &Walk<'_, R>,
+    plans: &[ForwardPlan],
+    pools: &mut Pools,
+    side: &mut S,
+    room: &mut PluginRoom,
+) -> Result<Option<Ended<'static>>, NoMemory>
+    requires { pool_count plans.now ≡ length pools.old }
+    ensures count { length pools.new ≡ length pools.old }
+    ensures asks { Asks (answer_of (Forward plans.now) walk.now.query.now)
+        (answered result room.new.slot) (S.state side.old) (S.state side.new)
+        room.old.kept room.new.kept }
+    ensures next { IfOk result (λ r. r ≡ None → room.new.slot ≡ room.old.slot) }
+{
+    let asked = ForwardQuery {
+        rt: walk.rt,
+        alloc: walk.alloc,
+        plans,
+        query: walk.query,
+    };
+    match pools.decide(&asked, side, &mut room.kept, &mut room.slot)? {
+        ForwardSay::Reply => Ok(Some(Ended::Reply)),
+        ForwardSay::Next => Ok(None),
+        ForwardSay::AllFailed => Ok(Some(Ended::Code(Code::ServFail, Cause::AllUpstreams))),
+    }
+}
+
+/// What a plugin behind a cache that asks nothing answers, with the answer of a reply in the slot,
+/// which is clear. None: it goes on.
 #[tactic(auto, unfolding(chain_meaning::specs::Mean::answer_of))]
 pub fn back_answer<'a>(
     alloc: Global,
@@ -154,7 +218,10 @@ pub fn back_answer<'a>(
     room: &mut PluginRoom,
 ) -> Result<Option<Ended<'a>>, NoMemory>
     requires clear { room.old.slot ≡ no_answer }
-    ensures { Answered (back_answerer plugin.now) query.now room.old.slot room.new.slot result }
+    requires quiet { AsksNothing plugin.now }
+    ensures answered { Answered (back_answerer plugin.now) query.now room.old.slot room.new.slot
+        result }
+    ensures kept { room.new.kept ≡ room.old.kept }
 {
     let slot = &mut room.slot;
     match plugin {
@@ -184,6 +251,7 @@ pub fn back_answer<'a>(
                 FileSay::Next => Ok(None),
             }
         }
+        BackAnswerer::Forward(_) => unreachable!(),
         BackAnswerer::Whoami => {
             whoami_answer(alloc, query, slot)?;
             Ok(Some(Ended::Reply))

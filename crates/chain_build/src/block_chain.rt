@@ -1,23 +1,13 @@
-//! The chain of a block, as it runs.
+//! The steps of a block's chain.
 
+use crate::block::BlockChain;
 use acl_plugin::AclPlan;
-use dns_data::{Directives, Seq};
+use dns_data::Seq;
 use file_plugin::FilePlan;
+use forward_plugin::ForwardPlan;
 use hosts_plugin::HostsPlan;
 use plain_plugins::PlainPlan;
-use rewrite_plugin::RewritePlan;
 use template_plugin::TemplatePlan;
-
-/// The chain of a block, as it runs.
-#[derive(Drop)]
-pub struct BlockChain {
-    pub front: Seq<FrontStep>,
-    /// The directives of extras, which stand behind the front.
-    pub extras: Directives,
-    /// The rules that change the query for the plugins behind them.
-    pub rewrites: Seq<RewritePlan>,
-    pub back: Seq<BackAnswerer>,
-}
 
 /// A step that stands in front of a cache.
 #[derive(Debug, Drop)]
@@ -34,12 +24,14 @@ pub enum FrontAnswerer {
     Any,
 }
 
-/// A plugin behind a cache, which answers or goes on, and notes nothing.
+/// A plugin behind a cache, which answers or goes on, and notes nothing. `Forward` alone asks the
+/// outside.
 #[derive(Drop)]
 pub enum BackAnswerer {
     Template(Seq<TemplatePlan>),
     Hosts(HostsPlan),
     File(Seq<FilePlan>),
+    Forward(Seq<ForwardPlan>),
     Whoami,
 }
 

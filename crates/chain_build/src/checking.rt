@@ -11,7 +11,7 @@ ghost use Rattle.chain_build.specs.Chains.{MakesBlock, MakesBlocks, MakesPlans};
 ghost use Rattle.chain_build.specs.Chains.{ReadsBundle};
 ghost use Rattle.chain_build.specs.Reading.{check_behind};
 
-use crate::block_chain::BlockChain;
+use crate::block::BlockChain;
 use crate::compiling::compile;
 use crate::fault::CheckFault;
 use crate::judges::{Bench, Judges};

@@ -1,16 +1,18 @@
 ghost use Rattle.std.specs.Prelude.{◌≡◌, ◌++◌, map, IfOk, OnOk};
 ghost use Rattle.plugin_api.specs.{PlanData};
 ghost use Rattle.chain_meaning.specs.Steps.{acl_steps, any_steps, error_steps, log_steps};
-ghost use Rattle.chain_meaning.specs.Steps.{file_steps, hosts_steps, template_steps};
+ghost use Rattle.chain_meaning.specs.Steps.{file_steps, forward_steps, hosts_steps, template_steps};
 ghost use Rattle.chain_meaning.specs.Steps.{whoami_steps};
 ghost use Rattle.chain_build.specs.Compiled.{back_of, front_of};
 ghost use Rattle.chain_build.specs.Places.{answers_in, front_in};
 
-use crate::block_chain::{BackAnswerer, BlockChain, FrontAnswerer, FrontStep};
+use crate::block::BlockChain;
+use crate::block_chain::{BackAnswerer, FrontAnswerer, FrontStep};
 use crate::places::Places;
 use acl_plugin::AclPlan;
 use dns_data::{NoMemory, Seq};
 use file_plugin::FilePlan;
+use forward_plugin::ForwardPlan;
 use hosts_plugin::HostsPlan;
 use plain_plugins::PlainPlan;
 use std::alloc::Global;
@@ -33,6 +35,7 @@ pub fn compile(alloc: Global, places: Places) -> Result<BlockChain, NoMemory>
         templates,
         hosts,
         files,
+        forwards,
         whoami,
         patterns: _,
     } = places;
@@ -41,17 +44,35 @@ pub fn compile(alloc: Global, places: Places) -> Result<BlockChain, NoMemory>
     push_logs(&mut front, logs)?;
     push_acls(&mut front, acls)?;
     push_any(&mut front, any)?;
-    let mut back = Seq::new(alloc);
-    push_templates(&mut back, templates)?;
-    push_hosts(&mut back, hosts)?;
-    push_files(&mut back, files)?;
-    push_whoami(&mut back, whoami)?;
+    let back = compile_back(alloc, templates, hosts, files, forwards, whoami)?;
     Ok(BlockChain {
         front,
         extras,
         rewrites,
         back,
     })
+}
+
+// Those that stand behind a cache and answer.
+fn compile_back(
+    alloc: Global,
+    templates: Seq<TemplatePlan>,
+    hosts: Seq<HostsPlan>,
+    files: Seq<FilePlan>,
+    forwards: Seq<ForwardPlan>,
+    whoami: bool,
+) -> Result<Seq<BackAnswerer>, NoMemory>
+    ensures { IfOk result (λ back. map back_of back
+        ≡ template_steps templates ++ (hosts_steps hosts ++ (file_steps files
+        ++ (forward_steps forwards ++ whoami_steps whoami)))) }
+{
+    let mut back = Seq::new(alloc);
+    push_templates(&mut back, templates)?;
+    push_hosts(&mut back, hosts)?;
+    push_files(&mut back, files)?;
+    push_forwards(&mut back, forwards)?;
+    push_whoami(&mut back, whoami)?;
+    Ok(back)
 }
 
 fn push_errors(steps: &mut Seq<FrontStep>, errors: bool) -> Result<(), NoMemory>
@@ -126,6 +147,16 @@ fn push_files(steps: &mut Seq<BackAnswerer>, files: Seq<FilePlan>) -> Result<(),
 {
     if files.len() > 0 {
         return steps.push(BackAnswerer::File(files));
+    }
+    Ok(())
+}
+
+fn push_forwards(steps: &mut Seq<BackAnswerer>, forwards: Seq<ForwardPlan>) -> Result<(), NoMemory>
+    ensures { OnOk result
+        (map back_of steps.new ≡ map back_of steps.old ++ forward_steps forwards) }
+{
+    if forwards.len() > 0 {
+        return steps.push(BackAnswerer::Forward(forwards));
     }
     Ok(())
 }

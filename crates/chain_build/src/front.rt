@@ -1,61 +1,75 @@
 ghost use Rattle.dns_data.specs.declared.limit.TheConstants as limits;
-ghost use Rattle.std.specs.Prelude.{◌≡◌, ◌<◌};
+ghost use Rattle.std.specs.Prelude.{◌≡◌, ◌<◌, length};
 ghost use Rattle.dns_data.specs.Message.{no_answer};
 ghost use Rattle.outside.specs.Taking.{Takes};
 ghost use Rattle.acl_plugin.specs.{acl_say};
 ghost use Rattle.chain_meaning.specs.Mean.{mean, nothing};
 ghost use Rattle.chain_build.specs.Compiled.{back_steps, front_answerer, others_steps};
 ghost use Rattle.chain_build.specs.Compiled.{whole_with};
+ghost use Rattle.chain_build.specs.Pools.{pools_in};
 ghost use Rattle.chain_build.specs.Walking.{Answered, decided};
 
 use crate::back::run_behind;
-use crate::block_chain::{BlockChain, ChainRest, FrontAnswerer, FrontStep};
+use crate::block::BlockChain;
+use crate::block_chain::{ChainRest, FrontAnswerer, FrontStep};
 use crate::ended::Ended;
 use crate::extras::Extras;
 use crate::noting::{note_error, note_query};
 use crate::room::WalkRoom;
+use crate::walk::Walk;
 use acl_plugin::{AclSay, decide};
 use dns_data::{NoMemory, Query, Slot, kind, rcode};
+use forward_plugin::Pools;
 use outside::{Kept, Side};
 use plain_plugins::any_answer;
 use std::alloc::Global;
+use std::sync::Wait;
 
 /// Runs what is left of a chain: its steps in front of a cache, plugins of others where these end,
 /// and then what stands behind a cache. The slot is clear.
-pub fn run_front<'a, S: Side, X: Extras>(
-    alloc: Global,
+pub fn run_front<'a, R: Wait, S: Side, X: Extras>(
+    walk: &Walk<'_, R>,
     steps: ChainRest<'a>,
-    query: &Query,
-    side: &mut S,
+    pools: &mut Pools,
     extras: &mut X,
+    side: &mut S,
     room: &mut WalkRoom,
 ) -> Result<Ended<'a>, NoMemory>
     requires clear { room.old.plugins.slot ≡ no_answer }
+    requires pools { length pools.old ≡ pools_in steps.behind.now.back }
+    ensures count { length pools.new ≡ length pools.old }
     ensures takes { Takes
         (mean (whole_with (X.says extras.old) steps.entry.front.now
-        steps.entry.behind.now.rewrites steps.entry.behind.now.back) query.now)
+        steps.entry.behind.now.rewrites steps.entry.behind.now.back) walk.now.query.now)
         (decided result room.new.plugins.slot) (S.state side.old) (S.state side.new) }
     ensures stays { X.says extras.new ≡ X.says extras.old }
     ensures set { X.directives extras.new ≡ X.directives extras.old }
 {
     let behind = steps.behind;
     let Some((step, front)) = steps.front.split_first() else {
-        return run_others(alloc, behind, query, side, extras, room);
+        return run_others(walk, behind, pools, extras, side, room);
     };
     let rest = ChainRest { front, behind };
     match step {
         FrontStep::Errors => {
-            let ended = run_front(alloc, rest, query, side, extras, room)?;
-            note_error(alloc, query, ended, side)
+            let ended = run_front(walk, rest, pools, extras, side, room)?;
+            note_error(walk.alloc, walk.query, ended, side)
         }
         FrontStep::Log(plan) => {
-            let ended = run_front(alloc, rest, query, side, extras, room)?;
-            note_query(alloc, plan, query, ended, &room.plugins.slot, side)
+            let ended = run_front(walk, rest, pools, extras, side, room)?;
+            note_query(
+                walk.alloc,
+                plan,
+                walk.query,
+                ended,
+                &room.plugins.slot,
+                side,
+            )
         }
         FrontStep::Answers(plugin) => {
-            match front_answer(alloc, plugin, query, &mut room.plugins.slot)? {
+            match front_answer(walk.alloc, plugin, walk.query, &mut room.plugins.slot)? {
                 Some(ended) => Ok(ended),
-                None => run_front(alloc, rest, query, side, extras, room),
+                None => run_front(walk, rest, pools, extras, side, room),
             }
         }
     }
@@ -64,42 +78,48 @@ pub fn run_front<'a, S: Side, X: Extras>(
 // Asks plugins of others, and where they go on runs what stands behind a cache.
 #[inline(always)]
 #[tactic(auto, using(crate::proofs::Walks::others_starved, crate::proofs::Walks::others_say, crate::proofs::Walks::others_go))]
-fn run_others<'a, S: Side, X: Extras>(
-    alloc: Global,
+fn run_others<'a, R: Wait, S: Side, X: Extras>(
+    walk: &Walk<'_, R>,
     chain: &'a BlockChain,
-    query: &Query,
-    side: &mut S,
+    pools: &mut Pools,
     extras: &mut X,
+    side: &mut S,
     room: &mut WalkRoom,
 ) -> Result<Ended<'a>, NoMemory>
     requires clear { room.old.plugins.slot ≡ no_answer }
+    requires pools { length pools.old ≡ pools_in chain.now.back }
+    ensures count { length pools.new ≡ length pools.old }
     ensures takes { Takes
-        (mean (others_steps (X.says extras.old) chain.now.rewrites chain.now.back) query.now)
+        (mean (others_steps (X.says extras.old) chain.now.rewrites chain.now.back)
+        walk.now.query.now)
         (decided result room.new.plugins.slot) (S.state side.old) (S.state side.new) }
     ensures stays { X.says extras.new ≡ X.says extras.old }
     ensures set { X.directives extras.new ≡ X.directives extras.old }
 {
-    match extras.answer(alloc, query, &mut room.plugins.slot)? {
+    match extras.answer(walk.alloc, walk.query, &mut room.plugins.slot)? {
         Some(ended) => Ok(ended),
-        None => run_uncached(alloc, chain, query, side, room),
+        None => run_uncached(walk, chain, pools, side, room),
     }
 }
 
 /// Runs what stands behind a cache in a chain that has none. The slot is clear.
 #[inline(always)]
-pub fn run_uncached<'a, S: Side>(
-    alloc: Global,
+pub fn run_uncached<'a, R: Wait, S: Side>(
+    walk: &Walk<'_, R>,
     chain: &'a BlockChain,
-    query: &Query,
+    pools: &mut Pools,
     side: &mut S,
     room: &mut WalkRoom,
 ) -> Result<Ended<'a>, NoMemory>
     requires clear { room.old.plugins.slot ≡ no_answer }
-    ensures { Takes (mean (back_steps chain.now.rewrites chain.now.back) query.now)
+    requires pools { length pools.old ≡ pools_in chain.now.back }
+    ensures count { length pools.new ≡ length pools.old }
+    ensures takes { Takes
+        (mean (back_steps chain.now.rewrites chain.now.back) walk.now.query.now)
         (decided result room.new.plugins.slot) (S.state side.old) (S.state side.new) }
 {
-    let mut kept = Kept::Off;
-    run_behind(alloc, chain, query, side, &mut kept, room)
+    room.plugins.kept = Kept::Off;
+    run_behind(walk, chain, pools, side, room)
 }
 
 /// What a plugin in front of a cache answers, with the answer of a reply in the slot, which is

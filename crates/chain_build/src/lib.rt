@@ -4,6 +4,7 @@
 
 mod asking;
 mod back;
+mod block;
 mod block_chain;
 mod building;
 mod chain;
@@ -21,13 +22,15 @@ mod places;
 mod plans;
 mod room;
 mod serving;
+mod walk;
 
 pub use asking::{
     fill_query, header_reply, is_known_version, limit_of, opt_reply, query_of, reply_message,
     upper_code,
 };
-pub use back::{back_answer, run_back, run_behind};
-pub use block_chain::{BackAnswerer, BlockChain, ChainRest, FrontAnswerer, FrontStep};
+pub use back::{answer_behind, back_answer, run_back, run_behind};
+pub use block::BlockChain;
+pub use block_chain::{BackAnswerer, ChainRest, FrontAnswerer, FrontStep};
 pub use building::{BuildFault, build, take_back};
 pub use chain::Chain;
 pub use checking::{ReadBundle, block_chains, check, read_bundle};
@@ -42,4 +45,5 @@ pub use own::{OwnChain, OwnPlans};
 pub use places::{Places, read_block};
 pub use plans::Plans;
 pub use room::{PluginRoom, Room, WalkRoom};
-pub use serving::serve;
+pub use serving::{Arrived, serve};
+pub use walk::Walk;

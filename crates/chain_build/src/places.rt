@@ -25,6 +25,7 @@ use dns_data::{
     Block, BlockKey, Copies, Directive, Directives, FileText, Names, NoMemory, Seq, Text,
 };
 use file_plugin::{FileFault, FilePlan};
+use forward_plugin::ForwardPlan;
 use hosts_plugin::HostsPlan;
 use outside::PatternMaker;
 use plain_plugins::PlainPlan;
@@ -46,6 +47,7 @@ pub struct Places {
     pub templates: Seq<TemplatePlan>,
     pub hosts: Seq<HostsPlan>,
     pub files: Seq<FilePlan>,
+    pub forwards: Seq<ForwardPlan>,
     pub whoami: bool,
     /// How many patterns of the configuration stand behind these directives.
     pub patterns: usize,
@@ -76,6 +78,7 @@ impl Places {
             templates: Seq::new(alloc),
             hosts: Seq::new(alloc),
             files: Seq::new(alloc),
+            forwards: Seq::new(alloc),
             whoami: false,
             patterns,
         }
@@ -291,6 +294,7 @@ fn read_as(
     match rank {
         Rank::File => read_file(alloc, reading, places),
         Rank::Hosts => read_hosts(alloc, reading, places),
+        Rank::Forward => read_forward(alloc, reading, places),
         Rank::Acl => match AclPlan::read(alloc, reading.directive, reading.zones) {
             Ok(plan) => {
                 places.acls.push(plan)?;
@@ -306,7 +310,7 @@ fn read_as(
                 }
                 Err(fault) => Err(refused(fault)),
             },
-        Rank::Dns64 | Rank::Extra | Rank::Cache | Rank::Forward => Err(unknown(reading.directive)),
+        Rank::Dns64 | Rank::Extra | Rank::Cache => Err(unknown(reading.directive)),
         Rank::Rewrite | Rank::Template => unreachable!(),
     }
 }
@@ -322,6 +326,20 @@ fn read_hosts(alloc: Global, reading: &Reading<'_>, places: &mut Places) -> Resu
     match HostsPlan::read(alloc, directive, reading.zones, file) {
         Ok(plan) => {
             places.hosts.push(plan)?;
+            Ok(())
+        }
+        Err(fault) => Err(refused(fault)),
+    }
+}
+
+// Reads a directive `forward`. Neither zones nor what stands before it is any matter.
+fn read_forward(alloc: Global, reading: &Reading<'_>, places: &mut Places) -> Result<(), CheckFault>
+    ensures { ReadsAs rank.Forward (behind_at reading.now places.old) reading.now.directive.now
+        places.old places.new result }
+{
+    match ForwardPlan::read(alloc, reading.directive, reading.files) {
+        Ok(plan) => {
+            places.forwards.push(plan)?;
             Ok(())
         }
         Err(fault) => Err(refused(fault)),

@@ -1,6 +1,6 @@
 ghost use Rattle.chain_build.specs.Plans.{ArePlans};
 
-use crate::block_chain::BlockChain;
+use crate::block::BlockChain;
 use corefile_blocks::Bundle;
 use dns_data::{Blocks, Directives, Seq, Strings};
 use plugin_api::{BlockIndex, Rulebook};

@@ -2,6 +2,7 @@ ghost use Rattle.std.specs.Prelude.{◌≡◌, []};
 ghost use Rattle.dns_data.specs.Message.{no_answer};
 
 use dns_data::{Buffer, Query, Slot};
+use outside::Kept;
 use rewrite_plugin::{Changed, RewriteRoom};
 use std::alloc::Global;
 use std::mem;
@@ -28,6 +29,8 @@ pub struct WalkRoom {
 #[derive(Drop)]
 pub struct PluginRoom {
     pub slot: Slot,
+    /// What a cache in front keeps of the inner marks.
+    pub kept: Kept,
     pub template: TemplateRoom,
     pub rewrite: RewriteRoom,
 }
@@ -38,6 +41,7 @@ impl PluginRoom {
     {
         PluginRoom {
             slot: Slot::new(alloc),
+            kept: Kept::Off,
             template: TemplateRoom::new(alloc),
             rewrite: RewriteRoom::new(alloc),
         }

@@ -1,6 +1,6 @@
 ghost use Rattle.dns_data.specs.declared.limit.TheConstants as limits;
 ghost use Rattle.std.specs.Prelude.{◌≡◌, ◌≤◌, ◌<◌, Some, None, IfOk, IfSome, IsTrue, IsFalse};
-ghost use Rattle.std.specs.Prelude.{option_map, slice_get};
+ghost use Rattle.std.specs.Prelude.{length, map, option_map, slice_get};
 ghost use Rattle.dns_data.specs.Message.{AreCodes, no_answer};
 ghost use Rattle.dns_wire.specs.{QueriesThis, asked_by};
 ghost use Rattle.dns_write.specs.Assembled.{message_of};
@@ -14,29 +14,38 @@ ghost use Rattle.chain_meaning.specs.declared.decision.Decision.TheVariants as d
 ghost use Rattle.chain_build.specs.Plans.{steps_in, terms_in};
 ghost use Rattle.chain_build.specs.Workers.{chain_identity, plans_of};
 ghost use Rattle.chain_build.specs.Replying.{TellsServing, lent_of, whole_answer, whole_message};
+ghost use Rattle.chain_build.specs.BlockPools.{chain_pools};
+ghost use Rattle.chain_build.specs.Holding.{IsHeld, IsSame};
+ghost use Rattle.chain_build.specs.Pools.{pools_in};
 ghost use Rattle.chain_build.specs.Walking.{decided, decision_of};
 
 use crate::asking::{
     fill_query, header_reply, is_known_version, limit_of, opt_reply, reply_message, upper_code,
 };
-use crate::block_chain::{BlockChain, ChainRest};
+use crate::block::BlockChain;
+use crate::block_chain::ChainRest;
 use crate::chain::Chain;
 use crate::ended::Ended;
 use crate::extras::NoExtras;
 use crate::front::{run_front, run_uncached};
+use crate::held::Held;
 use crate::plans::Plans;
 use crate::room::{Room, WalkRoom};
+use crate::walk::Walk;
 use chain_meaning::{Served, Silence, number};
 use dns_data::{Buffer, NoMemory, Opt, Query, Slot, class, rcode};
 use dns_wire::{AskedBeside, QueryFault, read_asked_into};
 use dns_write::{MessageParts, Tail, write_lent};
 use extra_stock::Seats;
+use forward_plugin::Pools;
 use outside::{Datagram, Side};
 use plugin_api::{Extra, Rulebook};
 use std::alloc::Global;
+use std::sync::Wait;
 
 /// Serves one datagram by a chain. The reply is made in the worker's room.
-pub fn serve<B: Rulebook, E: Extra, S: Side>(
+pub fn serve<R: Wait, B: Rulebook, E: Extra, S: Side>(
+    rt: &R,
     alloc: Global,
     chain: &mut Chain<B, E>,
     datagram: &Datagram,
@@ -48,39 +57,40 @@ pub fn serve<B: Rulebook, E: Extra, S: Side>(
         datagram.now result (S.state side.old) (S.state side.new) }
     ensures same { chain_identity chain.new ≡ chain_identity chain.old }
 {
-    serve_by(
+    let arrived = Arrived {
+        rt,
         alloc,
-        &chain.plans,
-        &mut chain.held.seats,
         datagram,
-        side,
-        room,
-    )
+    };
+    serve_by(&arrived, &chain.plans, &mut chain.held, side, room)
 }
 
-// Serves one datagram by what was read, and the extras of its blocks.
-fn serve_by<B: Rulebook, E: Extra, S: Side>(
-    alloc: Global,
+/// A datagram that came, and what serving works with.
+#[derive(Drop)]
+pub struct Arrived<'a, R> {
+    /// By which a worker may wait for the lock of a pool.
+    pub rt: &'a R,
+    pub alloc: Global,
+    pub datagram: &'a Datagram,
+}
+
+// Serves one datagram by what was read, and what a chain has for itself.
+fn serve_by<R: Wait, B: Rulebook, E: Extra, S: Side>(
+    arrived: &Arrived<'_, R>,
     plans: &Plans<B>,
-    seats: &mut Vec<Seats<B, E>>,
-    datagram: &Datagram,
+    held: &mut Held<B, E>,
     side: &mut S,
     room: &mut Room,
 ) -> Served
-    requires seated { seats.old.items ≡ plans.now.extras }
+    requires holds { IsHeld plans.now held.old }
     ensures tells { TellsServing plans.now.bundle (terms_in B.taken B.said plans.now)
-        datagram.now result (S.state side.old) (S.state side.new) }
-    ensures seated { seats.new.items ≡ seats.old.items }
+        arrived.now.datagram.now result (S.state side.old) (S.state side.new) }
+    ensures holds { IsHeld plans.now held.new }
+    ensures same { IsSame held.old held.new }
 {
+    let (alloc, datagram) = (arrived.alloc, arrived.datagram);
     match read_asked_into(alloc, datagram.bytes.as_slice(), &mut room.query.name) {
-        Ok(beside) => reply(
-            alloc,
-            plans,
-            seats,
-            Arrived { datagram, beside },
-            side,
-            room,
-        ),
+        Ok(beside) => reply(arrived, beside, plans, held, side, room),
         Err(QueryFault::Short) => Served::Silent(Silence::Short),
         Err(QueryFault::Response) => Served::Silent(Silence::Response),
         Err(QueryFault::NotImp(head)) => match header_reply(alloc, head, rcode::NOTIMP) {
@@ -95,38 +105,36 @@ fn serve_by<B: Rulebook, E: Extra, S: Side>(
     }
 }
 
-// A datagram, and what it asks beside a name.
-#[derive(Clone, Copy)]
-struct Arrived<'a> {
-    datagram: &'a Datagram,
-    beside: AskedBeside,
-}
-
 // The reply to what a query asks, whose name stands in the room.
-fn reply<B: Rulebook, E: Extra, S: Side>(
-    alloc: Global,
+fn reply<R: Wait, B: Rulebook, E: Extra, S: Side>(
+    arrived: &Arrived<'_, R>,
+    beside: AskedBeside,
     plans: &Plans<B>,
-    seats: &mut Vec<Seats<B, E>>,
-    arrived: Arrived<'_>,
+    held: &mut Held<B, E>,
     side: &mut S,
     room: &mut Room,
 ) -> Served
-    requires asks { QueriesThis arrived.datagram.now.bytes
-        (asked_by room.old.query.name arrived.beside) }
-    requires seated { seats.old.items ≡ plans.now.extras }
+    requires asks { QueriesThis arrived.now.datagram.now.bytes
+        (asked_by room.old.query.name beside) }
+    requires holds { IsHeld plans.now held.old }
     ensures tells { TellsServing plans.now.bundle (terms_in B.taken B.said plans.now)
-        arrived.entry.datagram.now result (S.state side.old) (S.state side.new) }
-    ensures seated { seats.new.items ≡ seats.old.items }
+        arrived.now.datagram.now result (S.state side.old) (S.state side.new) }
+    ensures holds { IsHeld plans.now held.new }
+    ensures same { IsSame held.old held.new }
 {
-    let Arrived { datagram, beside } = arrived;
+    let (alloc, datagram) = (arrived.alloc, arrived.datagram);
     plans.tell();
     fill_query(&mut room.query, datagram, beside);
     let asked = AskedQuery {
-        query: &room.query,
+        walk: Walk {
+            rt: arrived.rt,
+            alloc,
+            query: &room.query,
+        },
         opt: beside.opt,
         class: beside.class,
     };
-    let Ok(ended) = decide(alloc, plans, seats, asked, side, &mut room.walk) else {
+    let Ok(ended) = decide(&asked, plans, held, side, &mut room.walk) else {
         return Served::NoMemory;
     };
     if !settle(ended, &mut room.walk.plugins.slot) {
@@ -198,79 +206,80 @@ fn set_code(slot: &mut Slot, rcode: u8)
     slot.rcode = rcode;
 }
 
-// A query, and its OPT record and class.
-#[derive(Clone, Copy)]
-struct AskedQuery<'a> {
-    query: &'a Query,
+// A query on its way, and its OPT record and class.
+#[derive(Drop)]
+struct AskedQuery<'a, R> {
+    walk: Walk<'a, R>,
     opt: Option<Opt>,
     class: u16,
 }
 
 // What is decided for a query with this OPT record and class.
-fn decide<'a, B: Rulebook, E: Extra, S: Side>(
-    alloc: Global,
+fn decide<'a, R: Wait, B: Rulebook, E: Extra, S: Side>(
+    asked: &AskedQuery<'_, R>,
     plans: &'a Plans<B>,
-    seats: &mut Vec<Seats<B, E>>,
-    asked: AskedQuery<'_>,
+    held: &mut Held<B, E>,
     side: &mut S,
     room: &mut WalkRoom,
 ) -> Result<Ended<'a>, NoMemory>
-    requires seated { seats.old.items ≡ plans.now.extras }
+    requires holds { IsHeld plans.now held.old }
     ensures takes { Takes
-        (query_decides asked.entry.opt asked.entry.class (steps_of B.said plans.now.bundle.files)
-        plans.now.blocks asked.entry.query.now)
+        (query_decides asked.now.opt asked.now.class (steps_of B.said plans.now.bundle.files)
+        plans.now.blocks asked.now.walk.query.now)
         (decided result room.new.plugins.slot) (S.state side.old) (S.state side.new) }
-    ensures seated { seats.new.items ≡ seats.old.items }
+    ensures holds { IsHeld plans.now held.new }
+    ensures same { IsSame held.old held.new }
 {
     room.plugins.slot.clear();
     if is_known_version(asked.opt) {
-        return decide_class(alloc, plans, seats, asked, side, room);
+        return decide_class(asked, plans, held, side, room);
     }
     Ok(Ended::Reply)
 }
 
-fn decide_class<'a, B: Rulebook, E: Extra, S: Side>(
-    alloc: Global,
+fn decide_class<'a, R: Wait, B: Rulebook, E: Extra, S: Side>(
+    asked: &AskedQuery<'_, R>,
     plans: &'a Plans<B>,
-    seats: &mut Vec<Seats<B, E>>,
-    asked: AskedQuery<'_>,
+    held: &mut Held<B, E>,
     side: &mut S,
     room: &mut WalkRoom,
 ) -> Result<Ended<'a>, NoMemory>
     requires clear { room.old.plugins.slot ≡ no_answer }
-    requires seated { seats.old.items ≡ plans.now.extras }
+    requires holds { IsHeld plans.now held.old }
     ensures takes { Takes
-        (class_decides asked.entry.class (steps_of B.said plans.now.bundle.files) plans.now.blocks
-        asked.entry.query.now)
+        (class_decides asked.now.class (steps_of B.said plans.now.bundle.files) plans.now.blocks
+        asked.now.walk.query.now)
         (decided result room.new.plugins.slot) (S.state side.old) (S.state side.new) }
-    ensures seated { seats.new.items ≡ seats.old.items }
+    ensures holds { IsHeld plans.now held.new }
+    ensures same { IsSame held.old held.new }
 {
     if asked.class == class::IN {
-        return decide_block(alloc, plans, seats, asked.query, side, room);
+        return decide_block(&asked.walk, plans, held, side, room);
     }
     set_code(&mut room.plugins.slot, rcode::REFUSED);
     Ok(Ended::Reply)
 }
 
 // By the chain of the block with the longest zone on the port at which the query came.
-fn decide_block<'a, B: Rulebook, E: Extra, S: Side>(
-    alloc: Global,
+fn decide_block<'a, R: Wait, B: Rulebook, E: Extra, S: Side>(
+    walk: &Walk<'_, R>,
     plans: &'a Plans<B>,
-    seats: &mut Vec<Seats<B, E>>,
-    query: &Query,
+    held: &mut Held<B, E>,
     side: &mut S,
     room: &mut WalkRoom,
 ) -> Result<Ended<'a>, NoMemory>
     requires clear { room.old.plugins.slot ≡ no_answer }
-    requires seated { seats.old.items ≡ plans.now.extras }
+    requires holds { IsHeld plans.now held.old }
     ensures takes { Takes
         (block_decides (steps_of B.said plans.now.bundle.files)
-        (block_of plans.now.blocks query.now) query.now)
+        (block_of plans.now.blocks walk.now.query.now) walk.now.query.now)
         (decided result room.new.plugins.slot) (S.state side.old) (S.state side.new) }
-    ensures seated { seats.new.items ≡ seats.old.items }
+    ensures holds { IsHeld plans.now held.new }
+    ensures same { IsSame held.old held.new }
 {
-    if let Some((number, steps)) = chain_of(plans, query) {
-        return run_chain(alloc, steps, &mut seats[number], query, side, room);
+    if let Some((number, steps)) = chain_of(plans, walk.query) {
+        let (seats, pools) = (&mut held.seats[number], &mut held.pools[number]);
+        return run_chain(walk, steps, seats, pools, side, room);
     }
     set_code(&mut room.plugins.slot, rcode::REFUSED);
     Ok(Ended::Reply)
@@ -284,6 +293,9 @@ fn chain_of<'a, B: Rulebook>(plans: &'a Plans<B>, query: &Query) -> Option<(usiz
         (block_of plans.now.blocks query.now) }
     ensures extras { IfSome result
         (λ found. slice_get plans.now.extras found.0 ≡ Some found.1.now.extras) }
+    ensures pools { IfSome result
+        (λ found. slice_get (map chain_pools plans.now.chains) found.0
+        ≡ Some (pools_in found.1.now.back)) }
 {
     let number = plans.index.find(query.local, &query.name)? as usize;
     if plans.chains.len() <= number {
@@ -294,37 +306,35 @@ fn chain_of<'a, B: Rulebook>(plans: &'a Plans<B>, query: &Query) -> Option<(usiz
 
 // Runs the chain of a block, which mostly has no extras and nothing in front. One without a step
 // refuses.
-fn run_chain<'a, B: Rulebook, E: Extra, S: Side>(
-    alloc: Global,
+fn run_chain<'a, R: Wait, B: Rulebook, E: Extra, S: Side>(
+    walk: &Walk<'_, R>,
     chain: &'a BlockChain,
     seats: &mut Seats<B, E>,
-    query: &Query,
+    pools: &mut Pools,
     side: &mut S,
     room: &mut WalkRoom,
 ) -> Result<Ended<'a>, NoMemory>
     requires clear { room.old.plugins.slot ≡ no_answer }
     requires seated { seats.old ≡ chain.now.extras }
-    ensures takes { Takes (chain_decides (steps_in B.said chain.now) query.now)
+    requires pools { length pools.old ≡ pools_in chain.now.back }
+    ensures takes { Takes (chain_decides (steps_in B.said chain.now) walk.now.query.now)
         (decided result room.new.plugins.slot) (S.state side.old) (S.state side.new) }
     ensures seated { seats.new ≡ seats.old }
+    ensures count { length pools.new ≡ length pools.old }
 {
     let front = chain.front.as_slice();
+    let whole = ChainRest {
+        front,
+        behind: chain,
+    };
     if 0 < chain.extras.len() {
-        let whole = ChainRest {
-            front,
-            behind: chain,
-        };
-        return run_front(alloc, whole, query, side, seats, room);
+        return run_front(walk, whole, pools, seats, side, room);
     }
     if 0 < front.len() {
-        let whole = ChainRest {
-            front,
-            behind: chain,
-        };
-        return run_front(alloc, whole, query, side, &mut NoExtras, room);
+        return run_front(walk, whole, pools, &mut NoExtras, side, room);
     }
     if 0 < chain.rewrites.len() || 0 < chain.back.len() {
-        return run_uncached(alloc, chain, query, side, room);
+        return run_uncached(walk, chain, pools, side, room);
     }
     set_code(&mut room.plugins.slot, rcode::REFUSED);
     Ok(Ended::Reply)

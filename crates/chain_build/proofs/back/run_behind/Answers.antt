@@ -6,16 +6,16 @@ use Rattle.chain_build.specs.Compiled.{back_of, back_steps}
 use Rattle.chain_build.specs.WalkingLaws.{behind-none, behind-rules}
 use Rattle.chain_build.proofs.back.run_behind.Goals as goal
 
-pub returns-then-len-eq0 : goal.returns-then-len-eq0
-returns-then-len-eq0 g c =
+pub returns-then-len-eq0-clause-asks : goal.returns-then-len-eq0-clause-asks
+returns-then-len-eq0-clause-asks g c =
     let ds = c.args.chain.now.rewrites in
     let back = c.as_slice.result.now in
-    asks-as (mean (map back_of back) c.args.query.now) _
-    (λ marks. (λ i. mean (back_steps ds (sym c.as_slice.ensures i)) c.args.query.now marks) ∙ behind-none ds back c.args.query.now (omega (arith, c.if-len-eq0.true, c.len.ensures)) marks)
-    c.run_back.ensures
+    asks-as (mean (map back_of back) c.args.walk.now.query.now) _
+    (λ marks. (λ i. mean (back_steps ds (sym c.as_slice.ensures i)) c.args.walk.now.query.now marks) ∙ behind-none ds back c.args.walk.now.query.now (omega (arith, c.if-len-eq0.true, c.len.ensures)) marks)
+    c.run_back.ensures.asks
 
-pub returns : goal.returns
-returns g c =
+pub returns-clause-asks : goal.returns-clause-asks
+returns-clause-asks g c =
     let ds = c.args.chain.now.rewrites in
     let back = c.args.chain.now.back in
-    asks-as (rewritten (mean (map back_of back)) ds (changed_by ds c.args.query.now)) _ (behind-rules ds back c.args.query.now (omega (arith, c.if-len-eq0.false, c.len.ensures))) c.run_rewritten.ensures
+    asks-as (rewritten (mean (map back_of back)) ds (changed_by ds c.args.walk.now.query.now)) _ (behind-rules ds back c.args.walk.now.query.now (omega (arith, c.if-len-eq0.false, c.len.ensures))) c.run_rewritten.ensures.asks

@@ -1,4 +1,4 @@
-use Rattle.std.proofs.Common.{◌≡◌, ◌∙◌, List, [], sym, ap, rules, arith}
+use Rattle.std.proofs.Common.{◌≡◌, ◌∙◌, ◌+◌, ◌-◌, List, [], length, map, refl, sym, ap, subst, rules, arith}
 use Rattle.std.proofs.lemmas.List.Elements.{All-nil, All-push}
 use Rattle.std.specs.Arc.{arc_value}
 use Rattle.extra_stock.specs.{asked_by, is_named, seats_in}
@@ -6,11 +6,20 @@ use Rattle.extra_stock.specs.StocksLaws.{chain_gone, chain_left, chains_more}
 use Rattle.outside.specs.declared.mark.Mark.{Mark}
 use Rattle.pin_table.specs.{AreNew-push}
 use Rattle.chain_build.specs.Workers.{chain_extras, chain_identity, chain_log, plans_of}
+use Rattle.std.specs.List.{All}
+use Rattle.forward_plugin.specs.{HasMore, HasParts}
+use Rattle.chain_build.specs.BlockPools.{ArePooled, chain_pools}
+use Rattle.chain_build.proofs.Parts.{more_left, one_less}
+use Rattle.chain_build.proofs.Pooled.{same_count, written_back}
 use Rattle.chain_build.proofs.building.build_chains.Goals as goal
 
 pub one_chain-requires-clause-enough : goal.one_chain-requires-clause-enough
 one_chain-requires-clause-enough g c n =
     chain_left _ _ c.loop-worker.worker c.args.workers (asked_by (is_named n) (arc_value c.args.plans.now).extras) c.loop-worker-test.true (c.loop-worker.invariant.weighs (is_named n)) (c.requires.enough n)
+
+pub one_chain-requires-clause-more : goal.one_chain-requires-clause-more
+one_chain-requires-clause-more g c =
+    subst (All (All HasMore)) (sym c.as_mut_slice.ensures.value) (more_left (c.args.workers + 1 - c.loop-worker.worker) c.loop-worker.shared.items (omega (arith, c.loop-worker-test.true)) c.loop-worker.invariant.parts)
 
 pub loop-worker-preserved : goal.loop-worker-preserved
 loop-worker-preserved g c =
@@ -18,6 +27,11 @@ loop-worker-preserved g c =
     let made = c.in-Ok.ensures in
     let push = c.push_reserved.ensures in
     let plans = (arc_value c.args.plans.now).extras in
+    let parts = c.args.workers + 1 - c.loop-worker.worker in
+    let chains = (arc_value c.args.plans.now).chains in
+    let pools = c.loop-worker.shared.items in
+    let back = written_back pools c.one_chain.new.shared c.loop-worker.shared.len (same_count pools c.one_chain.new.shared (map chain_pools chains) was.pooled c.one_chain.ensures.pooled)
+    (sym c.as_mut_slice.ensures.len ∙ ap (λ l. length l) c.as_mut_slice.ensures.value) in
     record {
       obey = c.one_chain.ensures.obey;
       weighs = λ w. chain_gone _ _ _ c.loop-worker.worker (asked_by w plans) (was.weighs w) (made.ok w);
@@ -30,4 +44,7 @@ loop-worker-preserved g c =
       room = omega (arith, was.room, push.capacity);
       capacity = search rules;
       judges = search rules;
+      pooled = subst (ArePooled chains) (sym back) c.one_chain.ensures.pooled;
+      parts = subst (All (All (HasParts (c.args.workers + 1 - (c.loop-worker.worker + 1))))) (sym back)
+          (one_less parts c.args.workers c.loop-worker.worker c.one_chain.new.shared refl (made.parts parts (subst (All (All (HasParts parts))) (sym c.as_mut_slice.ensures.value) was.parts)));
     }

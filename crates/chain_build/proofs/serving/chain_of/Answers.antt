@@ -3,6 +3,7 @@ use Rattle.std.specs.Prelude.{option_and_then}
 use Rattle.plugin_api.specs.{IsIndexOf, picked}
 use Rattle.chain_meaning.specs.Steps.{steps_of}
 use Rattle.chain_build.specs.Plans.{PlansData, extras_in, steps_in}
+use Rattle.chain_build.proofs.Pooled.{pools_at}
 use Rattle.chain_build.proofs.Served.{by_number, extras_at}
 use Rattle.chain_build.proofs.serving.chain_of.Goals as goal
 
@@ -19,3 +20,9 @@ pub returns-clause-extras : goal.returns-clause-extras
 returns-clause-extras g c =
     let extras = subst (λ (p : PlansData). p.extras ≡ map extras_in c.plans.inside.chains) c.plans.view_is c.plans.invariant.extras in
     extras_at c.plans.inside.chains c.args.plans.now.extras c.in_ok-number.field-0 c.at.result.now extras c.at.ensures
+
+pub returns-clause-pools : goal.returns-clause-pools
+returns-clause-pools g c =
+    let n = c.in_ok-number.field-0 in
+    let chain = c.at.result.now in
+    pools_at c.args.plans.now.chains n chain (subst (λ (p : PlansData). slice_get p.chains n ≡ Some chain) c.plans.view_is c.at.ensures)

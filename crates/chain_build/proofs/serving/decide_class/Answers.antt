@@ -10,6 +10,6 @@ use Rattle.chain_build.proofs.serving.decide_class.Goals as goal
 pub returns-clause-takes : goal.returns-clause-takes
 returns-clause-takes g c =
     let chains = steps_of g.B.Rulebook.said c.args.plans.now.bundle.files in
-    let q = c.args.asked.query.now in
-    let other : nat_eq c.args.asked.class classes.IN ≡ false = search rules in
-    takes-nothing _ (λ left. class_other c.args.asked.class chains c.args.plans.now.blocks q other left ∙ ap (λ a. Done (decision.Reply a) left) (sym c.set_code.ensures))
+    let q = c.args.asked.now.walk.query.now in
+    let other : nat_eq c.args.asked.now.class classes.IN ≡ false = search rules in
+    takes-nothing _ (λ left. class_other c.args.asked.now.class chains c.args.plans.now.blocks q other left ∙ ap (λ a. Done (decision.Reply a) left) (sym c.set_code.ensures))

@@ -10,7 +10,7 @@ use Rattle.chain_build.proofs.serving.reply.Goals as goal
 
 pub returns-in-Err-clause-tells : goal.returns-in-Err-clause-tells
 returns-in-Err-clause-tells g c =
-    let asked = asked_by c.args.room.now.query.name c.args.arrived.beside in
+    let asked = asked_by c.args.room.now.query.name c.args.beside in
     record {
       marks = c.in-Ok.ensures.takes.marks;
       told = c.in-Ok.ensures.takes.told;
@@ -27,7 +27,7 @@ returns-in-Err-clause-tells g c =
 
 pub returns-in-Ok-write_whole-clause-tells : goal.returns-in-Ok-write_whole-clause-tells
 returns-in-Ok-write_whole-clause-tells g c =
-    let asked = asked_by c.args.room.now.query.name c.args.arrived.beside in
+    let asked = asked_by c.args.room.now.query.name c.args.beside in
     let v = decision_of c.in-Ok.ended c.decide.new.room.plugins.slot in
     let says : answer_in v ≡ Some (whole_answer c.in-Ok.ended c.settle.new.slot) = search rules in
     record {

@@ -13,7 +13,7 @@ use Rattle.chain_build.proofs.serving.run_chain.Goals as goal
 pub returns-then-len-gt0-clause-takes : goal.returns-then-len-gt0-clause-takes
 returns-then-len-gt0-clause-takes g c =
     let said = g.B.Rulebook.said in
-    let q = c.args.query.now in
+    let q = c.args.walk.now.query.now in
     let f = c.as_slice-front.result.now in
     let x = c.args.chain.now.extras in
     let r = c.args.chain.now.rewrites in
@@ -26,7 +26,7 @@ returns-then-len-gt0-clause-takes g c =
 pub returns-then-front-gt0-clause-takes : goal.returns-then-front-gt0-clause-takes
 returns-then-front-gt0-clause-takes g c =
     let said = g.B.Rulebook.said in
-    let q = c.args.query.now in
+    let q = c.args.walk.now.query.now in
     let f = c.as_slice-front.result.now in
     let x = c.args.chain.now.extras in
     let r = c.args.chain.now.rewrites in
@@ -38,7 +38,7 @@ returns-then-front-gt0-clause-takes g c =
 pub returns-clause-takes : goal.returns-clause-takes
 returns-clause-takes g c =
     let said = g.B.Rulebook.said in
-    let q = c.args.query.now in
+    let q = c.args.walk.now.query.now in
     let f = c.as_slice-front.result.now in
     let x = c.args.chain.now.extras in
     let r = c.args.chain.now.rewrites in

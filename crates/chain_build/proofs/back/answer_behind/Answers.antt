@@ -1,0 +1,16 @@
+use Rattle.std.proofs.Common.{refl}
+use Rattle.chain_build.specs.Compiled.{back_answerer}
+use Rattle.chain_build.proofs.Walks.{answered_asks, answered_next}
+use Rattle.chain_build.proofs.back.answer_behind.Goals as goal
+
+pub returns : goal.returns
+returns g c =
+    let plugin = back_answerer c.args.plugin.now in
+    let q = c.args.walk.now.query.now in
+    let old = c.args.room.now.slot in
+    let new = c.back_answer.new.room.slot in
+    record {
+      count = refl;
+      asks = answered_asks plugin q old new c.back_answer.result c.back_answer.ensures.answered c.back_answer.ensures.kept;
+      next = answered_next plugin q old new c.back_answer.result c.back_answer.ensures.answered;
+    }

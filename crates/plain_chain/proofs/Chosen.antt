@@ -20,7 +20,7 @@ use Rattle.chain_meaning.specs.Steps.{Step, block_extras, steps_of}
 use Rattle.chain_build.specs.Compiled.{front_of, whole, whole_by}
 use Rattle.chain_build.specs.Plans.{extras_in, steps_in}
 use Rattle.chain_build.specs.declared.block_chain.BackAnswerer.{BackAnswerer}
-use Rattle.chain_build.specs.declared.block_chain.BlockChain.{BlockChain}
+use Rattle.chain_build.specs.declared.block.BlockChain.{BlockChain}
 use Rattle.chain_build.specs.declared.block_chain.FrontStep.{FrontStep}
 use Rattle.corefile_blocks.specs.declared.bundle.Bundle.{Bundle}
 use Rattle.chain_build.specs.{ReadsBundle}
@@ -30,7 +30,7 @@ use Rattle.plain_chain.specs.Reading.{ReadsPlain, has_extra, has_none, is_some_e
 
 -- what was read of the block of a number
 module _ (said : Sayings) (files : List FileText) (read : List BlockChain) (blocks : List Block) (same : map (steps_in said) read ≡ map (steps_of said files) blocks) where
-  by-number : (number : Option ℕ) → option_map (steps_in said) (option_and_then (slice_get read) number) ≡ option_map (steps_of said files) (option_and_then (slice_get blocks) number)
+  pub by-number : (number : Option ℕ) → option_map (steps_in said) (option_and_then (slice_get read) number) ≡ option_map (steps_of said files) (option_and_then (slice_get blocks) number)
   by-number None = refl
   by-number (Some n) = sym (slice_get-map (steps_in said) read n) ∙ ap (λ l. slice_get l n) same ∙ slice_get-map (steps_of said files) blocks n
 

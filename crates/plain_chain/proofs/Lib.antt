@@ -2,4 +2,5 @@ pub mod Rules
 pub mod Meaning
 pub mod Notes
 pub mod Chosen
+pub mod Asking
 pub mod Turned

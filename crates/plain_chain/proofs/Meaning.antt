@@ -2,7 +2,7 @@
 use Rattle.std.proofs.Common.{◌≡◌, List, [], ◌∷◌, ◌++◌, Ok, Err, Result, refl, sym, ap, ◌∙◌, append_assoc}
 use Rattle.std.specs.Prelude.{IfOk}
 use Rattle.dns_lists.specs.declared.memory.NoMemory.{NoMemory}
-use Rattle.outside.specs.Meanings.{Meaning, Done, More, Off, onward}
+use Rattle.outside.specs.Meanings.{Meaning, Done, More, onward}
 use Rattle.outside.specs.declared.mark.Mark.{Mark}
 use Rattle.chain_meaning.specs.declared.decision.Decision.{Decision}
 use Rattle.plain_chain.specs.Meant.{IsDone, IsOff, Means}

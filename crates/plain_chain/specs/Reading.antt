@@ -8,8 +8,9 @@ use Rattle.corefile_blocks.specs.declared.bundle.Bundle.{Bundle}
 use Rattle.outside.specs.{WatchState, raised, with_refusals}
 use Rattle.chain_meaning.specs.Accepting.{IsAccepted, IsRefusedWith}
 use Rattle.plugin_api.specs.{Sayings}
+use Rattle.plugin_api.specs.declared.ranks.Rank.TheVariants as rank
 use Rattle.plugin_api.specs.declared.verdict.Verdict.TheVariants as verdict
-use Rattle.chain_meaning.specs.Steps.{Step, block_extras, steps_of}
+use Rattle.chain_meaning.specs.Steps.{Step, Answers, Forward, block_extras, some_has, steps_of}
 use Rattle.dns_data.specs.declared.class.TheConstants as classes
 use Rattle.dns_data.specs.declared.message.Opt.{Opt}
 use Rattle.chain_meaning.specs.Serving.{block_of, is_known_version}
@@ -72,6 +73,22 @@ has_extra (Some block) = is_some_extra (block_extras block)
 abbrev pub asks_extra : Option Opt → ℕ → List Block → Query → Bool
 asks_extra opt class blocks q =
     is_known_version opt && (nat_eq class classes.IN && has_extra (block_of blocks q))
+
+-- whether a block has a directive `forward`
+abbrev pub has_forward : Option Block → Bool
+has_forward None = false
+has_forward (Some block) = some_has rank.Forward block.directives
+
+-- whether a query with this OPT record and class is for a block, and that has one
+abbrev pub asks_forward : Option Opt → ℕ → List Block → Query → Bool
+asks_forward opt class blocks q =
+    is_known_version opt && (nat_eq class classes.IN && has_forward (block_of blocks q))
+
+-- whether a step asks upstreams
+abbrev pub asks_upstreams : List Step → Bool
+asks_upstreams [] = false
+asks_upstreams (Answers (Forward plans) ∷ steps) = true
+asks_upstreams (step ∷ steps) = asks_upstreams steps
 
 -- whether there is no step
 abbrev pub has_none : List Step → Bool

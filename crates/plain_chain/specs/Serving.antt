@@ -21,7 +21,7 @@ use Rattle.chain_meaning.specs.Steps.{Step, steps_of}
 use Rattle.chain_meaning.specs.declared.decision.Decision.{Decision}
 use Rattle.chain_meaning.specs.declared.decision.Decision.TheVariants as decision
 use Rattle.plugin_api.specs.{Sayings}
-use Rattle.plain_chain.specs.Reading.{asks_extra, plain_terms}
+use Rattle.plain_chain.specs.Reading.{asks_extra, asks_forward, plain_terms}
 use Rattle.plain_chain.specs.declared.fault.PlainFault.{PlainFault}
 use Rattle.plain_chain.specs.declared.fault.PlainFault.TheVariants as fault
 use Rattle.plain_chain.specs.declared.serving.Plain.{Plain}
@@ -42,6 +42,7 @@ pub record IsDecided (steps : Block → List Step) (blocks : List Block) (d : Da
   pub asked : Asked
   pub queries : QueriesThis d.bytes asked
   pub own : asks_extra asked.opt asked.question.class blocks (query_of d asked) ≡ false
+  pub alone : asks_forward asked.opt asked.question.class blocks (query_of d asked) ≡ false
   pub decision : Decision
   pub left : List Mark
   pub are : AreLeft used left marks
@@ -54,6 +55,7 @@ pub record IsShort (steps : Block → List Step) (blocks : List Block) (d : Data
   pub asked : Asked
   pub queries : QueriesThis d.bytes asked
   pub own : asks_extra asked.opt asked.question.class blocks (query_of d asked) ≡ false
+  pub alone : asks_forward asked.opt asked.question.class blocks (query_of d asked) ≡ false
   pub short : (asked_decides steps blocks d asked marks ≡ More)
       ⊎ (asked_decides steps blocks d asked marks ≡ Off)
 
@@ -82,6 +84,13 @@ pub record AsksExtra (blocks : List Block) (d : Datagram) : Type 0 where
   pub queries : QueriesThis d.bytes asked
   pub has : asks_extra asked.opt asked.question.class blocks (query_of d asked) ≡ true
 
+-- a datagram asks a block that has no extra's directive and has one of `forward`
+pub record AsksForward (blocks : List Block) (d : Datagram) : Type 0 where
+  pub asked : Asked
+  pub queries : QueriesThis d.bytes asked
+  pub own : asks_extra asked.opt asked.question.class blocks (query_of d asked) ≡ false
+  pub has : asks_forward asked.opt asked.question.class blocks (query_of d asked) ≡ true
+
 -- a bundle is accepted, where each directive of a name that no plugin has is taken for that of an
 -- extra, and this holds of its blocks
 pub record IsServed (bundle : Bundle) (default_port : ℕ) (P : List Block → Type 0) : Type 0 where
@@ -101,6 +110,8 @@ PlainServes bundle default_port d marks last (Err (fault.Refused why)) =
     IsRefusedWith (plain_terms default_port) bundle last why
 PlainServes bundle default_port d marks last (Err fault.HasExtra) =
     IsServed bundle default_port (λ blocks. AsksExtra blocks d)
+PlainServes bundle default_port d marks last (Err fault.HasForward) =
+    IsServed bundle default_port (λ blocks. AsksForward blocks d)
 PlainServes bundle default_port d marks last (Err fault.Short) =
     IsServed bundle default_port
     (λ blocks. (said : Sayings) → IsShort (steps_of said bundle.files) blocks d marks)

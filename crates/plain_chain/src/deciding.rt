@@ -1,16 +1,18 @@
-ghost use Rattle.std.specs.Prelude.{◌≡◌, ◌<◌, ◌^◌, [], false, IfOk, length, option_and_then, option_map};
-ghost use Rattle.std.specs.Prelude.{slice_get};
+ghost use Rattle.std.specs.Prelude.{◌≡◌, ◌<◌, ◌^◌, [], false, IfOk, length, map, option_and_then};
+ghost use Rattle.std.specs.Prelude.{option_map, slice_get};
 ghost use Rattle.plugin_api.specs.{Sayings, picked};
 ghost use Rattle.chain_build.specs.Plans.{steps_in};
 ghost use Rattle.chain_meaning.specs.{steps_of};
 ghost use Rattle.chain_meaning.specs.Serving.{block_of, chain_decides, query_decides};
 ghost use Rattle.plain_chain.specs.Meant.{Means};
-ghost use Rattle.plain_chain.specs.Reading.{IsWhole, asks_extra, has_extra, has_none};
+ghost use Rattle.chain_build.specs.Compiled.{back_of};
+ghost use Rattle.plain_chain.specs.Reading.{IsWhole, asks_extra, asks_forward, asks_upstreams};
+ghost use Rattle.plain_chain.specs.Reading.{has_extra, has_forward, has_none};
 
 use crate::evaluating::evaluate;
 use crate::meant::{Meant, bare};
 use crate::reading::PlainRead;
-use chain_build::{BlockChain, is_known_version};
+use chain_build::{BackAnswerer, BlockChain, is_known_version};
 use dns_data::{NoMemory, Opt, Query, class, rcode};
 use outside::Mark;
 use plugin_api::pick;
@@ -27,6 +29,7 @@ pub(crate) fn decide<'a>(
 ) -> Result<Meant<'a>, NoMemory>
     requires whole { IsWhole read.now }
     requires own { asks_extra opt class read.now.blocks query.now ≡ false }
+    requires alone { asks_forward opt class read.now.blocks query.now ≡ false }
     ensures { (said : Sayings) → IfOk result (Means (query_decides opt class
         (steps_of said read.now.files.now) read.now.blocks query.now) marks.now) }
 {
@@ -62,6 +65,44 @@ fn has_extra(read: &PlainRead<'_>, query: &Query) -> bool
     }
 }
 
+/// Whether a query with this OPT record and class is for a block, and that has a directive
+/// `forward`.
+pub(crate) fn asks_forward(
+    read: &PlainRead<'_>,
+    opt: Option<Opt>,
+    class: u16,
+    query: &Query,
+) -> bool
+    requires { IsWhole read.now }
+    ensures { result ≡ asks_forward opt class read.now.blocks query.now }
+{
+    is_known_version(opt) && class == class::IN && has_forward(read, query)
+}
+
+// Whether the block with the longest zone on the port at which a query came has one.
+fn has_forward(read: &PlainRead<'_>, query: &Query) -> bool
+    requires { IsWhole read.now }
+    ensures { result ≡ has_forward (block_of read.now.blocks query.now) }
+{
+    match chain_for(read, query) {
+        Some(chain) => asks_upstreams(chain.back.as_slice()),
+        None => false,
+    }
+}
+
+// Whether one of them asks upstreams.
+fn asks_upstreams(back: &[BackAnswerer]) -> bool
+    ensures { result ≡ asks_upstreams (map back_of back.now) }
+{
+    let Some((plugin, rest)) = back.split_first() else {
+        return false;
+    };
+    match plugin {
+        BackAnswerer::Forward(_) => true,
+        _ => asks_upstreams(rest),
+    }
+}
+
 // The chain of the block with the longest zone on the port at which the query came.
 fn chain_for<'a>(read: &'a PlainRead<'_>, query: &Query) -> Option<&'a BlockChain>
     requires few { length read.now.blocks < 2 ^ 32 }
@@ -81,6 +122,7 @@ fn decide_by<'a>(
     marks: &'a [Mark],
 ) -> Result<Meant<'a>, NoMemory>
     requires own { chain.now.extras ≡ [] }
+    requires alone { asks_upstreams (map back_of chain.now.back) ≡ false }
     ensures { (said : Sayings)
         → IfOk result (Means (chain_decides (steps_in said chain.now) query.now) marks.now) }
 {

@@ -1,10 +1,11 @@
 //! What the steps of a block's chain mean, one after another: a plugin that answers decides, and a
 //! step round the rest takes or changes what stands behind what the rest meant.
 
-ghost use Rattle.std.specs.Prelude.{IfOk, map};
+ghost use Rattle.std.specs.Prelude.{◌≡◌, false, IfOk, map};
 ghost use Rattle.chain_build.specs.Compiled.{back_of, back_steps, whole};
 ghost use Rattle.chain_meaning.specs.Mean.{mean};
 ghost use Rattle.plain_chain.specs.Meant.{Means};
+ghost use Rattle.plain_chain.specs.Reading.{asks_upstreams};
 
 use crate::meant::Meant;
 use crate::noting::{behind_errors, behind_log};
@@ -26,6 +27,7 @@ pub(crate) fn evaluate<'a>(
     query: &Query,
     marks: &'a [Mark],
 ) -> Result<Meant<'a>, NoMemory>
+    requires { asks_upstreams (map back_of chain.now.back) ≡ false }
     ensures { IfOk result
         (Means (mean (whole front.now chain.now.rewrites chain.now.back) query.now) marks.now) }
 {
@@ -56,6 +58,7 @@ fn evaluate_behind<'a>(
     query: &Query,
     marks: &'a [Mark],
 ) -> Result<Meant<'a>, NoMemory>
+    requires { asks_upstreams (map back_of chain.now.back) ≡ false }
     ensures { IfOk result
         (Means (mean (back_steps chain.now.rewrites chain.now.back) query.now) marks.now) }
 {
@@ -79,6 +82,7 @@ fn evaluate_back<'a>(
     query: &Query,
     marks: &'a [Mark],
 ) -> Result<Meant<'a>, NoMemory>
+    requires { asks_upstreams (map back_of back.now) ≡ false }
     ensures { IfOk result (Means (mean (map back_of back.now) query.now) marks.now) }
 {
     let Some((plugin, rest)) = back.split_first() else {

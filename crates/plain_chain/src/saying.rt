@@ -4,6 +4,7 @@ ghost use Rattle.std.specs.Prelude.{◌≡◌, List, IfOk};
 ghost use Rattle.outside.specs.Meanings.{Done};
 ghost use Rattle.outside.specs.declared.mark.Mark.{Mark};
 ghost use Rattle.chain_build.specs.Compiled.{back_answerer, front_answerer};
+ghost use Rattle.chain_build.specs.Pools.{AsksNothing};
 ghost use Rattle.chain_build.specs.Walking.{decision_of};
 ghost use Rattle.chain_meaning.specs.Mean.{answer_of};
 
@@ -34,6 +35,7 @@ pub(crate) fn back_says(
     plugin: &BackAnswerer,
     query: &Query,
 ) -> Result<Option<Decision>, NoMemory>
+    requires { AsksNothing plugin.now }
     ensures { IfOk result (λ said. (left : List Mark)
         → answer_of (back_answerer plugin.now) query.now left ≡ Done said left) }
 {

@@ -48,6 +48,7 @@ pub fn plain_serve<M: PatternMaker>(
             Ok(Plain { reply, used })
         }
         PlainTurn::HasExtra => Err(PlainFault::HasExtra),
+        PlainTurn::HasForward => Err(PlainFault::HasForward),
         PlainTurn::More => Err(PlainFault::Short),
         PlainTurn::Off(_) => Err(PlainFault::Short),
     }

@@ -7,7 +7,7 @@ ghost use Rattle.plain_chain.specs.Reading.{IsWhole};
 ghost use Rattle.plain_chain.specs.Serving.{GivesAnswer};
 ghost use Rattle.plain_chain.specs.Turning.{Turns};
 
-use crate::deciding::{asks_extra, decide};
+use crate::deciding::{asks_extra, asks_forward, decide};
 use crate::meant::Meant;
 use crate::reading::PlainRead;
 use chain_build::{header_reply, limit_of, opt_reply, query_of, reply_message, upper_code};
@@ -25,6 +25,9 @@ pub enum PlainTurn<'a> {
     Done(Option<Buffer>, &'a [Mark]),
     /// The block that is asked has an extra's directive, and what extras say isn't known here.
     HasExtra,
+    /// The block that is asked has no extra's directive and has one of `forward`, and asks aren't
+    /// evaluated here.
+    HasForward,
     /// The marks end too early.
     More,
     /// The marks from the first one on that is another than what is taken there.
@@ -76,6 +79,9 @@ fn reply<'a>(
     let query = query_of(datagram, asked);
     if asks_extra(read, opt, class, &query) {
         return Ok(PlainTurn::HasExtra);
+    }
+    if asks_forward(read, opt, class, &query) {
+        return Ok(PlainTurn::HasForward);
     }
     let (decision, left) = match decide(alloc, read, opt, class, &query, marks)? {
         Meant::Done(decision, left) => (decision, left),

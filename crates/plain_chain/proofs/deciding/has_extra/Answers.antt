@@ -1,4 +1,4 @@
-use Rattle.std.proofs.Common.{◌≡◌, ◌∙◌, sym, rules}
+use Rattle.std.proofs.Common.{◌∙◌}
 use Rattle.plugin_api.specs.{picked}
 use Rattle.plain_chain.proofs.Chosen.{lt-some, none-extra, some-extra}
 use Rattle.plain_chain.proofs.deciding.has_extra.Goals as goal

@@ -1,6 +1,6 @@
-use Rattle.std.proofs.Common.{sym, ap, ◌∙◌}
+use Rattle.std.proofs.Common.{◌∙◌}
 use Rattle.outside.specs.Meanings.{onward}
-use Rattle.chain_meaning.specs.Mean.{answer_of, error_noted, mean, or_rest, query_noted}
+use Rattle.chain_meaning.specs.Mean.{error_noted, mean, query_noted}
 use Rattle.chain_build.specs.Compiled.{back_steps, front_answerer, whole}
 use Rattle.chain_build.specs.WalkingLaws.{front-answers, front-end, front-errors, front-log}
 use Rattle.plain_chain.proofs.Meaning.{done-at, meant-as}

@@ -1,7 +1,10 @@
-use Rattle.std.proofs.Common.{map, ◌∙◌}
+use Rattle.std.proofs.Common.{◌≡◌, false, List, map, rules, subst, ◌∙◌}
 use Rattle.chain_meaning.specs.Mean.{mean}
 use Rattle.chain_build.specs.Compiled.{back_answerer, back_of}
 use Rattle.chain_build.specs.WalkingLaws.{back-answers, back-end}
+use Rattle.chain_build.specs.declared.block_chain.BackAnswerer.{BackAnswerer}
+use Rattle.plain_chain.specs.Reading.{asks_upstreams}
+use Rattle.plain_chain.proofs.Asking.{asks-nothing, rest-asks}
 use Rattle.plain_chain.proofs.Meaning.{done-at, meant-as}
 use Rattle.plain_chain.proofs.Rules.{goes-on, says}
 use Rattle.plain_chain.proofs.evaluating.+evaluate_back.Goals as goal
@@ -23,3 +26,11 @@ returns-in-None t c =
     (λ left. back-answers c.in-Some.plugin.now c.in-Some.rest.now c.args.query.now c.in-Some.ensures.cases.0 left
     ∙ goes-on (back_answerer c.in-Some.plugin.now) rest c.args.query.now c.in_ok-decision.ensures c.in-None.is left)
     c.evaluate_back.ensures
+
+pub back_says-requires : goal.back_says-requires
+back_says-requires t c =
+    asks-nothing c.in-Some.plugin.now c.in-Some.rest.now (subst (λ (s : List BackAnswerer). asks_upstreams (map back_of s) ≡ false) c.in-Some.ensures.cases.0 c.requires)
+
+pub evaluate_back-requires : goal.evaluate_back-requires
+evaluate_back-requires t c =
+    (search rules, rest-asks c.in-Some.plugin.now c.in-Some.rest.now (subst (λ (s : List BackAnswerer). asks_upstreams (map back_of s) ≡ false) c.in-Some.ensures.cases.0 c.requires))

@@ -1,4 +1,4 @@
-use Rattle.std.proofs.Common.{◌≡◌, Bool, true, ap, subst, refl, rules, if◌then◌else◌}
+use Rattle.std.proofs.Common.{◌≡◌, Bool, true, ap, subst, rules, if◌then◌else◌}
 use Rattle.outside.specs.Meanings.{Done}
 use Rattle.plain_plugins.specs.{log_line, plain_zones}
 use Rattle.zone_words.specs.{is_in}

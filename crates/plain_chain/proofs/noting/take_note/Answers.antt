@@ -1,4 +1,4 @@
-use Rattle.std.proofs.Common.{◌≡◌, true, false, List, [], ◌∷◌, refl, ap, ◌∙◌, rules, nat_eq, if◌then◌else◌, Bool}
+use Rattle.std.proofs.Common.{◌≡◌, true, false, [], ◌∷◌, refl, ap, ◌∙◌, rules, nat_eq, if◌then◌else◌, Bool}
 use Rattle.std.specs.Cmp.Lexicographic.{pointwise}
 use Rattle.outside.specs.Meanings.{Done, Off}
 use Rattle.chain_meaning.specs.Mean.{take_note}

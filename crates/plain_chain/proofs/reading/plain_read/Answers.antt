@@ -1,4 +1,4 @@
-use Rattle.std.proofs.Common.{◌≡◌, ◌∙◌, ap, Err, rules}
+use Rattle.std.proofs.Common.{◌≡◌, Err, rules}
 use Rattle.plugin_api.specs.{Sayings}
 use Rattle.plugin_api.specs.declared.verdict.Verdict.TheVariants as verdict
 use Rattle.plain_chain.proofs.Chosen.{plain_err}

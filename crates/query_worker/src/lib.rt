@@ -6,7 +6,7 @@ mod turn;
 mod worker;
 mod working;
 
-pub use chain_build::{OwnChain, Room};
+pub use chain_build::{Chain, Room};
 pub use turn::{Turned, take_turn};
 pub use worker::{Tally, Worker};
 pub use working::{work, work_once};

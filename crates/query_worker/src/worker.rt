@@ -2,9 +2,10 @@ ghost use Rattle.dns_data.specs.declared.limit.TheConstants as limits;
 ghost use Rattle.std.specs.Prelude.{◌≡◌, ◌<◌};
 ghost use Rattle.query_worker.specs.Tally.{DatagramEnds, IsIdle, RowEnds, with_datagram, with_miss};
 
-use chain_build::{OwnChain, Room};
+use chain_build::{Chain, Room};
 use dns_data::limit;
 use pin_table::Pass;
+use plugin_api::{Extra, Rulebook};
 use run_meaning::WorkEnd;
 use std::alloc::Global;
 
@@ -59,16 +60,16 @@ impl Tally {
 
 /// A worker: its side, what it pins by, what it has counted so far, and the room for its replies.
 #[derive(Drop)]
-pub struct Worker<S> {
+pub struct Worker<S, B: Rulebook, E: Extra> {
     pub side: S,
-    pub pass: Pass<OwnChain>,
+    pub pass: Pass<Chain<B, E>>,
     pub tally: Tally,
     pub room: Room,
 }
 
-impl<S> Worker<S> {
+impl<S, B: Rulebook, E: Extra> Worker<S, B, E> {
     /// A worker that has done nothing yet.
-    pub fn new(alloc: Global, side: S, pass: Pass<OwnChain>) -> Worker<S>
+    pub fn new(alloc: Global, side: S, pass: Pass<Chain<B, E>>) -> Worker<S, B, E>
         ensures side { result.side ≡ side }
         ensures pass { result.pass ≡ pass }
         ensures idle { IsIdle result.tally }

@@ -7,19 +7,20 @@ ghost use Rattle.query_worker.specs.Worker.{TakesTurn, WorksToEnd};
 
 use crate::turn::{Turned, take_turn};
 use crate::worker::Worker;
-use chain_build::OwnChain;
+use chain_build::Chain;
 use outside::Side;
 use pin_table::PinTable;
+use plugin_api::{Extra, Rulebook};
 use run_meaning::WorkEnd;
 use std::alloc::Global;
 use std::sync::Wait;
 
 /// Takes turns until one ends the worker, and tells its side, which takes no turn behind that.
-pub fn work<R: Wait, S: Side>(
+pub fn work<R: Wait, S: Side, B: Rulebook, E: Extra>(
     rt: &R,
     alloc: Global,
-    worker: &mut Worker<S>,
-    table: &PinTable<OwnChain>,
+    worker: &mut Worker<S, B, E>,
+    table: &PinTable<Chain<B, E>>,
     most: u64,
 ) -> WorkEnd
     requires ready { IsReady table.now worker.old }
@@ -31,7 +32,7 @@ pub fn work<R: Wait, S: Side>(
     ensures rests { IsResting table.now worker.new.pass }
 {
     for _ in rt.forever() {
-        if let Some(end) = work_once(alloc, worker, table, most) {
+        if let Some(end) = work_once(rt, alloc, worker, table, most) {
             worker.side.leave();
             return end;
         }
@@ -40,10 +41,11 @@ pub fn work<R: Wait, S: Side>(
 }
 
 /// Takes a turn, counts it, and says how the worker ended where this was its last turn.
-pub fn work_once<S: Side>(
+pub fn work_once<R: Wait, S: Side, B: Rulebook, E: Extra>(
+    rt: &R,
     alloc: Global,
-    worker: &mut Worker<S>,
-    table: &PinTable<OwnChain>,
+    worker: &mut Worker<S, B, E>,
+    table: &PinTable<Chain<B, E>>,
     most: u64,
 ) -> Option<WorkEnd>
     requires rests { IsResting table.now worker.old.pass }
@@ -60,6 +62,7 @@ pub fn work_once<S: Side>(
     ensures rests { IsResting table.now worker.new.pass }
 {
     match take_turn(
+        rt,
         alloc,
         &mut worker.side,
         &mut worker.pass,

@@ -60,6 +60,13 @@ pub record FoundPinned (standing : Standing) (other : List Block) (first second 
   pub two : IsPinnedSlot second
   pub three : IsPinnedSlot third
 
+-- another bundle could be published and a slot was free, but it asks for more extras of a name than
+-- there were
+pub record FoundShort (standing : Standing) (other : List Block) (asked had : ℕ) : Type 0 where
+  pub ports : SamePorts other standing.blocks
+  pub few : standing.published < pins.MOST_SERIALS
+  pub short : had < asked
+
 -- what a look answers where the gathering came to this
 abbrev pub AnswersLook : Standing → Result Bundle GatherFault → Looking → Type 0
 AnswersLook standing gives looking.NoReload = ⊥
@@ -75,6 +82,8 @@ AnswersLook standing gives looking.SerialsSpent =
     (λ other. SamePorts other standing.blocks × (standing.published ≡ pins.MOST_SERIALS))
 AnswersLook standing gives (looking.AllPinned first second third) =
     GaveOther standing gives (λ other. FoundPinned standing other first second third)
+AnswersLook standing gives (looking.StockShort name asked had) =
+    GaveOther standing gives (λ other. FoundShort standing other asked had)
 AnswersLook standing gives (looking.Published serial) =
     GaveOther standing gives
     (λ other. SamePorts other standing.blocks

@@ -11,7 +11,7 @@ pub mod WatchTurn
 pub mod WatchRun
 -- what public clauses cite
 pub use Rattle.run_meaning.specs.Answers.{AnswersLook, Refuses, Standing}
-pub use Rattle.run_meaning.specs.Messages.{look_text}
+pub use Rattle.run_meaning.specs.Messages.{look_text, stock_text}
 pub use Rattle.run_meaning.specs.Reloads.{reloads, times_of}
 pub use Rattle.run_meaning.specs.Turn.{IsLawful, IsPublished}
 pub use Rattle.run_meaning.specs.WatchRun.{EndsWatch, IsReading, StopsLooking, TellsLooks}

@@ -24,6 +24,8 @@ pub enum Looking {
     SerialsSpent,
     /// Each of three replaced generations has queries that are being answered.
     AllPinned(Left, Left, Left),
+    /// What was read asks for more extras of a name than are spare behind the sweeps.
+    StockShort { name: Text, asked: u64, had: u64 },
     /// What was read serves from now on, under this serial.
     Published(u64),
     NoMemory,
@@ -43,6 +45,13 @@ impl Display for Looking {
             Looking::PortsDiffer { kept: _, read: _ } => f.write_str("reload ports differ"),
             Looking::SerialsSpent => f.write_str("reload serials spent"),
             Looking::AllPinned(_, _, _) => f.write_str("reload all pinned"),
+            Looking::StockShort { name, asked, had } => {
+                write!(
+                    f,
+                    "reload stock of {}: asked {asked}, had {had}",
+                    name.as_str()
+                )
+            }
             Looking::Published(serial) => write!(f, "reload published {serial}"),
             Looking::NoReload | Looking::Same | Looking::NoMemory => Ok(()),
         }

@@ -9,11 +9,12 @@ use Rattle.corefile_bundle.specs.declared.fault.GatherFault.{GatherFault}
 use Rattle.corefile_bundle.specs.Gathering.{Source, TellsGathering, marks_of}
 use Rattle.chain_meaning.specs.declared.refusal.Refusal.{Refusal}
 use Rattle.chain_build.specs.{PlansData, is_of_pattern}
-use Rattle.reload_watch.specs.declared.found.Found.{Found}
-use Rattle.reload_watch.specs.declared.found.Found.TheVariants.{Kept}
+use Rattle.chain_build.specs.declared.chain.Chain.{Chain}
+use Rattle.plugin_api.specs.declared.extra.Extra as extra
+use Rattle.plugin_api.specs.declared.rulebook.Rulebook as rulebook
 use Rattle.run_meaning.specs.declared.looking.Looking.{Looking}
 use Rattle.run_meaning.specs.declared.looking.Looking.TheVariants as looking
-use Rattle.reload_watch.specs.Going.{CountsRefusals, WatchGoesOn, found_behind, refusals_by}
+use Rattle.reload_watch.specs.Going.{CountsRefusals, WatchGoesOn, kept_behind, refusals_by}
 use Rattle.reload_watch.specs.Look.{NotesLook, PublishesNext}
 use Rattle.reload_watch.specs.States.{Serving}
 
@@ -49,9 +50,9 @@ goes_same before after is = goes_on before after before.refusals is (omega arith
 pub goes_refused : (why : Refusal) (before after : WatchState) → after ≡ with_refusals before (refusals_by why before.refusals) → WatchGoesOn before after
 goes_refused why before after is = goes_on before after (refusals_by why before.refusals) is (more_behind (is_of_pattern why) before.refusals)
 
-pub found_goes : (found : Found) (before after : WatchState) → after ≡ found_behind found before → WatchGoesOn before after
-found_goes (Kept (looking.Refused why)) before after is = goes_refused why before after is
-found_goes other before after is = goes_same before after is
+pub kept_goes : (answer : Looking) (before after : WatchState) → after ≡ kept_behind answer before → WatchGoesOn before after
+kept_goes (looking.Refused why) before after is = goes_refused why before after is
+kept_goes other before after is = goes_same before after is
 
 -- what was told of a gathering stays so
 tells_on : {source : Source} {old mid new : WatchState} {gives : Result Bundle GatherFault} → new.journal ≡ mid.journal → TellsGathering source old mid gives → TellsGathering source old new gives
@@ -67,15 +68,15 @@ tells_same is tells = tells_on (ap (λ (s : WatchState). s.journal) is) tells
 pub tells_refused : {source : Source} {old mid new : WatchState} {gives : Result Bundle GatherFault} (n : ℕ) → new ≡ with_refusals mid n → TellsGathering source old mid gives → TellsGathering source old new gives
 tells_refused n is tells = tells_on (ap (λ (s : WatchState). s.journal) is) tells
 
-found_journal : (found : Found) (state : WatchState) → (found_behind found state).journal ≡ state.journal
-found_journal (Kept (looking.Refused why)) state = refl
-found_journal other state = refl
+kept_journal : (answer : Looking) (state : WatchState) → (kept_behind answer state).journal ≡ state.journal
+kept_journal (looking.Refused why) state = refl
+kept_journal other state = refl
 
-pub tells_found : {source : Source} {old mid new : WatchState} {gives : Result Bundle GatherFault} (found : Found) → new ≡ found_behind found mid → TellsGathering source old mid gives → TellsGathering source old new gives
-tells_found {mid = mid} found is tells = tells_on (ap (λ (s : WatchState). s.journal) is ∙ found_journal found mid) tells
+pub tells_kept : {source : Source} {old mid new : WatchState} {gives : Result Bundle GatherFault} (answer : Looking) → new ≡ kept_behind answer mid → TellsGathering source old mid gives → TellsGathering source old new gives
+tells_kept {mid = mid} answer is tells = tells_on (ap (λ (s : WatchState). s.journal) is ∙ kept_journal answer mid) tells
 
 -- the refusals behind an answer whose line was noted
-kept_counts : (answer : Looking) (state : WatchState) (n : ℕ) → n ≡ (found_behind (Kept answer) state).refusals → CountsRefusals answer state.refusals n
+kept_counts : (answer : Looking) (state : WatchState) (n : ℕ) → n ≡ (kept_behind answer state).refusals → CountsRefusals answer state.refusals n
 kept_counts (looking.Refused why) state n is = is
 kept_counts looking.NoMemory state n is = inl is
 kept_counts other state n is = is
@@ -85,20 +86,21 @@ refused_or_not true before n is = inr is
 refused_or_not false before n is = inl is
 
 -- behind one for whose line there was no memory
-unnoted_counts : (answer : Looking) (state : WatchState) (n : ℕ) → n ≡ (found_behind (Kept answer) state).refusals → CountsRefusals looking.NoMemory state.refusals n
+unnoted_counts : (answer : Looking) (state : WatchState) (n : ℕ) → n ≡ (kept_behind answer state).refusals → CountsRefusals looking.NoMemory state.refusals n
 unnoted_counts (looking.Refused why) state n is = refused_or_not (is_of_pattern why) state.refusals n is
 unnoted_counts other state n is = inl is
 
-pub noted_counts : (answer result : Looking) (state mid after : WatchState) → mid ≡ found_behind (Kept answer) state → after.refusals ≡ mid.refusals → NotesLook mid after answer result → CountsRefusals result state.refusals after.refusals
+pub noted_counts : (answer result : Looking) (state mid after : WatchState) → mid ≡ kept_behind answer state → after.refusals ≡ mid.refusals → NotesLook mid after answer result → CountsRefusals result state.refusals after.refusals
 noted_counts answer result state mid after found same notes =
-    let is : after.refusals ≡ (found_behind (Kept answer) state).refusals = same ∙ ap (λ (s : WatchState). s.refusals) found in
+    let is : after.refusals ≡ (kept_behind answer state).refusals = same ∙ ap (λ (s : WatchState). s.refusals) found in
     elim notes.either [
       | inl w ↦ rw w.0 (kept_counts answer state after.refusals is)
       | inr w ↦ rw w.0 (unnoted_counts answer state after.refusals is)
     ]
 
--- behind plans that are to serve next
-pub next_counts : (old new : Serving) (before after : WatchState) (plans : PlansData) (result : Looking) (n m : ℕ) → m ≡ n → PublishesNext old new before after plans result → CountsRefusals result n m
-next_counts old new before after plans (looking.Refused why) n m same is = absurd is
-next_counts old new before after plans looking.NoMemory n m same is = inl same
-next_counts old new before after plans other n m same is = same
+module _ {B E : Type 0} {bk : rulebook.Ghosts B} {ex : extra.Ghosts E} where
+  -- behind plans that are to serve next
+  pub next_counts : (old new : Serving (Chain B E bk ex)) (before after : WatchState) (plans : PlansData) (result : Looking) (n m : ℕ) → m ≡ n → PublishesNext old new before after plans result → CountsRefusals result n m
+  next_counts old new before after plans (looking.Refused why) n m same is = absurd is
+  next_counts old new before after plans looking.NoMemory n m same is = inl same
+  next_counts old new before after plans other n m same is = same

@@ -9,7 +9,10 @@ use Rattle.corefile_bundle.specs.declared.fault.GatherFault.{GatherFault}
 use Rattle.corefile_bundle.specs.Gathering.{Source, TellsGathering, marks_of}
 use Rattle.chain_build.specs.{PlansData, terms_in}
 use Rattle.chain_meaning.specs.{Ground, terms_on}
-use Rattle.extra_stock.specs.{all_pass, all_taken}
+use Rattle.chain_build.specs.declared.chain.Chain.{Chain}
+use Rattle.plugin_api.specs.declared.extra.Extra as extra
+use Rattle.plugin_api.specs.declared.rulebook.Rulebook as rulebook
+use Rattle.plugin_api.specs.{Sayings, Takings}
 use Rattle.run_meaning.specs.declared.looking.Looking.{Looking}
 use Rattle.run_meaning.specs.declared.looking.Looking.TheVariants as looking
 use Rattle.chain_meaning.specs.Accepting.{IsAccepted}
@@ -21,84 +24,89 @@ use Rattle.reload_watch.specs.Look.{PublishesNext}
 use Rattle.run_meaning.specs.Answers.{AnswersLook, note_marks, publication}
 use Rattle.run_meaning.specs.Messages.{look_text}
 
--- a look that publishes nothing
-over : {source : Source} {old : Serving} {before mid after : WatchState} {gives : Result Bundle GatherFault} (answer : Looking) → publication answer ≡ []
-    → reloads old.plans.blocks ≡ true → TellsGathering source before mid gives → IsNoted mid after answer
-    → AnswersLook (standing_of old.plans old.published) gives answer → ServesBehind old old gives answer
-    → LooksOver source old old before after answer
-over {source} {old} {before} {mid} {after} {gives} answer quiet again read noted answers behind =
-    let all = watch-adds-then read.told noted.told in
-    let marks : marks_of read.reads ++ note_marks (look_text answer) noted.flag ≡ marks_of read.reads ++ (publication answer ++ note_marks (look_text answer) noted.flag) =
-    ap (λ (m : List WatchMark). marks_of read.reads ++ (m ++ note_marks (look_text answer) noted.flag)) (sym quiet) in
-    record { reads = read.reads; gives = gives; gathers = read.gathers; flag = noted.flag; told = subst (AddsWatch before after) marks all; answers = answers; behind = behind; again = again }
+accepted_next : (taken : Takings) (said : Sayings) (current : PlansData) (gives : Result Bundle GatherFault) (plans : PlansData) → IsNext taken said current gives plans → IsAccepted (terms_in taken said current) plans.bundle plans.blocks
+accepted_next taken said current gives plans next = subst (λ (g : Ground). IsAccepted (terms_on taken said g) plans.bundle plans.blocks) next.basis next.are.accepted
 
--- want of memory, behind the reads
-starves : {source : Source} {old : Serving} {before mid after : WatchState} {gives : Result Bundle GatherFault} → reloads old.plans.blocks ≡ true → TellsGathering source before mid gives → AddsWatch mid after []
-    → Starves source old old before after
-starves {source} {old} {before} {mid} {after} {gives} again read none = record {
-  gathered = record {
-    gives = gives;
-    tells = record { reads = read.reads; told = subst (AddsWatch before after) (append-nil (marks_of read.reads)) (watch-adds-then read.told none); gathers = read.gathers };
-    is = tt;
-  };
-  same = refl;
-  again = again;
-}
+module _ {B E : Type 0} {bk : rulebook.Ghosts B} {ex : extra.Ghosts E} where
+  -- a look that publishes nothing
+  over : {source : Source} {old : Serving (Chain B E bk ex)} {before mid after : WatchState} {gives : Result Bundle GatherFault} (answer : Looking) → publication answer ≡ []
+      → reloads old.plans.blocks ≡ true → TellsGathering source before mid gives → IsNoted mid after answer
+      → AnswersLook (standing_of bk.taken bk.said old.plans old.published) gives answer → ServesBehind old old gives answer
+      → LooksOver source old old before after answer
+  over {source} {old} {before} {mid} {after} {gives} answer quiet again read noted answers behind =
+      let all = watch-adds-then read.told noted.told in
+      let marks : marks_of read.reads ++ note_marks (look_text answer) noted.flag ≡ marks_of read.reads ++ (publication answer ++ note_marks (look_text answer) noted.flag) =
+      ap (λ (m : List WatchMark). marks_of read.reads ++ (m ++ note_marks (look_text answer) noted.flag)) (sym quiet) in
+      record { reads = read.reads; gives = gives; gathers = read.gathers; flag = noted.flag; told = subst (AddsWatch before after) marks all; answers = answers; behind = behind; again = again }
 
--- an answer before anything is published, and its note
-pub kept_looks : (source : Source) (old : Serving) (before mid after : WatchState) (gives : Result Bundle GatherFault) (answer result : Looking) → reloads old.plans.blocks ≡ true
-    → TellsGathering source before mid gives → AnswersKept old.plans gives answer → NotesLook mid after answer result → LooksOnce source old old before after result
-kept_looks source old before mid after gives looking.NoReload result again read kept notes = absurd kept
-kept_looks source old before mid after gives (looking.ReadFailed name) result again read kept notes = elim notes.either [
-  | inl w ↦ rw w.0 (over (looking.ReadFailed name) refl again read w.1 kept refl)
-  | inr w ↦ rw w.0 (starves again read w.1)
-]
-kept_looks source old before mid after gives looking.Same result again read kept notes = elim notes.either [
-  | inl w ↦ rw w.0 (over looking.Same refl again read w.1 kept refl)
-  | inr w ↦ rw w.0 (starves again read w.1)
-]
-kept_looks source old before mid after gives (looking.Refused why) result again read kept notes = elim notes.either [
-  | inl w ↦ rw w.0 (over (looking.Refused why) refl again read w.1 kept refl)
-  | inr w ↦ rw w.0 (starves again read w.1)
-]
-kept_looks source old before mid after gives (looking.PortsDiffer ports others) result again read kept notes = elim notes.either [
-  | inl w ↦ rw w.0 (over (looking.PortsDiffer ports others) refl again read w.1 (record { bundle = kept.bundle; got = kept.got; differs = kept.differs; blocks = kept.blocks; accepted = kept.accepted; is = kept.is }) refl)
-  | inr w ↦ rw w.0 (starves again read w.1)
-]
-kept_looks source old before mid after gives looking.SerialsSpent result again read kept notes = absurd kept
-kept_looks source old before mid after gives (looking.AllPinned first second third) result again read kept notes = absurd kept
-kept_looks source old before mid after gives (looking.Published serial) result again read kept notes = absurd kept
-kept_looks source old before mid after gives looking.NoMemory result again read kept notes = elim notes.either [
-  | inl w ↦ rw w.0 (starves again read w.1.told)
-  | inr w ↦ rw w.0 (starves again read w.1)
-]
-
-accepted_next : (current : PlansData) (gives : Result Bundle GatherFault) (plans : PlansData) → IsNext current gives plans → IsAccepted (terms_in all_taken all_pass current) plans.bundle plans.blocks
-accepted_next current gives plans next = subst (λ (g : Ground). IsAccepted (terms_on all_taken all_pass g) plans.bundle plans.blocks) next.basis next.are.are.accepted
-
--- a chain that is to serve next, and what its publication came to
-pub next_looks : (source : Source) (old new : Serving) (before mid after : WatchState) (gives : Result Bundle GatherFault) (plans : PlansData) (result : Looking) → reloads old.plans.blocks ≡ true
-    → TellsGathering source before mid gives → IsNext old.plans gives plans → PublishesNext old new mid after plans result → LooksOnce source old new before after result
-next_looks source old new before mid after gives plans looking.NoReload again read next is = absurd is
-next_looks source old new before mid after gives plans (looking.ReadFailed name) again read next is = absurd is
-next_looks source old new before mid after gives plans looking.Same again read next is = absurd is
-next_looks source old new before mid after gives plans (looking.Refused why) again read next is = absurd is
-next_looks source old new before mid after gives plans (looking.PortsDiffer ports others) again read next is = absurd is
-next_looks source old new before mid after gives plans looking.SerialsSpent again read next is =
-    rw is.1 (over looking.SerialsSpent refl again read is.2
-    (record { bundle = plans.bundle; got = next.got; differs = next.differs; blocks = plans.blocks; accepted = accepted_next old.plans gives plans next; is = (next.ports, is.0) }) refl)
-next_looks source old new before mid after gives plans (looking.AllPinned first second third) again read next is =
-    rw is.0 (over (looking.AllPinned first second third) refl again read is.1.noted
-    (record { bundle = plans.bundle; got = next.got; differs = next.differs; blocks = plans.blocks; accepted = accepted_next old.plans gives plans next; is = record { ports = next.ports; few = is.1.few; one = is.1.one; two = is.1.two; three = is.1.three } }) refl)
-next_looks source old new before mid after gives plans (looking.Published serial) again read next is =
-    record {
-      reads = read.reads;
+  -- want of memory, behind the reads
+  starves : {source : Source} {old : Serving (Chain B E bk ex)} {before mid after : WatchState} {gives : Result Bundle GatherFault} → reloads old.plans.blocks ≡ true → TellsGathering source before mid gives → AddsWatch mid after []
+      → Starves source old old before after
+  starves {source} {old} {before} {mid} {after} {gives} again read none = record {
+    gathered = record {
       gives = gives;
-      gathers = read.gathers;
-      flag = is.flag;
-      told = watch-adds-then read.told is.told;
-      answers = record { bundle = plans.bundle; got = next.got; differs = next.differs; blocks = plans.blocks; accepted = accepted_next old.plans gives plans next; is = (next.ports, is.few, is.serial_is) };
-      behind = subst (ServesGathered old new) (sym next.got) is.replaces;
-      again = again;
-    }
-next_looks source old new before mid after gives plans looking.NoMemory again read next is = rw is.0 (starves again read is.1)
+      tells = record { reads = read.reads; told = subst (AddsWatch before after) (append-nil (marks_of read.reads)) (watch-adds-then read.told none); gathers = read.gathers };
+      is = tt;
+    };
+    same = refl;
+    again = again;
+  }
+
+  -- an answer before anything is published, and its note
+  pub kept_looks : (source : Source) (old : Serving (Chain B E bk ex)) (before mid after : WatchState) (gives : Result Bundle GatherFault) (answer result : Looking) → reloads old.plans.blocks ≡ true
+      → TellsGathering source before mid gives → AnswersKept bk.taken bk.said old.plans gives answer → NotesLook mid after answer result → LooksOnce source old old before after result
+  kept_looks source old before mid after gives looking.NoReload result again read kept notes = absurd kept
+  kept_looks source old before mid after gives (looking.ReadFailed name) result again read kept notes = elim notes.either [
+    | inl w ↦ rw w.0 (over (looking.ReadFailed name) refl again read w.1 kept refl)
+    | inr w ↦ rw w.0 (starves again read w.1)
+  ]
+  kept_looks source old before mid after gives looking.Same result again read kept notes = elim notes.either [
+    | inl w ↦ rw w.0 (over looking.Same refl again read w.1 kept refl)
+    | inr w ↦ rw w.0 (starves again read w.1)
+  ]
+  kept_looks source old before mid after gives (looking.Refused why) result again read kept notes = elim notes.either [
+    | inl w ↦ rw w.0 (over (looking.Refused why) refl again read w.1 kept refl)
+    | inr w ↦ rw w.0 (starves again read w.1)
+  ]
+  kept_looks source old before mid after gives (looking.PortsDiffer ports others) result again read kept notes = elim notes.either [
+    | inl w ↦ rw w.0 (over (looking.PortsDiffer ports others) refl again read w.1 (record { bundle = kept.bundle; got = kept.got; differs = kept.differs; blocks = kept.blocks; accepted = kept.accepted; is = kept.is }) refl)
+    | inr w ↦ rw w.0 (starves again read w.1)
+  ]
+  kept_looks source old before mid after gives looking.SerialsSpent result again read kept notes = absurd kept
+  kept_looks source old before mid after gives (looking.AllPinned first second third) result again read kept notes = absurd kept
+  kept_looks source old before mid after gives (looking.StockShort name asked had) result again read kept notes = absurd kept
+  kept_looks source old before mid after gives (looking.Published serial) result again read kept notes = absurd kept
+  kept_looks source old before mid after gives looking.NoMemory result again read kept notes = elim notes.either [
+    | inl w ↦ rw w.0 (starves again read w.1.told)
+    | inr w ↦ rw w.0 (starves again read w.1)
+  ]
+
+  -- a chain that is to serve next, and what its publication came to
+  pub next_looks : (source : Source) (old new : Serving (Chain B E bk ex)) (before mid after : WatchState) (gives : Result Bundle GatherFault) (plans : PlansData) (result : Looking) → reloads old.plans.blocks ≡ true
+      → TellsGathering source before mid gives → IsNext bk.taken bk.said old.plans gives plans → PublishesNext old new mid after plans result → LooksOnce source old new before after result
+  next_looks source old new before mid after gives plans looking.NoReload again read next is = absurd is
+  next_looks source old new before mid after gives plans (looking.ReadFailed name) again read next is = absurd is
+  next_looks source old new before mid after gives plans looking.Same again read next is = absurd is
+  next_looks source old new before mid after gives plans (looking.Refused why) again read next is = absurd is
+  next_looks source old new before mid after gives plans (looking.PortsDiffer ports others) again read next is = absurd is
+  next_looks source old new before mid after gives plans looking.SerialsSpent again read next is =
+      rw is.1 (over looking.SerialsSpent refl again read is.2
+      (record { bundle = plans.bundle; got = next.got; differs = next.differs; blocks = plans.blocks; accepted = accepted_next bk.taken bk.said old.plans gives plans next; is = (next.ports, is.0) }) refl)
+  next_looks source old new before mid after gives plans (looking.AllPinned first second third) again read next is =
+      rw is.0 (over (looking.AllPinned first second third) refl again read is.1.noted
+      (record { bundle = plans.bundle; got = next.got; differs = next.differs; blocks = plans.blocks; accepted = accepted_next bk.taken bk.said old.plans gives plans next; is = record { ports = next.ports; few = is.1.few; one = is.1.one; two = is.1.two; three = is.1.three } }) refl)
+  next_looks source old new before mid after gives plans (looking.StockShort name asked had) again read next is =
+      rw is.0 (over (looking.StockShort name asked had) refl again read is.1.noted
+      (record { bundle = plans.bundle; got = next.got; differs = next.differs; blocks = plans.blocks; accepted = accepted_next bk.taken bk.said old.plans gives plans next; is = record { ports = next.ports; few = is.1.few; short = is.1.short } }) refl)
+  next_looks source old new before mid after gives plans (looking.Published serial) again read next is =
+      record {
+        reads = read.reads;
+        gives = gives;
+        gathers = read.gathers;
+        flag = is.flag;
+        told = watch-adds-then read.told is.told;
+        answers = record { bundle = plans.bundle; got = next.got; differs = next.differs; blocks = plans.blocks; accepted = accepted_next bk.taken bk.said old.plans gives plans next; is = (next.ports, is.few, is.serial_is) };
+        behind = subst (ServesGathered old new) (sym next.got) is.replaces;
+        again = again;
+      }
+  next_looks source old new before mid after gives plans looking.NoMemory again read next is = rw is.0 (starves again read is.1)

@@ -6,7 +6,6 @@ use Rattle.std.proofs.lemmas.List.{get_or-map, get_or-set_other, get_or-set_same
 use Rattle.std.proofs.Math.ListN.{get_or-append}
 use Rattle.std.proofs.Math.Seq.{get_or-append_seam}
 use Rattle.std.proofs.lemmas.List.{length_push}
-use Rattle.chain_build.specs.{OwnChain}
 use Rattle.pin_core.specs.declared.slots.TheConstants.{SLOTS}
 use Rattle.pin_core.specs.declared.slots.Phase.{Phase}
 use Rattle.pin_core.specs.declared.slots.Phase.TheVariants.{Free, Filling, Current, Replaced}
@@ -30,49 +29,6 @@ busy Free is = absurd cc
 busy (Filling marks) is = refl
 busy (Current pins) is = refl
 busy (Replaced total ready drained) is = refl
-
--- two replaced slots have different serials
-pub apart : (p : Plan OwnChain) → IsPlaced p → (i j : ℕ) → i < j → j < SLOTS → is_replaced (plan_slot p i).phase ≡ true → is_replaced (plan_slot p j).phase ≡ true
-    → serial_at p.past.serials i ≢ serial_at p.past.serials j
-apart p is i j less low one two = λ same.
-    let first = is.placed i (omega (arith, less, low)) (busy (plan_slot p i).phase one) in
-    let second = is.placed j low (busy (plan_slot p j).phase two) in
-    let e : i ≡ j = sym first.1 ∙ ap (λ (n : ℕ). get_or p.past.published n SLOTS) same ∙ second.1 in
-    omega (arith, e, less)
-
--- a slot that is free again
-placed_retired : (p : Plan OwnChain) (slot found : ℕ) (chains : List OwnChain) → slot < SLOTS → IsPlaced p → IsPlaced (retired_plan p slot found chains)
-placed_retired p slot found chains low is = record {
-  each_serial = is.each_serial;
-  each_slot = length-set p.slots slot (free_again (plan_slot p slot)) ∙ is.each_slot;
-  placed = λ i within free. dite (ℕ_discrete i slot)
-      (λ e. absurd (
-      let here : get_or (set p.slots slot (free_again (plan_slot p slot))) i unused ≡ free_again (plan_slot p slot) =
-      subst (λ (k : ℕ). get_or (set p.slots slot (free_again (plan_slot p slot))) k unused ≡ free_again (plan_slot p slot)) (sym e)
-      (get_or-set_same p.slots slot (free_again (plan_slot p slot)) unused (let four = is.each_slot in omega (arith, four, low))) in
-      let off : true ≡ false = ap (λ (x : Slot). is_free x.phase) (sym here) ∙ free in
-      cc
-      ))
-      (λ ne. is.placed i within (ap (λ (x : Slot). is_free x.phase) (sym (get_or-set_other p.slots slot i (free_again (plan_slot p slot)) unused ne)) ∙ free));
-}
-
--- behind a sweep
-placed_swept : (p : Plan OwnChain) (slot : ℕ) (home : List OwnChain) (x : Swept) (home' : List OwnChain) (p' : Plan OwnChain) → slot < SLOTS → IsSwept p slot home x home' p' → IsPlaced p → IsPlaced p'
-placed_swept p slot home swept.Retired home' p' low swept is = subst IsPlaced (sym swept.then) (placed_retired p slot swept.found swept.chains low is)
-placed_swept p slot home (swept.NotYet ended total) home' p' low swept is =
-    let same : IsPlaced (swept_plan p slot ended) = record { each_serial = is.each_serial; each_slot = is.each_slot; placed = is.placed } in
-    subst IsPlaced (sym swept.4) same
-placed_swept p slot home swept.Current home' p' low swept is = subst IsPlaced (sym swept.2) is
-placed_swept p slot home swept.Bare home' p' low swept is = subst IsPlaced (sym swept.2) is
-
--- behind a search
-pub placed_freed : (p : Plan OwnChain) (home : List OwnChain) (answer : FreeSlot) (home' : List OwnChain) (p' : Plan OwnChain) → IsFreed p home answer home' p' → IsPlaced p → IsPlaced p'
-placed_freed p home answer home' p' freed is =
-    let low_c = freed.order.2 in
-    let low_b : freed.b < SLOTS = let l = freed.order.1 in omega (arith, l, low_c) in
-    let low_a : freed.a < SLOTS = let l = freed.order.0 in omega (arith, l, low_b) in
-    placed_swept freed.plan_2 freed.c freed.home_2 freed.third home' p' low_c freed.sweep_3
-    (placed_swept freed.plan_1 freed.b freed.home_1 freed.second freed.home_2 freed.plan_2 low_b freed.sweep_2 (placed_swept p freed.a home freed.first freed.home_1 freed.plan_1 low_a freed.sweep_1 is))
 
 -- another publication frees no slot, and takes none
 same_phase : (pins base : ℕ) (phase : Phase) → is_free (replaced_phase base (with_pins pins phase)) ≡ is_free phase
@@ -106,9 +62,53 @@ at_published slots serials published slot pins v u low four_serials four old i w
 long_published : (slots : List Slot) (slot pins : ℕ) (v u : Slot) → length slots ≡ SLOTS → length (set (map (retired pins) (set slots slot v)) slot u) ≡ SLOTS
 long_published slots slot pins v u four = length-set (map (retired pins) (set slots slot v)) slot u ∙ length-map (set slots slot v) (retired pins) ∙ length-set slots slot v ∙ four
 
-pub placed_published : (p : Plan OwnChain) (slot : ℕ) (chains : List OwnChain) (found : ℕ) → slot < SLOTS → IsPlaced p → IsPlaced (next_plan p slot chains found)
-placed_published p slot chains found low is = record {
-  each_serial = length-set p.past.serials slot (length p.past.published) ∙ is.each_serial;
-  each_slot = long_published p.slots slot _ _ _ is.each_slot;
-  placed = at_published p.slots p.past.serials p.past.published slot _ _ _ low is.each_serial is.each_slot is.placed;
-}
+module _ {C : Type 0} where
+  -- two replaced slots have different serials
+  pub apart : (p : Plan C) → IsPlaced p → (i j : ℕ) → i < j → j < SLOTS → is_replaced (plan_slot p i).phase ≡ true → is_replaced (plan_slot p j).phase ≡ true
+      → serial_at p.past.serials i ≢ serial_at p.past.serials j
+  apart p is i j less low one two = λ same.
+      let first = is.placed i (omega (arith, less, low)) (busy (plan_slot p i).phase one) in
+      let second = is.placed j low (busy (plan_slot p j).phase two) in
+      let e : i ≡ j = sym first.1 ∙ ap (λ (n : ℕ). get_or p.past.published n SLOTS) same ∙ second.1 in
+      omega (arith, e, less)
+
+  -- a slot that is free again
+  placed_retired : (p : Plan C) (slot found : ℕ) (chains : List C) → slot < SLOTS → IsPlaced p → IsPlaced (retired_plan p slot found chains)
+  placed_retired p slot found chains low is = record {
+    each_serial = is.each_serial;
+    each_slot = length-set p.slots slot (free_again (plan_slot p slot)) ∙ is.each_slot;
+    placed = λ i within free. dite (ℕ_discrete i slot)
+        (λ e. absurd (
+        let here : get_or (set p.slots slot (free_again (plan_slot p slot))) i unused ≡ free_again (plan_slot p slot) =
+        subst (λ (k : ℕ). get_or (set p.slots slot (free_again (plan_slot p slot))) k unused ≡ free_again (plan_slot p slot)) (sym e)
+        (get_or-set_same p.slots slot (free_again (plan_slot p slot)) unused (let four = is.each_slot in omega (arith, four, low))) in
+        let off : true ≡ false = ap (λ (x : Slot). is_free x.phase) (sym here) ∙ free in
+        cc
+        ))
+        (λ ne. is.placed i within (ap (λ (x : Slot). is_free x.phase) (sym (get_or-set_other p.slots slot i (free_again (plan_slot p slot)) unused ne)) ∙ free));
+  }
+
+  -- behind a sweep
+  placed_swept : (p : Plan C) (slot : ℕ) (home : List C) (x : Swept) (home' : List C) (p' : Plan C) → slot < SLOTS → IsSwept p slot home x home' p' → IsPlaced p → IsPlaced p'
+  placed_swept p slot home swept.Retired home' p' low swept is = subst IsPlaced (sym swept.then) (placed_retired p slot swept.found swept.chains low is)
+  placed_swept p slot home (swept.NotYet ended total) home' p' low swept is =
+      let same : IsPlaced (swept_plan p slot ended) = record { each_serial = is.each_serial; each_slot = is.each_slot; placed = is.placed } in
+      subst IsPlaced (sym swept.4) same
+  placed_swept p slot home swept.Current home' p' low swept is = subst IsPlaced (sym swept.2) is
+  placed_swept p slot home swept.Bare home' p' low swept is = subst IsPlaced (sym swept.2) is
+
+  -- behind a search
+  pub placed_freed : (p : Plan C) (home : List C) (answer : FreeSlot) (home' : List C) (p' : Plan C) → IsFreed p home answer home' p' → IsPlaced p → IsPlaced p'
+  placed_freed p home answer home' p' freed is =
+      let low_c = freed.order.2 in
+      let low_b : freed.b < SLOTS = let l = freed.order.1 in omega (arith, l, low_c) in
+      let low_a : freed.a < SLOTS = let l = freed.order.0 in omega (arith, l, low_b) in
+      placed_swept freed.plan_2 freed.c freed.home_2 freed.third home' p' low_c freed.sweep_3
+      (placed_swept freed.plan_1 freed.b freed.home_1 freed.second freed.home_2 freed.plan_2 low_b freed.sweep_2 (placed_swept p freed.a home freed.first freed.home_1 freed.plan_1 low_a freed.sweep_1 is))
+
+  pub placed_published : (p : Plan C) (slot : ℕ) (chains : List C) (found : ℕ) → slot < SLOTS → IsPlaced p → IsPlaced (next_plan p slot chains found)
+  placed_published p slot chains found low is = record {
+    each_serial = length-set p.past.serials slot (length p.past.published) ∙ is.each_serial;
+    each_slot = long_published p.slots slot _ _ _ is.each_slot;
+    placed = at_published p.slots p.past.serials p.past.published slot _ _ _ low is.each_serial is.each_slot is.placed;
+  }

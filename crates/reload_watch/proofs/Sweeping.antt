@@ -1,6 +1,5 @@
 -- What a search for a free slot swept.
 use Rattle.std.proofs.Common.{◌≡◌, ◌≢◌, ◌<◌, ℕ, true, false, List, [], ◌∷◌, refl, sym, ap, subst, ◌∙◌, inl, inr, arith}
-use Rattle.chain_build.specs.{OwnChain}
 use Rattle.pin_core.specs.declared.slots.TheConstants.{SLOTS}
 use Rattle.pin_table.specs.declared.free_slots.FreeSlot.{FreeSlot}
 use Rattle.pin_table.specs.declared.free_slots.FreeSlot.TheVariants as found
@@ -28,36 +27,6 @@ more sweep before after is = rw is (λ last serial left has. inr has)
 same : (before after : List Sweep) → after ≡ before → KeepsSweeps before after
 same before after is = rw is (λ last serial left has. has)
 
--- a sweep of a slot
-by_one : (p : Plan OwnChain) (slot : ℕ) (home : List OwnChain) (x : Swept) (home' : List OwnChain) (p' : Plan OwnChain) → IsSwept p slot home x home' p' → KeepsSweeps p.sweeps p'.sweeps
-by_one p slot home swept.Retired home' p' is = more (look_at p slot is.found) p.sweeps p'.sweeps (ap (λ (q : Plan OwnChain). q.sweeps) is.then)
-by_one p slot home (swept.NotYet ended total) home' p' is = more (look_at p slot ended) p.sweeps p'.sweeps (ap (λ (q : Plan OwnChain). q.sweeps) is.4)
-by_one p slot home swept.Current home' p' is = same p.sweeps p'.sweeps (ap (λ (q : Plan OwnChain). q.sweeps) is.2)
-by_one p slot home swept.Bare home' p' is = same p.sweeps p'.sweeps (ap (λ (q : Plan OwnChain). q.sweeps) is.2)
-
--- the sweeps of a search
-pub kept_by : (p : Plan OwnChain) (home : List OwnChain) (answer : FreeSlot) (home' : List OwnChain) (p' : Plan OwnChain) → IsFreed p home answer home' p' → KeepsSweeps p.sweeps p'.sweeps
-kept_by p home answer home' p' is = λ last serial left has.
-    by_one is.plan_2 is.c is.home_2 is.third home' p' is.sweep_3 last serial left
-    (by_one is.plan_1 is.b is.home_1 is.second is.home_2 is.plan_2 is.sweep_2 last serial left (by_one p is.a home is.first is.home_1 is.plan_1 is.sweep_1 last serial left has))
-
--- three sweeps one after another, each of which saw open pins
-three_swept : (p : Plan OwnChain) (a b c : ℕ) (x y z : ℕ) (first second third : Left) → (first.slot < second.slot) × (second.slot < third.slot)
-    → (serial_at p.past.serials a ≢ serial_at p.past.serials b) × (serial_at p.past.serials b ≢ serial_at p.past.serials c) × (serial_at p.past.serials a ≢ serial_at p.past.serials c)
-    → (first.ended ≡ x) × (first.total ≡ (look_at p a x).total) → (second.ended ≡ y) × (second.total ≡ (look_at (swept_plan p a x) b y).total)
-    → (third.ended ≡ z) × (third.total ≡ (look_at (swept_plan (swept_plan p a x) b y) c z).total)
-    → SweptThree (swept_plan (swept_plan (swept_plan p a x) b y) c z).sweeps (count_of p) first second third
-three_swept p a b c x y z first second third order apart one two three = record {
-  order = order;
-  a = serial_at p.past.serials a;
-  b = serial_at p.past.serials b;
-  c = serial_at p.past.serials c;
-  apart = apart;
-  one = inr (inr (inl (refl, refl, sym one.0, sym one.1)));
-  two = inr (inl (refl, refl, sym two.0, sym two.1));
-  three = inl (refl, refl, sym three.0, sym three.1);
-}
-
 -- what an answer tells of each slot, or else this
 abbrev left_first : Left → FreeSlot → Left
 left_first other (found.Free slot) = other
@@ -78,48 +47,80 @@ not_free first second third slot e = absurd cc
 not_current : true ≡ false → ⊥
 not_current e = absurd cc
 
--- a search that found no free slot swept three slots with open pins
-by_three : (p : Plan OwnChain) (a b c : ℕ) (x y z : Swept) (h1 h2 h3 : List OwnChain) (p1 p2 p3 : Plan OwnChain) (first second third : Left) → IsPlaced p → (a < b) × (b < c) × (c < SLOTS)
-    → IsSwept p a [] x h1 p1 → IsSwept p1 b h1 y h2 p2 → IsSwept p2 c h2 z h3 p3
-    → (saw_current x ≡ false) × (saw_current y ≡ false) × (saw_current z ≡ false) → found.AllPinned first second third ≡ answer_of a x b y c z
-    → SweptThree p3.sweeps (count_of p) first second third
-by_three p a b c swept.Retired y z h1 h2 h3 p1 p2 p3 first second third placed order s1 s2 s3 others answers = absurd (not_free first second third a answers)
-by_three p a b c swept.Bare y z h1 h2 h3 p1 p2 p3 first second third placed order s1 s2 s3 others answers = absurd (not_free first second third a answers)
-by_three p a b c swept.Current y z h1 h2 h3 p1 p2 p3 first second third placed order s1 s2 s3 others answers = absurd (not_current others.0)
-by_three p a b c (swept.NotYet e1 t1) swept.Retired z h1 h2 h3 p1 p2 p3 first second third placed order s1 s2 s3 others answers = absurd (not_free first second third b answers)
-by_three p a b c (swept.NotYet e1 t1) swept.Bare z h1 h2 h3 p1 p2 p3 first second third placed order s1 s2 s3 others answers = absurd (not_free first second third b answers)
-by_three p a b c (swept.NotYet e1 t1) swept.Current z h1 h2 h3 p1 p2 p3 first second third placed order s1 s2 s3 others answers = absurd (not_current others.1)
-by_three p a b c (swept.NotYet e1 t1) (swept.NotYet e2 t2) swept.Retired h1 h2 h3 p1 p2 p3 first second third placed order s1 s2 s3 others answers = absurd (not_free first second third c answers)
-by_three p a b c (swept.NotYet e1 t1) (swept.NotYet e2 t2) swept.Bare h1 h2 h3 p1 p2 p3 first second third placed order s1 s2 s3 others answers = absurd (not_free first second third c answers)
-by_three p a b c (swept.NotYet e1 t1) (swept.NotYet e2 t2) swept.Current h1 h2 h3 p1 p2 p3 first second third placed order s1 s2 s3 others answers = absurd (not_current others.2)
-by_three p a b c (swept.NotYet e1 t1) (swept.NotYet e2 t2) (swept.NotYet e3 t3) h1 h2 h3 p1 p2 p3 first second third placed order s1 s2 s3 others answers =
-    let l1 : Left = record { slot = a; ended = e1; total = t1 } in
-    let l2 : Left = record { slot = b; ended = e2; total = t2 } in
-    let l3 : Left = record { slot = c; ended = e3; total = t3 } in
-    let one : first ≡ l1 = ap (left_first l1) answers in
-    let two : second ≡ l2 = ap (left_second l1) answers in
-    let three : third ≡ l3 = ap (left_third l1) answers in
-    let s2' : IsSwept (swept_plan p a e1) b h1 (swept.NotYet e2 t2) h2 p2 = subst (λ (q : Plan OwnChain). IsSwept q b h1 (swept.NotYet e2 t2) h2 p2) s1.4 s2 in
-    let s3' : IsSwept (swept_plan (swept_plan p a e1) b e2) c h2 (swept.NotYet e3 t3) h3 p3 = subst (λ (q : Plan OwnChain). IsSwept q c h2 (swept.NotYet e3 t3) h3 p3) s2'.4 s3 in
-    let ordered : (first.slot < second.slot) × (second.slot < third.slot) = rw one (rw two (rw three (order.0, order.1))) in
-    let low : b < SLOTS = let l = order.1 in let h = order.2 in omega (arith, l, h) in
-    let wide : a < c = let l = order.0 in let h = order.1 in omega (arith, l, h) in
-    subst (λ (q : Plan OwnChain). SweptThree q.sweeps (count_of p) first second third) (sym s3'.4) (three_swept p a b c e1 e2 e3 first second third ordered
-    (apart p placed a b order.0 low s1.0 s2'.0, apart p placed b c order.1 order.2 s2'.0 s3'.0, apart p placed a c wide order.2 s1.0 s3'.0)
-    (ap (λ (l : Left). l.ended) one, ap (λ (l : Left). l.total) one ∙ s1.1)
-    (ap (λ (l : Left). l.ended) two, ap (λ (l : Left). l.total) two ∙ s2'.1)
-    (ap (λ (l : Left). l.ended) three, ap (λ (l : Left). l.total) three ∙ s3'.1))
+module _ {C : Type 0} where
+  -- a sweep of a slot
+  by_one : (p : Plan C) (slot : ℕ) (home : List C) (x : Swept) (home' : List C) (p' : Plan C) → IsSwept p slot home x home' p' → KeepsSweeps p.sweeps p'.sweeps
+  by_one p slot home swept.Retired home' p' is = more (look_at p slot is.found) p.sweeps p'.sweeps (ap (λ (q : Plan C). q.sweeps) is.then)
+  by_one p slot home (swept.NotYet ended total) home' p' is = more (look_at p slot ended) p.sweeps p'.sweeps (ap (λ (q : Plan C). q.sweeps) is.4)
+  by_one p slot home swept.Current home' p' is = same p.sweeps p'.sweeps (ap (λ (q : Plan C). q.sweeps) is.2)
+  by_one p slot home swept.Bare home' p' is = same p.sweeps p'.sweeps (ap (λ (q : Plan C). q.sweeps) is.2)
 
--- what a look swept, by its answer
-pub swept_by : (p p' : Plan OwnChain) (answer : Looking) → IsPlaced p → SearchesFirst p p' answer → SweptFor p'.sweeps (count_of p) answer
-swept_by p p' looking.NoReload placed is = tt
-swept_by p p' (looking.ReadFailed name) placed is = tt
-swept_by p p' looking.Same placed is = tt
-swept_by p p' (looking.Refused why) placed is = tt
-swept_by p p' (looking.PortsDiffer ports others) placed is = tt
-swept_by p p' looking.SerialsSpent placed is = tt
-swept_by p p' (looking.AllPinned one two three) placed is =
-    let f = is.1 in
-    by_three p f.a f.b f.c f.first f.second f.third f.home_1 f.home_2 is.0 f.plan_1 f.plan_2 p' one two three placed f.order f.sweep_1 f.sweep_2 f.sweep_3 f.others f.answers
-swept_by p p' (looking.Published serial) placed is = tt
-swept_by p p' looking.NoMemory placed is = tt
+  -- the sweeps of a search
+  pub kept_by : (p : Plan C) (home : List C) (answer : FreeSlot) (home' : List C) (p' : Plan C) → IsFreed p home answer home' p' → KeepsSweeps p.sweeps p'.sweeps
+  kept_by p home answer home' p' is = λ last serial left has.
+      by_one is.plan_2 is.c is.home_2 is.third home' p' is.sweep_3 last serial left
+      (by_one is.plan_1 is.b is.home_1 is.second is.home_2 is.plan_2 is.sweep_2 last serial left (by_one p is.a home is.first is.home_1 is.plan_1 is.sweep_1 last serial left has))
+
+  -- three sweeps one after another, each of which saw open pins
+  three_swept : (p : Plan C) (a b c : ℕ) (x y z : ℕ) (first second third : Left) → (first.slot < second.slot) × (second.slot < third.slot)
+      → (serial_at p.past.serials a ≢ serial_at p.past.serials b) × (serial_at p.past.serials b ≢ serial_at p.past.serials c) × (serial_at p.past.serials a ≢ serial_at p.past.serials c)
+      → (first.ended ≡ x) × (first.total ≡ (look_at p a x).total) → (second.ended ≡ y) × (second.total ≡ (look_at (swept_plan p a x) b y).total)
+      → (third.ended ≡ z) × (third.total ≡ (look_at (swept_plan (swept_plan p a x) b y) c z).total)
+      → SweptThree (swept_plan (swept_plan (swept_plan p a x) b y) c z).sweeps (count_of p) first second third
+  three_swept p a b c x y z first second third order apart one two three = record {
+    order = order;
+    a = serial_at p.past.serials a;
+    b = serial_at p.past.serials b;
+    c = serial_at p.past.serials c;
+    apart = apart;
+    one = inr (inr (inl (refl, refl, sym one.0, sym one.1)));
+    two = inr (inl (refl, refl, sym two.0, sym two.1));
+    three = inl (refl, refl, sym three.0, sym three.1);
+  }
+
+  -- a search that found no free slot swept three slots with open pins
+  by_three : (p : Plan C) (a b c : ℕ) (x y z : Swept) (h1 h2 h3 : List C) (p1 p2 p3 : Plan C) (first second third : Left) → IsPlaced p → (a < b) × (b < c) × (c < SLOTS)
+      → IsSwept p a [] x h1 p1 → IsSwept p1 b h1 y h2 p2 → IsSwept p2 c h2 z h3 p3
+      → (saw_current x ≡ false) × (saw_current y ≡ false) × (saw_current z ≡ false) → found.AllPinned first second third ≡ answer_of a x b y c z
+      → SweptThree p3.sweeps (count_of p) first second third
+  by_three p a b c swept.Retired y z h1 h2 h3 p1 p2 p3 first second third placed order s1 s2 s3 others answers = absurd (not_free first second third a answers)
+  by_three p a b c swept.Bare y z h1 h2 h3 p1 p2 p3 first second third placed order s1 s2 s3 others answers = absurd (not_free first second third a answers)
+  by_three p a b c swept.Current y z h1 h2 h3 p1 p2 p3 first second third placed order s1 s2 s3 others answers = absurd (not_current others.0)
+  by_three p a b c (swept.NotYet e1 t1) swept.Retired z h1 h2 h3 p1 p2 p3 first second third placed order s1 s2 s3 others answers = absurd (not_free first second third b answers)
+  by_three p a b c (swept.NotYet e1 t1) swept.Bare z h1 h2 h3 p1 p2 p3 first second third placed order s1 s2 s3 others answers = absurd (not_free first second third b answers)
+  by_three p a b c (swept.NotYet e1 t1) swept.Current z h1 h2 h3 p1 p2 p3 first second third placed order s1 s2 s3 others answers = absurd (not_current others.1)
+  by_three p a b c (swept.NotYet e1 t1) (swept.NotYet e2 t2) swept.Retired h1 h2 h3 p1 p2 p3 first second third placed order s1 s2 s3 others answers = absurd (not_free first second third c answers)
+  by_three p a b c (swept.NotYet e1 t1) (swept.NotYet e2 t2) swept.Bare h1 h2 h3 p1 p2 p3 first second third placed order s1 s2 s3 others answers = absurd (not_free first second third c answers)
+  by_three p a b c (swept.NotYet e1 t1) (swept.NotYet e2 t2) swept.Current h1 h2 h3 p1 p2 p3 first second third placed order s1 s2 s3 others answers = absurd (not_current others.2)
+  by_three p a b c (swept.NotYet e1 t1) (swept.NotYet e2 t2) (swept.NotYet e3 t3) h1 h2 h3 p1 p2 p3 first second third placed order s1 s2 s3 others answers =
+      let l1 : Left = record { slot = a; ended = e1; total = t1 } in
+      let l2 : Left = record { slot = b; ended = e2; total = t2 } in
+      let l3 : Left = record { slot = c; ended = e3; total = t3 } in
+      let one : first ≡ l1 = ap (left_first l1) answers in
+      let two : second ≡ l2 = ap (left_second l1) answers in
+      let three : third ≡ l3 = ap (left_third l1) answers in
+      let s2' : IsSwept (swept_plan p a e1) b h1 (swept.NotYet e2 t2) h2 p2 = subst (λ (q : Plan C). IsSwept q b h1 (swept.NotYet e2 t2) h2 p2) s1.4 s2 in
+      let s3' : IsSwept (swept_plan (swept_plan p a e1) b e2) c h2 (swept.NotYet e3 t3) h3 p3 = subst (λ (q : Plan C). IsSwept q c h2 (swept.NotYet e3 t3) h3 p3) s2'.4 s3 in
+      let ordered : (first.slot < second.slot) × (second.slot < third.slot) = rw one (rw two (rw three (order.0, order.1))) in
+      let low : b < SLOTS = let l = order.1 in let h = order.2 in omega (arith, l, h) in
+      let wide : a < c = let l = order.0 in let h = order.1 in omega (arith, l, h) in
+      subst (λ (q : Plan C). SweptThree q.sweeps (count_of p) first second third) (sym s3'.4) (three_swept p a b c e1 e2 e3 first second third ordered
+      (apart p placed a b order.0 low s1.0 s2'.0, apart p placed b c order.1 order.2 s2'.0 s3'.0, apart p placed a c wide order.2 s1.0 s3'.0)
+      (ap (λ (l : Left). l.ended) one, ap (λ (l : Left). l.total) one ∙ s1.1)
+      (ap (λ (l : Left). l.ended) two, ap (λ (l : Left). l.total) two ∙ s2'.1)
+      (ap (λ (l : Left). l.ended) three, ap (λ (l : Left). l.total) three ∙ s3'.1))
+
+  -- what a look swept, by its answer
+  pub swept_by : (p p' : Plan C) (answer : Looking) → IsPlaced p → SearchesFirst p p' answer → SweptFor p'.sweeps (count_of p) answer
+  swept_by p p' looking.NoReload placed is = tt
+  swept_by p p' (looking.ReadFailed name) placed is = tt
+  swept_by p p' looking.Same placed is = tt
+  swept_by p p' (looking.Refused why) placed is = tt
+  swept_by p p' (looking.PortsDiffer ports others) placed is = tt
+  swept_by p p' looking.SerialsSpent placed is = tt
+  swept_by p p' (looking.AllPinned one two three) placed is =
+      let f = is.1 in
+      by_three p f.a f.b f.c f.first f.second f.third f.home_1 f.home_2 is.0 f.plan_1 f.plan_2 p' one two three placed f.order f.sweep_1 f.sweep_2 f.sweep_3 f.others f.answers
+  swept_by p p' (looking.StockShort name asked had) placed is = tt
+  swept_by p p' (looking.Published serial) placed is = tt
+  swept_by p p' looking.NoMemory placed is = tt

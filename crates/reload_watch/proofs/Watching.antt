@@ -15,10 +15,11 @@ use Rattle.corefile_blocks.specs.declared.bundle.Bundle.{Bundle}
 use Rattle.corefile_bundle.specs.declared.fault.GatherFault.{GatherFault}
 use Rattle.corefile_bundle.specs.Gathering.{GathersFrom, OneRead, Source}
 use Rattle.chain_meaning.specs.Accepting.{IsAccepted}
-use Rattle.chain_build.specs.{OwnChain}
-use Rattle.chain_build.specs.{AreOwnPlans, PlansData, ground_of, plans_of}
+use Rattle.chain_build.specs.declared.chain.Chain.{Chain}
+use Rattle.plugin_api.specs.declared.extra.Extra as extra
+use Rattle.plugin_api.specs.declared.rulebook.Rulebook as rulebook
+use Rattle.chain_build.specs.{ArePlans, PlansData, ground_of, plans_of}
 use Rattle.chain_meaning.specs.{Ground, Terms, terms_on}
-use Rattle.extra_stock.specs.{all_pass, all_taken}
 use Rattle.run_meaning.specs.declared.looking.Looking.{Looking}
 use Rattle.run_meaning.specs.declared.looking.Looking.TheVariants as looking
 use Rattle.reload_watch.specs.Filled.{AreFilledBy, EndsWith, IsOf}
@@ -50,10 +51,6 @@ starved_in-push : (looks : List WatchTurn) (look : WatchTurn) → all_starved (l
 starved_in-push [] look = omega arith
 starved_in-push (l ∷ looks) look = omega (arith, starved_in-push looks look)
 
--- the terms of a basis
-abbrev on : Ground → Terms
-on basis = terms_on all_taken all_pass basis
-
 looks-push : (source : Source) (terms : Terms) (bundles : List Bundle) (looks : List WatchTurn) (look : WatchTurn) → AreLooks source terms bundles looks
     → IsLook source terms (bundles ++ flat_map published_by looks) look → AreLooks source terms bundles (looks ++ look ∷ [])
 looks-push source terms bundles [] look are is = (subst (λ (b : List Bundle). IsLook source terms b look) (append-nil bundles) is, tt)
@@ -81,6 +78,7 @@ swept_for_more before after n (looking.AllPinned one two three) keeps swept =
       two = keeps (n - 1) swept.b two swept.two;
       three = keeps (n - 1) swept.c three swept.three;
     }
+swept_for_more before after n (looking.StockShort name asked had) keeps swept = tt
 swept_for_more before after n (looking.Published serial) keeps swept = tt
 swept_for_more before after n looking.NoMemory keeps swept = tt
 
@@ -105,191 +103,9 @@ length-more : {A : Type 0} (items : List A) (item : A) → length (items ++ item
 length-more [] item = refl
 length-more (i ∷ items) item = omega (arith, length-more items item)
 
--- one generation more
-filled-push : (bundles : List Bundle) (bundle : Bundle) (basis : Ground) (filled : List (List OwnChain)) (chains : List OwnChain) → AreFilledBy bundles basis filled → All (IsOf bundle basis) chains
-    → AreFilledBy (bundles ++ bundle ∷ []) basis (filled ++ chains ∷ [])
-filled-push [] bundle basis [] chains are all = (all, tt)
-filled-push [] bundle basis (cs ∷ css) chains are all = absurd are
-filled-push (b ∷ bundles) bundle basis [] chains are all = absurd are
-filled-push (b ∷ bundles) bundle basis (cs ∷ css) chains are all = (are.0, filled-push bundles bundle basis css chains are.1 all)
-
--- chains that serve by these plans serve by their bundle
-of_plans : (plans : PlansData) (bundle : Bundle) (basis : Ground) (chains : List OwnChain) → plans.bundle ≡ bundle → ground_of plans ≡ basis → All (λ chain. plans_of chain ≡ plans) chains → All (IsOf bundle basis) chains
-of_plans plans bundle basis chains b p all =
-    All-weaker (λ (chain : OwnChain). plans_of chain ≡ plans) (IsOf bundle basis)
-    (λ chain e. record { bundle_is = ap (λ (x : PlansData). x.bundle) e ∙ b; ground_is = ap ground_of e ∙ p }) chains all
-
-first_filled : (plans : PlansData) (earlier : List (List OwnChain)) (chains : List OwnChain) → length (earlier ++ chains ∷ []) ≡ 1 → All (λ chain. plans_of chain ≡ plans) chains
-    → AreFilledBy (plans.bundle ∷ []) (ground_of plans) (earlier ++ chains ∷ [])
-first_filled plans [] chains one all = (of_plans plans plans.bundle (ground_of plans) chains refl refl all, tt)
-first_filled plans (cs ∷ earlier) chains one all = absurd (omega (arith, length-more earlier chains, one))
-
--- what a watcher did since its watch stood at old: these looks, behind which this serves
-pub record HasWatched (source : Source) (p : Ground) (first : Bundle) (looks : List WatchTurn) (old new : WatchState) (g : Serving) (was starving : ℕ) : Type 0 where
-  pub told : AddsWatch old new (flat_map watch_marks looks)
-  pub are : AreLooks source (on p) (first ∷ []) looks
-  pub count : length (bundles_of first looks) ≡ g.published
-  pub earlier : List Bundle
-  pub last : bundles_of first looks ≡ earlier ++ g.plans.bundle ∷ []
-  pub port : ground_of g.plans ≡ p
-  pub is : AreOwnPlans g.plans
-  pub filled : AreFilledBy (bundles_of first looks) p g.filled
-  pub starved : RoseJust (all_starved looks) was starving
-  pub refused : RoseWithin (all_refused looks) (all_starved looks) old.refusals new.refusals
-
--- a further look
-extends : {source : Source} {p : Ground} {first : Bundle} {looks : List WatchTurn} {a b c : WatchState} {g h : Serving} {was had has : ℕ} (look : WatchTurn) (earlier : List Bundle)
-    → HasWatched source p first looks a b g was had → AddsWatch b c (watch_marks look) → IsLook source (on p) (bundles_of first looks) look
-    → length (bundles_of first looks ++ published_by look) ≡ h.published → bundles_of first looks ++ published_by look ≡ earlier ++ h.plans.bundle ∷ []
-    → ground_of h.plans ≡ p → AreOwnPlans h.plans → AreFilledBy (bundles_of first looks ++ published_by look) p h.filled → RoseJust (look_starved look) had has
-    → RoseWithin (look_refused look) (look_starved look) b.refusals c.refusals → HasWatched source p first (looks ++ look ∷ []) a c h was has
-extends {source} {p} {first} {looks} {a} {b} {c} {g} {h} {was} {had} {has} look earlier w adds is count last port plans filled starved_in refused_in = record {
-  told = subst (AddsWatch a c) (sym (watch_marks-push looks look)) (watch-adds-then w.told adds);
-  are = looks-push source (on p) (first ∷ []) looks look w.are is;
-  count = ap length (bundles-push first looks look) ∙ count;
-  earlier = earlier;
-  last = bundles-push first looks look ∙ last;
-  port = port;
-  is = plans;
-  filled = subst (λ (l : List Bundle). AreFilledBy l p h.filled) (sym (bundles-push first looks look)) filled;
-  starved = record {
-    least = let a = w.starved.least in let b = starved_in.least in omega (arith, starved_in-push looks look, a, b);
-    most = let a = w.starved.most in let b = starved_in.most in omega (arith, starved_in-push looks look, a, b);
-  };
-  refused = record {
-    least = let a = w.refused.least in let b = refused_in.least in omega (arith, all_refused-push looks look, a, b);
-    most = let a = w.refused.most in let b = refused_in.most in omega (arith, all_refused-push looks look, starved_in-push looks look, a, b);
-  };
-}
-
--- what is known of what serves, as a look needs it
-looked_of : {source : Source} {p : Ground} {first : Bundle} {looks : List WatchTurn} {a b : WatchState} {g : Serving} {was had : ℕ} (gives : Result Bundle GatherFault) (answer : Looking)
-    → HasWatched source p first looks a b g was had → reloads g.plans.blocks ≡ true → AnswersLook (standing_of g.plans g.published) gives answer
-    → IsLooked (on p) (bundles_of first looks) (times_of g.plans.blocks) (λ last blocks. AnswersLook (record { terms = on p; bundle = last; blocks = blocks; published = length (bundles_of first looks) }) gives answer)
-looked_of {source} {p} {first} {looks} {g = g} gives answer w again answers = record {
-  before = w.earlier;
-  last = g.plans.bundle;
-  last_is = w.last;
-  blocks = g.plans.blocks;
-  accepted = subst (λ (q : Ground). IsAccepted (on q) g.plans.bundle g.plans.blocks) w.port w.is.are.accepted;
-  again = again;
-  at = refl;
-  is = subst (λ (n : ℕ). AnswersLook (record { terms = on p; bundle = g.plans.bundle; blocks = g.plans.blocks; published = n }) gives answer) (sym w.count)
-      (subst (λ (q : Ground). AnswersLook (record { terms = on q; bundle = g.plans.bundle; blocks = g.plans.blocks; published = g.published }) gives answer) w.port answers);
-}
-
--- the wait for a look at what serves
-abbrev pub Waits : Serving → WatchState → WatchState → Type 0
-Waits g b mid = AddsWatch b mid (Look (times_of g.plans.blocks).interval (times_of g.plans.blocks).jitter ∷ [])
-
 -- what is swept for an answer is swept for the turn
 abbrev IsTurnOf : Looking → WatchTurn → Type 0
 IsTurnOf answer look = (sweeps : List Sweep) (n : ℕ) → SweptFor sweeps n answer → IsSweptTurn sweeps n look
-
--- the looks with one more, which came to this answer
-pub record Again (source : Source) (p : Ground) (first : Bundle) (looks : List WatchTurn) (a c : WatchState) (h : Serving) (was has : ℕ) (answer : Looking) : Type 0 where
-  pub look : WatchTurn
-  pub of : IsTurnOf answer look
-  pub watched : HasWatched source p first (looks ++ look ∷ []) a c h was has
-
--- a further look behind which nothing else serves
-same_serves : {source : Source} {p : Ground} {first : Bundle} {looks : List WatchTurn} {a b c : WatchState} {g h : Serving} {was had has : ℕ} (answer : Looking) (look : WatchTurn)
-    → IsTurnOf answer look → HasWatched source p first looks a b g was had → published_by look ≡ [] → h ≡ g → AddsWatch b c (watch_marks look) → IsLook source (on p) (bundles_of first looks) look
-    → RoseJust (look_starved look) had has → RoseWithin (look_refused look) (look_starved look) b.refusals c.refusals
-    → Again source p first looks a c h was has answer
-same_serves {source} {p} {first} {looks} {a} {b} {c} {g} {h} {was} {had} {has} answer look of w none same adds is rose refused =
-    let nothing : bundles_of first looks ++ published_by look ≡ bundles_of first looks =
-    ap (λ (l : List Bundle). bundles_of first looks ++ l) none ∙ append-nil (bundles_of first looks) in
-    record {
-      look = look;
-      of = of;
-      watched = extends look w.earlier w adds is
-          (ap length nothing ∙ w.count ∙ ap (λ (x : Serving). x.published) (sym same))
-          (nothing ∙ w.last ∙ ap (λ (x : Serving). w.earlier ++ x.plans.bundle ∷ []) (sym same))
-          (ap (λ (x : Serving). ground_of x.plans) same ∙ w.port)
-          (subst (λ (x : Serving). AreOwnPlans x.plans) (sym same) w.is)
-          (subst (λ (x : Serving). AreFilledBy (bundles_of first looks ++ published_by look) p x.filled) (sym same) (subst (λ (l : List Bundle). AreFilledBy l p g.filled) (sym nothing) w.filled))
-          rose refused;
-    }
-
--- a look that published nothing
-kept : {source : Source} {p : Ground} {first : Bundle} {looks : List WatchTurn} {a b : WatchState} {g : Serving} {was had : ℕ} (answer : Looking) (mid c : WatchState) (h : Serving) (has : ℕ)
-    → HasWatched source p first looks a b g was had → Waits g b mid → (over : LooksOver source g h mid c answer) → published_by (looked (times_of g.plans.blocks) over.reads over.gives answer over.flag) ≡ [] → h ≡ g → has ≡ had
-    → RoseWithin (answer_refused answer) 0 b.refusals c.refusals → Again source p first looks a c h was has answer
-kept {g = g} answer mid c h has w waits over none same none_starved refused =
-    same_serves answer (looked (times_of g.plans.blocks) over.reads over.gives answer over.flag) (λ sweeps n swept. swept) w none same (watch-adds-then waits over.told)
-    (over.gathers, looked_of over.gives answer w over.again over.answers) (record { least = omega (arith, none_starved); most = omega (arith, none_starved) }) refused
-
--- a look that published
-published_look : {source : Source} {p : Ground} {first : Bundle} {looks : List WatchTurn} {a b : WatchState} {g : Serving} {was had : ℕ} (serial : ℕ) (mid c : WatchState) (h : Serving) (has : ℕ) (reads : List OneRead) (gives : Result Bundle GatherFault) (flag : Bool)
-    → HasWatched source p first looks a b g was had → Waits g b mid → reloads g.plans.blocks ≡ true → GathersFrom source reads gives → AddsWatch mid c (look_marks reads (looking.Published serial) flag)
-    → AnswersLook (standing_of g.plans g.published) gives (looking.Published serial) → ServesGathered g h gives → has ≡ had → c.refusals ≡ b.refusals
-    → Again source p first looks a c h was has (looking.Published serial)
-published_look {source} {p} {first} {looks} {a} {b} {g} {was} {had} serial mid c h has reads (Ok bundle) flag w waits again gathers told answers replaces none_starved same_refusals = record {
-  look = looked (times_of g.plans.blocks) reads (Ok bundle) (looking.Published serial) flag;
-  of = λ sweeps n swept. swept;
-  watched = extends (looked (times_of g.plans.blocks) reads (Ok bundle) (looking.Published serial) flag) (bundles_of first looks) w (watch-adds-then waits told)
-      (gathers, looked_of (Ok bundle) (looking.Published serial) w again answers)
-      (let r = replaces.published in let n = w.count in omega (arith, length-more (bundles_of first looks) bundle, r, n))
-      (ap (λ (b : Bundle). bundles_of first looks ++ b ∷ []) (sym replaces.bundle_is))
-      (replaces.basis ∙ w.port) replaces.are
-      (subst (AreFilledBy (bundles_of first looks ++ bundle ∷ []) p) (sym replaces.filled)
-      (filled-push (bundles_of first looks) bundle p g.filled replaces.chains w.filled (of_plans h.plans bundle p replaces.chains replaces.bundle_is (replaces.basis ∙ w.port) replaces.serve)))
-      (record { least = omega (arith, none_starved); most = omega (arith, none_starved) }) (stays_within 0 b.refusals c.refusals same_refusals);
-}
-published_look serial mid c h has reads (Err fault) flag w waits again gathers told answers replaces none_starved same_refusals = absurd replaces
-
--- a look that met want of memory
-starved_look : {source : Source} {p : Ground} {first : Bundle} {looks : List WatchTurn} {a b : WatchState} {g : Serving} {was had : ℕ} (mid c : WatchState) (h : Serving) (has : ℕ)
-    → HasWatched source p first looks a b g was had → Waits g b mid → Starves source g h mid c → has ≡ raised had → CountsRefusals looking.NoMemory b.refusals c.refusals
-    → Again source p first looks a c h was has looking.NoMemory
-starved_look {source} {p} {first} {looks} {a} {b} {g} {was} {had} mid c h has w waits starves want refused =
-    same_serves looking.NoMemory (starved (times_of g.plans.blocks) starves.gathered.tells.reads starves.gathered.gives) (λ sweeps n swept. swept) w refl starves.same (watch-adds-then waits starves.gathered.tells.told) (
-      starves.gathered.tells.gathers,
-      record {
-        before = w.earlier;
-        last = g.plans.bundle;
-        last_is = w.last;
-        blocks = g.plans.blocks;
-        accepted = subst (λ (q : Ground). IsAccepted (on q) g.plans.bundle g.plans.blocks) w.port w.is.are.accepted;
-        again = starves.again;
-        at = refl;
-        is = tt;
-      },
-    ) (record { least = omega (arith, want); most = omega (arith, want) }) (starved_within b.refusals c.refusals refused)
-
-by_answer : {source : Source} {p : Ground} {first : Bundle} {looks : List WatchTurn} {a b : WatchState} {g : Serving} {was had : ℕ} (answer : Looking) (mid c : WatchState) (h : Serving) (has : ℕ)
-    → HasWatched source p first looks a b g was had → Waits g b mid → LooksOnce source g h mid c answer → answer ≢ looking.NoReload
-    → has ≡ starved_by answer had → CountsRefusals answer b.refusals c.refusals → Again source p first looks a c h was has answer
-by_answer {b = b} looking.NoReload mid c h has w waits looks made rose refused = absurd (made refl)
-by_answer {b = b} (looking.ReadFailed name) mid c h has w waits looks made rose refused = kept (looking.ReadFailed name) mid c h has w waits looks refl looks.behind rose (stays_within 0 b.refusals c.refusals refused)
-by_answer {b = b} looking.Same mid c h has w waits looks made rose refused = kept looking.Same mid c h has w waits looks refl looks.behind rose (stays_within 0 b.refusals c.refusals refused)
-by_answer {b = b} (looking.Refused why) mid c h has w waits looks made rose refused = kept (looking.Refused why) mid c h has w waits looks refl looks.behind rose (refused_within why b.refusals c.refusals refused)
-by_answer {b = b} (looking.PortsDiffer ports others) mid c h has w waits looks made rose refused = kept (looking.PortsDiffer ports others) mid c h has w waits looks refl looks.behind rose (stays_within 0 b.refusals c.refusals refused)
-by_answer {b = b} looking.SerialsSpent mid c h has w waits looks made rose refused = kept looking.SerialsSpent mid c h has w waits looks refl looks.behind rose (stays_within 0 b.refusals c.refusals refused)
-by_answer {b = b} (looking.AllPinned one two three) mid c h has w waits looks made rose refused = kept (looking.AllPinned one two three) mid c h has w waits looks refl looks.behind rose (stays_within 0 b.refusals c.refusals refused)
-by_answer {b = b} (looking.Published serial) mid c h has w waits looks made rose refused =
-    published_look serial mid c h has looks.reads looks.gives looks.flag w waits looks.again looks.gathers looks.told looks.answers looks.behind rose refused
-by_answer {b = b} looking.NoMemory mid c h has w waits looks made rose refused = starved_look mid c h has w waits looks rose refused
-
--- what a watcher did since the start
-pub record Watched (source : Source) (start now : WatcherState) : Type 0 where
-  pub looks : List WatchTurn
-  pub so : HasWatched source (ground_of start.serving.plans) start.serving.plans.bundle looks start.watch now.watch now.serving start.starved now.starved
-  pub swept : AreSwept now.sweeps (start.serving.plans.bundle ∷ []) looks
-
--- a further look, by what the watcher's step came to
-pub looks_on : (source : Source) (start before after : WatcherState) → Watched source start before → TakesLook source before after None → Watched source start after
-looks_on source start before after w again =
-    let more = by_answer again.answer again.waited after.watch after.serving after.starved w.so again.looked again.looks again.made again.starved_is again.refused in
-    let first = start.serving.plans.bundle in
-    let here : IsSweptTurn after.sweeps (length (bundles_of first w.looks)) more.look =
-    subst (λ (n : ℕ). IsSweptTurn after.sweeps n more.look) (sym w.so.count) (more.of after.sweeps before.serving.published again.swept) in
-    record {
-      looks = w.looks ++ more.look ∷ [];
-      so = more.watched;
-      swept = swept-push after.sweeps (first ∷ []) w.looks more.look (swept_more before.sweeps after.sweeps (first ∷ []) w.looks again.sweeps w.swept) here;
-    }
 
 same_journal : (journal : Option (List WatchMark)) → OnSome journal (journal ≡ watch_added journal [])
 same_journal None = tt
@@ -298,23 +114,207 @@ same_journal (Some marks) = ap Some (sym (append-nil marks))
 watch-adds-nothing : (state : WatchState) → AddsWatch state state []
 watch-adds-nothing state = record { told = same_journal state.journal }
 
--- nothing was looked at yet
-pub starts : (source : Source) (start : WatcherState) → AreOwnPlans start.serving.plans → start.serving.published ≡ 1 → length start.serving.filled ≡ 1 → EndsWith start.serving.filled start.serving.plans
-    → Watched source start start
-starts source start is one long ends = record {
-  looks = [];
-  swept = tt;
-  so = record {
-    told = watch-adds-nothing start.watch;
-    are = tt;
-    count = sym one;
-    earlier = [];
-    last = refl;
-    port = refl;
-    is = is;
-    filled = subst (AreFilledBy (start.serving.plans.bundle ∷ []) (ground_of start.serving.plans)) (sym ends.last_is)
-        (first_filled start.serving.plans ends.earlier ends.chains (sym (ap length ends.last_is) ∙ long) ends.serve);
-    starved = record { least = omega arith; most = omega arith };
-    refused = stays_within 0 start.watch.refusals start.watch.refusals refl;
-  };
-}
+module _ {B E : Type 0} {bk : rulebook.Ghosts B} {ex : extra.Ghosts E} where
+  -- one generation more
+  filled-push : (bundles : List Bundle) (bundle : Bundle) (basis : Ground) (filled : List (List (Chain B E bk ex))) (chains : List (Chain B E bk ex)) → AreFilledBy bundles basis filled → All (IsOf bundle basis) chains
+      → AreFilledBy (bundles ++ bundle ∷ []) basis (filled ++ chains ∷ [])
+  filled-push [] bundle basis [] chains are all = (all, tt)
+  filled-push [] bundle basis (cs ∷ css) chains are all = absurd are
+  filled-push (b ∷ bundles) bundle basis [] chains are all = absurd are
+  filled-push (b ∷ bundles) bundle basis (cs ∷ css) chains are all = (are.0, filled-push bundles bundle basis css chains are.1 all)
+
+  -- chains that serve by these plans serve by their bundle
+  of_plans : (plans : PlansData) (bundle : Bundle) (basis : Ground) (chains : List (Chain B E bk ex)) → plans.bundle ≡ bundle → ground_of plans ≡ basis → All (λ chain. plans_of chain ≡ plans) chains → All (IsOf bundle basis) chains
+  of_plans plans bundle basis chains b p all =
+      All-weaker (λ (chain : (Chain B E bk ex)). plans_of chain ≡ plans) (IsOf bundle basis)
+      (λ chain e. record { bundle_is = ap (λ (x : PlansData). x.bundle) e ∙ b; ground_is = ap ground_of e ∙ p }) chains all
+
+  first_filled : (plans : PlansData) (earlier : List (List (Chain B E bk ex))) (chains : List (Chain B E bk ex)) → length (earlier ++ chains ∷ []) ≡ 1 → All (λ chain. plans_of chain ≡ plans) chains
+      → AreFilledBy (plans.bundle ∷ []) (ground_of plans) (earlier ++ chains ∷ [])
+  first_filled plans [] chains one all = (of_plans plans plans.bundle (ground_of plans) chains refl refl all, tt)
+  first_filled plans (cs ∷ earlier) chains one all = absurd (omega (arith, length-more earlier chains, one))
+
+  -- what a watcher did since its watch stood at old: these looks, behind which this serves
+  pub record HasWatched (source : Source) (p : Ground) (first : Bundle) (looks : List WatchTurn) (old new : WatchState) (g : Serving (Chain B E bk ex)) (was starving : ℕ) : Type 0 where
+    pub told : AddsWatch old new (flat_map watch_marks looks)
+    pub are : AreLooks source (terms_on bk.taken bk.said p) (first ∷ []) looks
+    pub count : length (bundles_of first looks) ≡ g.published
+    pub earlier : List Bundle
+    pub last : bundles_of first looks ≡ earlier ++ g.plans.bundle ∷ []
+    pub port : ground_of g.plans ≡ p
+    pub is : ArePlans bk.taken bk.said g.plans
+    pub filled : AreFilledBy (bundles_of first looks) p g.filled
+    pub starved : RoseJust (all_starved looks) was starving
+    pub refused : RoseWithin (all_refused looks) (all_starved looks) old.refusals new.refusals
+
+  -- a further look
+  extends : {source : Source} {p : Ground} {first : Bundle} {looks : List WatchTurn} {a b c : WatchState} {g h : Serving (Chain B E bk ex)} {was had has : ℕ} (look : WatchTurn) (earlier : List Bundle)
+      → HasWatched source p first looks a b g was had → AddsWatch b c (watch_marks look) → IsLook source (terms_on bk.taken bk.said p) (bundles_of first looks) look
+      → length (bundles_of first looks ++ published_by look) ≡ h.published → bundles_of first looks ++ published_by look ≡ earlier ++ h.plans.bundle ∷ []
+      → ground_of h.plans ≡ p → ArePlans bk.taken bk.said h.plans → AreFilledBy (bundles_of first looks ++ published_by look) p h.filled → RoseJust (look_starved look) had has
+      → RoseWithin (look_refused look) (look_starved look) b.refusals c.refusals → HasWatched source p first (looks ++ look ∷ []) a c h was has
+  extends {source} {p} {first} {looks} {a} {b} {c} {g} {h} {was} {had} {has} look earlier w adds is count last port plans filled starved_in refused_in = record {
+    told = subst (AddsWatch a c) (sym (watch_marks-push looks look)) (watch-adds-then w.told adds);
+    are = looks-push source (terms_on bk.taken bk.said p) (first ∷ []) looks look w.are is;
+    count = ap length (bundles-push first looks look) ∙ count;
+    earlier = earlier;
+    last = bundles-push first looks look ∙ last;
+    port = port;
+    is = plans;
+    filled = subst (λ (l : List Bundle). AreFilledBy l p h.filled) (sym (bundles-push first looks look)) filled;
+    starved = record {
+      least = let a = w.starved.least in let b = starved_in.least in omega (arith, starved_in-push looks look, a, b);
+      most = let a = w.starved.most in let b = starved_in.most in omega (arith, starved_in-push looks look, a, b);
+    };
+    refused = record {
+      least = let a = w.refused.least in let b = refused_in.least in omega (arith, all_refused-push looks look, a, b);
+      most = let a = w.refused.most in let b = refused_in.most in omega (arith, all_refused-push looks look, starved_in-push looks look, a, b);
+    };
+  }
+
+  -- what is known of what serves, as a look needs it
+  looked_of : {source : Source} {p : Ground} {first : Bundle} {looks : List WatchTurn} {a b : WatchState} {g : Serving (Chain B E bk ex)} {was had : ℕ} (gives : Result Bundle GatherFault) (answer : Looking)
+      → HasWatched source p first looks a b g was had → reloads g.plans.blocks ≡ true → AnswersLook (standing_of bk.taken bk.said g.plans g.published) gives answer
+      → IsLooked (terms_on bk.taken bk.said p) (bundles_of first looks) (times_of g.plans.blocks) (λ last blocks. AnswersLook (record { terms = terms_on bk.taken bk.said p; bundle = last; blocks = blocks; published = length (bundles_of first looks) }) gives answer)
+  looked_of {source} {p} {first} {looks} {g = g} gives answer w again answers = record {
+    before = w.earlier;
+    last = g.plans.bundle;
+    last_is = w.last;
+    blocks = g.plans.blocks;
+    accepted = subst (λ (q : Ground). IsAccepted (terms_on bk.taken bk.said q) g.plans.bundle g.plans.blocks) w.port w.is.accepted;
+    again = again;
+    at = refl;
+    is = subst (λ (n : ℕ). AnswersLook (record { terms = terms_on bk.taken bk.said p; bundle = g.plans.bundle; blocks = g.plans.blocks; published = n }) gives answer) (sym w.count)
+        (subst (λ (q : Ground). AnswersLook (record { terms = terms_on bk.taken bk.said q; bundle = g.plans.bundle; blocks = g.plans.blocks; published = g.published }) gives answer) w.port answers);
+  }
+
+  -- the wait for a look at what serves
+  abbrev pub Waits : Serving (Chain B E bk ex) → WatchState → WatchState → Type 0
+  Waits g b mid = AddsWatch b mid (Look (times_of g.plans.blocks).interval (times_of g.plans.blocks).jitter ∷ [])
+
+  -- the looks with one more, which came to this answer
+  pub record Again (source : Source) (p : Ground) (first : Bundle) (looks : List WatchTurn) (a c : WatchState) (h : Serving (Chain B E bk ex)) (was has : ℕ) (answer : Looking) : Type 0 where
+    pub look : WatchTurn
+    pub of : IsTurnOf answer look
+    pub watched : HasWatched source p first (looks ++ look ∷ []) a c h was has
+
+  -- a further look behind which nothing else serves
+  same_serves : {source : Source} {p : Ground} {first : Bundle} {looks : List WatchTurn} {a b c : WatchState} {g h : Serving (Chain B E bk ex)} {was had has : ℕ} (answer : Looking) (look : WatchTurn)
+      → IsTurnOf answer look → HasWatched source p first looks a b g was had → published_by look ≡ [] → h ≡ g → AddsWatch b c (watch_marks look) → IsLook source (terms_on bk.taken bk.said p) (bundles_of first looks) look
+      → RoseJust (look_starved look) had has → RoseWithin (look_refused look) (look_starved look) b.refusals c.refusals
+      → Again source p first looks a c h was has answer
+  same_serves {source} {p} {first} {looks} {a} {b} {c} {g} {h} {was} {had} {has} answer look of w none same adds is rose refused =
+      let nothing : bundles_of first looks ++ published_by look ≡ bundles_of first looks =
+      ap (λ (l : List Bundle). bundles_of first looks ++ l) none ∙ append-nil (bundles_of first looks) in
+      record {
+        look = look;
+        of = of;
+        watched = extends look w.earlier w adds is
+            (ap length nothing ∙ w.count ∙ ap (λ (x : Serving (Chain B E bk ex)). x.published) (sym same))
+            (nothing ∙ w.last ∙ ap (λ (x : Serving (Chain B E bk ex)). w.earlier ++ x.plans.bundle ∷ []) (sym same))
+            (ap (λ (x : Serving (Chain B E bk ex)). ground_of x.plans) same ∙ w.port)
+            (subst (λ (x : Serving (Chain B E bk ex)). ArePlans bk.taken bk.said x.plans) (sym same) w.is)
+            (subst (λ (x : Serving (Chain B E bk ex)). AreFilledBy (bundles_of first looks ++ published_by look) p x.filled) (sym same) (subst (λ (l : List Bundle). AreFilledBy l p g.filled) (sym nothing) w.filled))
+            rose refused;
+      }
+
+  -- a look that published nothing
+  kept : {source : Source} {p : Ground} {first : Bundle} {looks : List WatchTurn} {a b : WatchState} {g : Serving (Chain B E bk ex)} {was had : ℕ} (answer : Looking) (mid c : WatchState) (h : Serving (Chain B E bk ex)) (has : ℕ)
+      → HasWatched source p first looks a b g was had → Waits g b mid → (over : LooksOver source g h mid c answer) → published_by (looked (times_of g.plans.blocks) over.reads over.gives answer over.flag) ≡ [] → h ≡ g → has ≡ had
+      → RoseWithin (answer_refused answer) 0 b.refusals c.refusals → Again source p first looks a c h was has answer
+  kept {g = g} answer mid c h has w waits over none same none_starved refused =
+      same_serves answer (looked (times_of g.plans.blocks) over.reads over.gives answer over.flag) (λ sweeps n swept. swept) w none same (watch-adds-then waits over.told)
+      (over.gathers, looked_of over.gives answer w over.again over.answers) (record { least = omega (arith, none_starved); most = omega (arith, none_starved) }) refused
+
+  -- a look that published
+  published_look : {source : Source} {p : Ground} {first : Bundle} {looks : List WatchTurn} {a b : WatchState} {g : Serving (Chain B E bk ex)} {was had : ℕ} (serial : ℕ) (mid c : WatchState) (h : Serving (Chain B E bk ex)) (has : ℕ) (reads : List OneRead) (gives : Result Bundle GatherFault) (flag : Bool)
+      → HasWatched source p first looks a b g was had → Waits g b mid → reloads g.plans.blocks ≡ true → GathersFrom source reads gives → AddsWatch mid c (look_marks reads (looking.Published serial) flag)
+      → AnswersLook (standing_of bk.taken bk.said g.plans g.published) gives (looking.Published serial) → ServesGathered g h gives → has ≡ had → c.refusals ≡ b.refusals
+      → Again source p first looks a c h was has (looking.Published serial)
+  published_look {source} {p} {first} {looks} {a} {b} {g} {was} {had} serial mid c h has reads (Ok bundle) flag w waits again gathers told answers replaces none_starved same_refusals = record {
+    look = looked (times_of g.plans.blocks) reads (Ok bundle) (looking.Published serial) flag;
+    of = λ sweeps n swept. swept;
+    watched = extends (looked (times_of g.plans.blocks) reads (Ok bundle) (looking.Published serial) flag) (bundles_of first looks) w (watch-adds-then waits told)
+        (gathers, looked_of (Ok bundle) (looking.Published serial) w again answers)
+        (let r = replaces.published in let n = w.count in omega (arith, length-more (bundles_of first looks) bundle, r, n))
+        (ap (λ (b : Bundle). bundles_of first looks ++ b ∷ []) (sym replaces.bundle_is))
+        (replaces.basis ∙ w.port) replaces.are
+        (subst (AreFilledBy (bundles_of first looks ++ bundle ∷ []) p) (sym replaces.filled)
+        (filled-push (bundles_of first looks) bundle p g.filled replaces.chains w.filled (of_plans h.plans bundle p replaces.chains replaces.bundle_is (replaces.basis ∙ w.port) replaces.serve)))
+        (record { least = omega (arith, none_starved); most = omega (arith, none_starved) }) (stays_within 0 b.refusals c.refusals same_refusals);
+  }
+  published_look serial mid c h has reads (Err fault) flag w waits again gathers told answers replaces none_starved same_refusals = absurd replaces
+
+  -- a look that met want of memory
+  starved_look : {source : Source} {p : Ground} {first : Bundle} {looks : List WatchTurn} {a b : WatchState} {g : Serving (Chain B E bk ex)} {was had : ℕ} (mid c : WatchState) (h : Serving (Chain B E bk ex)) (has : ℕ)
+      → HasWatched source p first looks a b g was had → Waits g b mid → Starves source g h mid c → has ≡ raised had → CountsRefusals looking.NoMemory b.refusals c.refusals
+      → Again source p first looks a c h was has looking.NoMemory
+  starved_look {source} {p} {first} {looks} {a} {b} {g} {was} {had} mid c h has w waits starves want refused =
+      same_serves looking.NoMemory (starved (times_of g.plans.blocks) starves.gathered.tells.reads starves.gathered.gives) (λ sweeps n swept. swept) w refl starves.same (watch-adds-then waits starves.gathered.tells.told) (
+        starves.gathered.tells.gathers,
+        record {
+          before = w.earlier;
+          last = g.plans.bundle;
+          last_is = w.last;
+          blocks = g.plans.blocks;
+          accepted = subst (λ (q : Ground). IsAccepted (terms_on bk.taken bk.said q) g.plans.bundle g.plans.blocks) w.port w.is.accepted;
+          again = starves.again;
+          at = refl;
+          is = tt;
+        },
+      ) (record { least = omega (arith, want); most = omega (arith, want) }) (starved_within b.refusals c.refusals refused)
+
+  by_answer : {source : Source} {p : Ground} {first : Bundle} {looks : List WatchTurn} {a b : WatchState} {g : Serving (Chain B E bk ex)} {was had : ℕ} (answer : Looking) (mid c : WatchState) (h : Serving (Chain B E bk ex)) (has : ℕ)
+      → HasWatched source p first looks a b g was had → Waits g b mid → LooksOnce source g h mid c answer → answer ≢ looking.NoReload
+      → has ≡ starved_by answer had → CountsRefusals answer b.refusals c.refusals → Again source p first looks a c h was has answer
+  by_answer {b = b} looking.NoReload mid c h has w waits looks made rose refused = absurd (made refl)
+  by_answer {b = b} (looking.ReadFailed name) mid c h has w waits looks made rose refused = kept (looking.ReadFailed name) mid c h has w waits looks refl looks.behind rose (stays_within 0 b.refusals c.refusals refused)
+  by_answer {b = b} looking.Same mid c h has w waits looks made rose refused = kept looking.Same mid c h has w waits looks refl looks.behind rose (stays_within 0 b.refusals c.refusals refused)
+  by_answer {b = b} (looking.Refused why) mid c h has w waits looks made rose refused = kept (looking.Refused why) mid c h has w waits looks refl looks.behind rose (refused_within why b.refusals c.refusals refused)
+  by_answer {b = b} (looking.PortsDiffer ports others) mid c h has w waits looks made rose refused = kept (looking.PortsDiffer ports others) mid c h has w waits looks refl looks.behind rose (stays_within 0 b.refusals c.refusals refused)
+  by_answer {b = b} looking.SerialsSpent mid c h has w waits looks made rose refused = kept looking.SerialsSpent mid c h has w waits looks refl looks.behind rose (stays_within 0 b.refusals c.refusals refused)
+  by_answer {b = b} (looking.AllPinned one two three) mid c h has w waits looks made rose refused = kept (looking.AllPinned one two three) mid c h has w waits looks refl looks.behind rose (stays_within 0 b.refusals c.refusals refused)
+  by_answer {b = b} (looking.StockShort name asked had) mid c h has w waits looks made rose refused = kept (looking.StockShort name asked had) mid c h has w waits looks refl looks.behind rose (stays_within 0 b.refusals c.refusals refused)
+  by_answer {b = b} (looking.Published serial) mid c h has w waits looks made rose refused =
+      published_look serial mid c h has looks.reads looks.gives looks.flag w waits looks.again looks.gathers looks.told looks.answers looks.behind rose refused
+  by_answer {b = b} looking.NoMemory mid c h has w waits looks made rose refused = starved_look mid c h has w waits looks rose refused
+
+  -- what a watcher did since the start
+  pub record Watched (source : Source) (start now : WatcherState (Chain B E bk ex)) : Type 0 where
+    pub looks : List WatchTurn
+    pub so : HasWatched source (ground_of start.serving.plans) start.serving.plans.bundle looks start.watch now.watch now.serving start.starved now.starved
+    pub swept : AreSwept now.sweeps (start.serving.plans.bundle ∷ []) looks
+
+  -- a further look, by what the watcher's step came to
+  pub looks_on : (source : Source) (start before after : WatcherState (Chain B E bk ex)) → Watched source start before → TakesLook source before after None → Watched source start after
+  looks_on source start before after w again =
+      let more = by_answer again.answer again.waited after.watch after.serving after.starved w.so again.looked again.looks again.made again.starved_is again.refused in
+      let first = start.serving.plans.bundle in
+      let here : IsSweptTurn after.sweeps (length (bundles_of first w.looks)) more.look =
+      subst (λ (n : ℕ). IsSweptTurn after.sweeps n more.look) (sym w.so.count) (more.of after.sweeps before.serving.published again.swept) in
+      record {
+        looks = w.looks ++ more.look ∷ [];
+        so = more.watched;
+        swept = swept-push after.sweeps (first ∷ []) w.looks more.look (swept_more before.sweeps after.sweeps (first ∷ []) w.looks again.sweeps w.swept) here;
+      }
+
+  -- nothing was looked at yet
+  pub starts : (source : Source) (start : WatcherState (Chain B E bk ex)) → ArePlans bk.taken bk.said start.serving.plans → start.serving.published ≡ 1 → length start.serving.filled ≡ 1 → EndsWith start.serving.filled start.serving.plans
+      → Watched source start start
+  starts source start is one long ends = record {
+    looks = [];
+    swept = tt;
+    so = record {
+      told = watch-adds-nothing start.watch;
+      are = tt;
+      count = sym one;
+      earlier = [];
+      last = refl;
+      port = refl;
+      is = is;
+      filled = subst (AreFilledBy (start.serving.plans.bundle ∷ []) (ground_of start.serving.plans)) (sym ends.last_is)
+          (first_filled start.serving.plans ends.earlier ends.chains (sym (ap length ends.last_is) ∙ long) ends.serve);
+      starved = record { least = omega arith; most = omega arith };
+      refused = stays_within 0 start.watch.refusals start.watch.refusals refl;
+    };
+  }

@@ -7,7 +7,7 @@ use Rattle.chain_build.specs.{is_of_pattern}
 use Rattle.reload_watch.specs.declared.fault.ReadFault.{ReadFault}
 use Rattle.reload_watch.specs.declared.fault.ReadFault.TheVariants as first
 use Rattle.reload_watch.specs.declared.found.Found.{Found}
-use Rattle.reload_watch.specs.declared.found.Found.TheVariants.{Kept}
+use Rattle.reload_watch.specs.declared.found.Found.TheVariants.{Kept, Next}
 use Rattle.run_meaning.specs.declared.looking.Looking.{Looking}
 use Rattle.run_meaning.specs.declared.looking.Looking.TheVariants as looking
 
@@ -37,10 +37,13 @@ CountsRefusals looking.NoMemory before after = (after ≡ before) ⊎ (after ≡
 CountsRefusals answer before after = after ≡ before
 
 -- a watch behind what a gathering came to: nothing but its refusals is another
-abbrev pub found_behind : Found → WatchState → WatchState
-found_behind (Kept (looking.Refused why)) state =
-    with_refusals state (refusals_by why state.refusals)
-found_behind other state = state
+abbrev pub kept_behind : Looking → WatchState → WatchState
+kept_behind (looking.Refused why) state = with_refusals state (refusals_by why state.refusals)
+kept_behind answer state = state
+
+abbrev pub found_behind : {B : Type 0} → Found B → WatchState → WatchState
+found_behind (Kept answer) state = kept_behind answer state
+found_behind (Next plans) state = state
 
 -- a count rose by so many at least, or stands at its last value, and by so many more at most
 pub record RoseWithin (many more before after : ℕ) : Type 0 where

@@ -8,6 +8,7 @@ pub mod Opening
 pub mod Placing
 pub mod Publishing
 pub mod States
+pub mod Stocked
 pub mod Sweeps
 pub mod Watcher
 pub mod WatchRun
@@ -17,12 +18,15 @@ pub use Rattle.reload_watch.specs.Filled.{AreFilledBy, EndsWith, IsOf}
 pub use Rattle.reload_watch.specs.Going.{CountsRefusals, RoseWithin, WatchGoesOn}
 pub use Rattle.reload_watch.specs.Going.{refusals_by, refusals_first}
 pub use Rattle.reload_watch.specs.Keeping.{IsCleared, IsKeeping}
-pub use Rattle.reload_watch.specs.Look.{LooksOnce, SearchesFirst, starved_by}
+pub use Rattle.reload_watch.specs.Look.{LooksOnce, SaysStock, SearchesFirst, starved_by}
 pub use Rattle.reload_watch.specs.Looked.{HasLooked}
 pub use Rattle.reload_watch.specs.Opening.{GathersThat, ReadsFirst, ReadsPlans}
 pub use Rattle.reload_watch.specs.Placing.{IsPlaced}
-pub use Rattle.reload_watch.specs.States.{Serving, WatcherState, serving_of, source_data}
-pub use Rattle.reload_watch.specs.States.{watcher_state}
+pub use Rattle.reload_watch.specs.States.{Footing, Serving, WatcherState, footing_on, serving_of}
+pub use Rattle.reload_watch.specs.States.{source_data}
+pub use Rattle.reload_watch.specs.States.{terms_of, watcher_state}
+pub use Rattle.reload_watch.specs.Stocked.{HasPlaces, KeepsStock, all_weigh, chain_seats}
+pub use Rattle.reload_watch.specs.Stocked.{chain_weighs, out_weighs, seats_out}
 pub use Rattle.reload_watch.specs.Sweeps.{HasSwept, SweptFor, SweptThree}
 pub use Rattle.reload_watch.specs.WatchRun.{Watches}
 pub use Rattle.reload_watch.specs.WatchTurn.{AreSwept, all_refused}

@@ -1,9 +1,10 @@
 -- One look for a changed configuration: what it finds, and what serves behind it. This server's own
 -- rule.
 use Rattle.std.specs.Prelude.{◌≡◌, ◌≢◌, ◌<◌, ◌⊎◌, ℕ, ◌+◌, Bool, true, false}
-use Rattle.std.specs.Prelude.{List, [], ◌∷◌, ◌++◌, Result, Ok, Err}
+use Rattle.std.specs.Prelude.{◌*◌, List, [], ◌∷◌, ◌++◌, None, Result, Ok, Err}
 use Rattle.std.specs.List.{All}
 use Rattle.pin_core.specs.declared.slots.TheConstants as pins
+use Rattle.pin_table.specs.declared.free_slots.FreeSlot.{FreeSlot}
 use Rattle.pin_table.specs.declared.free_slots.FreeSlot.TheVariants as found
 use Rattle.pin_table.specs.declared.free_slots.Left.{Left}
 use Rattle.pin_table.specs.declared.views.Plan.{Plan}
@@ -12,12 +13,16 @@ use Rattle.outside.specs.declared.mark.WatchMark.TheVariants.{Published}
 use Rattle.outside.specs.Causes.{raised}
 use Rattle.outside.specs.States.{WatchState}
 use Rattle.outside.specs.WatchMarks.{AddsWatch}
+use Rattle.dns_data.specs.declared.directive.Directive.{Directive}
+use Rattle.extra_stock.specs.{IsShort, asked_by, first_short, is_named}
 use Rattle.corefile_blocks.specs.declared.bundle.Bundle.{Bundle}
 use Rattle.corefile_bundle.specs.declared.fault.GatherFault.{GatherFault}
 use Rattle.corefile_bundle.specs.Gathering.{GathersFrom, OneRead, Source}
-use Rattle.chain_build.specs.{OwnChain}
-use Rattle.chain_build.specs.{AreOwnPlans, PlansData, ground_of, plans_of, terms_in}
-use Rattle.extra_stock.specs.{all_pass, all_taken}
+use Rattle.chain_build.specs.declared.chain.Chain.{Chain}
+use Rattle.plugin_api.specs.declared.extra.Extra as extra
+use Rattle.plugin_api.specs.declared.rulebook.Rulebook as rulebook
+use Rattle.chain_build.specs.{ArePlans, PlansData, ground_of, plans_of, terms_in}
+use Rattle.plugin_api.specs.{Sayings, Takings}
 use Rattle.reload_watch.specs.declared.found.Found.{Found}
 use Rattle.reload_watch.specs.declared.found.Found.TheVariants.{Kept, Next}
 use Rattle.run_meaning.specs.declared.looking.Looking.{Looking}
@@ -28,82 +33,13 @@ use Rattle.run_meaning.specs.Reloads.{reloads}
 use Rattle.reload_watch.specs.States.{Serving}
 use Rattle.run_meaning.specs.Answers.{AnswersLook, SamePorts, Standing, look_marks, note_marks}
 
-abbrev pub standing_of : PlansData → ℕ → Standing
-standing_of plans published = record {
-  terms = terms_in all_taken all_pass plans;
+abbrev pub standing_of : Takings → Sayings → PlansData → ℕ → Standing
+standing_of taken said plans published = record {
+  terms = terms_in taken said plans;
   bundle = plans.bundle;
   blocks = plans.blocks;
   published = published;
 }
-
--- a further generation serves: the bundle that was read, by a chain for each worker
-pub record Replaces (old new : Serving) (bundle : Bundle) : Type 0 where
-  pub published : new.published ≡ old.published + 1
-  pub chains : List OwnChain
-  pub filled : new.filled ≡ old.filled ++ chains ∷ []
-  pub serve : All (λ chain. plans_of chain ≡ new.plans) chains
-  pub bundle_is : new.plans.bundle ≡ bundle
-  pub basis : ground_of new.plans ≡ ground_of old.plans
-  pub are : AreOwnPlans new.plans
-
--- what serves behind a gathering that is published
-abbrev pub ServesGathered : Serving → Serving → Result Bundle GatherFault → Type 0
-ServesGathered old new (Ok bundle) = Replaces old new bundle
-ServesGathered old new (Err fault) = ⊥
-
--- what serves behind a look
-abbrev pub ServesBehind : Serving → Serving → Result Bundle GatherFault → Looking
-    → Type 0
-ServesBehind old new gives (looking.Published serial) = ServesGathered old new gives
-ServesBehind old new gives other = new ≡ old
-
--- a look by its answer, over what serves
-pub record LooksOver (source : Source) (old new : Serving) (before after : WatchState)
-    (answer : Looking) : Type 0 where
-  pub reads : List OneRead
-  pub gives : Result Bundle GatherFault
-  pub gathers : GathersFrom source reads gives
-  pub flag : Bool
-  pub told : AddsWatch before after (look_marks reads answer flag)
-  pub answers : AnswersLook (standing_of old.plans old.published) gives answer
-  pub behind : ServesBehind old new gives answer
-  pub again : reloads old.plans.blocks ≡ true
-
--- a look that met want of memory
-pub record Starves (source : Source) (old new : Serving) (before after : WatchState)
-    : Type 0 where
-  pub gathered : GathersThat source before after (λ gives. Unit {0})
-  pub same : new ≡ old
-  pub again : reloads old.plans.blocks ≡ true
-
--- what a gathering comes to before anything is published: an answer, or what is to serve next. No
--- answer here depends on how many generations were published, which is 0 for all of them.
-abbrev pub AnswersKept : PlansData → Result Bundle GatherFault → Looking → Type 0
-AnswersKept plans gives looking.NoReload = ⊥
-AnswersKept plans gives (looking.ReadFailed name) =
-    AnswersLook (standing_of plans 0) gives (looking.ReadFailed name)
-AnswersKept plans gives looking.Same = AnswersLook (standing_of plans 0) gives looking.Same
-AnswersKept plans gives (looking.Refused why) =
-    AnswersLook (standing_of plans 0) gives (looking.Refused why)
-AnswersKept plans gives (looking.PortsDiffer kept read) =
-    AnswersLook (standing_of plans 0) gives (looking.PortsDiffer kept read)
-AnswersKept plans gives looking.SerialsSpent = ⊥
-AnswersKept plans gives (looking.AllPinned first second third) = ⊥
-AnswersKept plans gives (looking.Published serial) = ⊥
-AnswersKept plans gives looking.NoMemory = Unit {0}
-
--- the plans were made of the bundle that was read, which isn't what serves, and have the same ports
-pub record IsNext (current : PlansData) (gives : Result Bundle GatherFault) (plans : PlansData)
-    : Type 0 where
-  pub got : gives ≡ Ok plans.bundle
-  pub differs : plans.bundle ≢ current.bundle
-  pub basis : ground_of plans ≡ ground_of current
-  pub are : AreOwnPlans plans
-  pub ports : SamePorts plans.blocks current.blocks
-
-abbrev pub Finds : PlansData → Result Bundle GatherFault → Found → Type 0
-Finds current gives (Kept answer) = AnswersKept current gives answer
-Finds current gives (Next plans) = IsNext current gives plans
 
 -- the line of an answer was noted
 pub record IsNoted (before after : WatchState) (answer : Looking) : Type 0 where
@@ -120,73 +56,190 @@ pub record NotesLook (before after : WatchState) (answer result : Looking) : Typ
   pub either : ((result ≡ answer) × IsNoted before after answer)
       ⊎ ((result ≡ looking.NoMemory) × AddsWatch before after [])
 
--- the plans serve from now on under this serial, and that was noted
-pub record IsPublishedNext (old new : Serving) (before after : WatchState) (plans : PlansData)
-    (serial : ℕ) : Type 0 where
-  pub few : old.published < pins.MOST_SERIALS
-  pub serial_is : serial ≡ old.published
-  pub replaces : Replaces old new plans.bundle
-  pub flag : Bool
-  pub told : AddsWatch before after (Published serial
-      ∷ note_marks (look_text (looking.Published serial)) flag)
-
--- no slot was free, and that was noted
-pub record IsPinnedNext (old : Serving) (before after : WatchState) (first second third : Left)
-    : Type 0 where
-  pub few : old.published < pins.MOST_SERIALS
-  pub one : IsPinnedSlot first
-  pub two : IsPinnedSlot second
-  pub three : IsPinnedSlot third
-  pub noted : IsNoted before after (looking.AllPinned first second third)
-
-abbrev pub PublishesNext : Serving → Serving → WatchState → WatchState → PlansData → Looking
+-- what a gathering comes to before anything is published: an answer, or what is to serve next. No
+-- answer here depends on how many generations were published, which is 0 for all of them.
+abbrev pub AnswersKept : Takings → Sayings → PlansData → Result Bundle GatherFault → Looking
     → Type 0
-PublishesNext old new before after plans looking.NoReload = ⊥
-PublishesNext old new before after plans (looking.ReadFailed name) = ⊥
-PublishesNext old new before after plans looking.Same = ⊥
-PublishesNext old new before after plans (looking.Refused why) = ⊥
-PublishesNext old new before after plans (looking.PortsDiffer kept read) = ⊥
-PublishesNext old new before after plans looking.SerialsSpent =
-    (old.published ≡ pins.MOST_SERIALS) × (new ≡ old) × IsNoted before after looking.SerialsSpent
-PublishesNext old new before after plans (looking.AllPinned first second third) =
-    (new ≡ old) × IsPinnedNext old before after first second third
-PublishesNext old new before after plans (looking.Published serial) =
-    IsPublishedNext old new before after plans serial
-PublishesNext old new before after plans looking.NoMemory = (new ≡ old) × AddsWatch before after []
+AnswersKept taken said plans gives looking.NoReload = ⊥
+AnswersKept taken said plans gives (looking.ReadFailed name) =
+    AnswersLook (standing_of taken said plans 0) gives (looking.ReadFailed name)
+AnswersKept taken said plans gives looking.Same = AnswersLook
+    (standing_of taken said plans 0) gives looking.Same
+AnswersKept taken said plans gives (looking.Refused why) =
+    AnswersLook (standing_of taken said plans 0) gives (looking.Refused why)
+AnswersKept taken said plans gives (looking.PortsDiffer kept read) =
+    AnswersLook (standing_of taken said plans 0) gives (looking.PortsDiffer kept read)
+AnswersKept taken said plans gives looking.SerialsSpent = ⊥
+AnswersKept taken said plans gives (looking.AllPinned first second third) = ⊥
+AnswersKept taken said plans gives (looking.StockShort name asked had) = ⊥
+AnswersKept taken said plans gives (looking.Published serial) = ⊥
+AnswersKept taken said plans gives looking.NoMemory = Unit {0}
 
--- no look is made
-pub record LooksNoMore (old new : Serving) (before after : WatchState) : Type 0 where
-  pub told : AddsWatch before after []
-  pub same : new ≡ old
-  pub no_reload : reloads old.plans.blocks ≡ false
+-- the plans were made of the bundle that was read, which isn't what serves, and have the same ports
+pub record IsNext (taken : Takings) (said : Sayings) (current : PlansData)
+    (gives : Result Bundle GatherFault) (plans : PlansData) : Type 0 where
+  pub got : gives ≡ Ok plans.bundle
+  pub differs : plans.bundle ≢ current.bundle
+  pub basis : ground_of plans ≡ ground_of current
+  pub are : ArePlans taken said plans
+  pub ports : SamePorts plans.blocks current.blocks
 
--- what a look answers and leaves
-abbrev pub LooksOnce : Source → Serving → Serving → WatchState → WatchState
-    → Looking → Type 0
-LooksOnce source old new before after looking.NoReload = LooksNoMore old new before after
-LooksOnce source old new before after (looking.ReadFailed name) =
-    LooksOver source old new before after (looking.ReadFailed name)
-LooksOnce source old new before after looking.Same =
-    LooksOver source old new before after looking.Same
-LooksOnce source old new before after (looking.Refused why) =
-    LooksOver source old new before after (looking.Refused why)
-LooksOnce source old new before after (looking.PortsDiffer kept read) =
-    LooksOver source old new before after (looking.PortsDiffer kept read)
-LooksOnce source old new before after looking.SerialsSpent =
-    LooksOver source old new before after looking.SerialsSpent
-LooksOnce source old new before after (looking.AllPinned first second third) =
-    LooksOver source old new before after (looking.AllPinned first second third)
-LooksOnce source old new before after (looking.Published serial) =
-    LooksOver source old new before after (looking.Published serial)
-LooksOnce source old new before after looking.NoMemory = Starves source old new before after
+-- what a gathering comes to, beside what serves
+abbrev pub Finds : {B : Type 0} → Takings → Sayings → PlansData → Result Bundle GatherFault
+    → Found B → Type 0
+Finds taken said current gives (Kept answer) = AnswersKept taken said current gives answer
+Finds taken said current gives (Next plans) = IsNext taken said current gives plans
+
+-- what a look says of the stock that it leaves, where the bundle that was read has these directives
+-- of extras: it is short of a name, or it was enough
+abbrev pub SaysStock : ℕ → List (List Directive) → (List ℕ → ℕ) → Looking → Type 0
+SaysStock workers blocks had (looking.StockShort name asked was) =
+    IsShort workers blocks had name asked was
+SaysStock workers blocks had (looking.Published serial) =
+    first_short workers blocks (λ name. had name + workers * asked_by (is_named name) blocks)
+    ≡ None
+SaysStock workers blocks had answer = Unit {0}
+
+-- a search for a free slot came to this, whatever came home
+abbrev pub Frees : {C : Type 0} → Plan C → FreeSlot → Plan C → Type 0
+Frees {C} before answer after = (home : List C) × IsFreed before [] answer home after
 
 -- where no slot was free, that is what a search for one came to in this call
-abbrev pub SearchesFirst : Plan OwnChain → Plan OwnChain → Looking → Type 0
+abbrev pub SearchesFirst : {C : Type 0} → Plan C → Plan C → Looking → Type 0
 SearchesFirst before after (looking.AllPinned first second third) =
-    (home : List OwnChain) × IsFreed before [] (found.AllPinned first second third) home after
+    Frees before (found.AllPinned first second third) after
 SearchesFirst before after answer = Unit {0}
+
+-- no answer of a look that found a free slot
+abbrev pub HasSlot : Looking → Type 0
+HasSlot (looking.AllPinned first second third) = ⊥
+HasSlot answer = Unit {0}
 
 -- how the count of looks that met want of memory goes on
 abbrev pub starved_by : Looking → ℕ → ℕ
 starved_by looking.NoMemory starved = raised starved
 starved_by answer starved = starved
+
+module _ {B E : Type 0} {b : rulebook.Ghosts B} {e : extra.Ghosts E} where
+  -- a further generation serves: the bundle that was read, by a chain for each worker
+  pub record Replaces (old new : Serving (Chain B E b e)) (bundle : Bundle) : Type 0 where
+    pub published : new.published ≡ old.published + 1
+    pub chains : List (Chain B E b e)
+    pub filled : new.filled ≡ old.filled ++ chains ∷ []
+    pub serve : All (λ chain. plans_of chain ≡ new.plans) chains
+    pub bundle_is : new.plans.bundle ≡ bundle
+    pub basis : ground_of new.plans ≡ ground_of old.plans
+    pub are : ArePlans b.taken b.said new.plans
+
+  -- what serves behind a gathering that is published
+  abbrev pub ServesGathered : Serving (Chain B E b e) → Serving (Chain B E b e)
+      → Result Bundle GatherFault → Type 0
+  ServesGathered old new (Ok bundle) = Replaces old new bundle
+  ServesGathered old new (Err fault) = ⊥
+
+  -- what serves behind a look
+  abbrev pub ServesBehind : Serving (Chain B E b e) → Serving (Chain B E b e)
+      → Result Bundle GatherFault → Looking
+      → Type 0
+  ServesBehind old new gives (looking.Published serial) = ServesGathered old new gives
+  ServesBehind old new gives other = new ≡ old
+
+  -- a look by its answer, over what serves
+  pub record LooksOver (source : Source) (old new : Serving (Chain B E b e))
+      (before after : WatchState)
+      (answer : Looking) : Type 0 where
+    pub reads : List OneRead
+    pub gives : Result Bundle GatherFault
+    pub gathers : GathersFrom source reads gives
+    pub flag : Bool
+    pub told : AddsWatch before after (look_marks reads answer flag)
+    pub answers : AnswersLook (standing_of b.taken b.said old.plans old.published) gives answer
+    pub behind : ServesBehind old new gives answer
+    pub again : reloads old.plans.blocks ≡ true
+
+  -- a look that met want of memory
+  pub record Starves (source : Source) (old new : Serving (Chain B E b e))
+      (before after : WatchState)
+      : Type 0 where
+    pub gathered : GathersThat source before after (λ gives. Unit {0})
+    pub same : new ≡ old
+    pub again : reloads old.plans.blocks ≡ true
+
+  -- the plans serve from now on under this serial, and that was noted
+  pub record IsPublishedNext (old new : Serving (Chain B E b e)) (before after : WatchState)
+      (plans : PlansData)
+      (serial : ℕ) : Type 0 where
+    pub few : old.published < pins.MOST_SERIALS
+    pub serial_is : serial ≡ old.published
+    pub replaces : Replaces old new plans.bundle
+    pub flag : Bool
+    pub told : AddsWatch before after (Published serial
+        ∷ note_marks (look_text (looking.Published serial)) flag)
+
+  -- no slot was free, and that was noted
+  pub record IsPinnedNext (old : Serving (Chain B E b e)) (before after : WatchState)
+      (first second third : Left)
+      : Type 0 where
+    pub few : old.published < pins.MOST_SERIALS
+    pub one : IsPinnedSlot first
+    pub two : IsPinnedSlot second
+    pub three : IsPinnedSlot third
+    pub noted : IsNoted before after (looking.AllPinned first second third)
+
+  -- the next generation would serve in a free slot, but asks for more extras of a name than there
+  -- are, and that was noted
+  pub record IsShortNext (old : Serving (Chain B E b e)) (before after : WatchState)
+      (answer : Looking)
+      (asked had : ℕ) : Type 0 where
+    pub few : old.published < pins.MOST_SERIALS
+    pub short : had < asked
+    pub noted : IsNoted before after answer
+
+  abbrev pub PublishesNext : Serving (Chain B E b e) → Serving (Chain B E b e) → WatchState
+      → WatchState → PlansData → Looking
+      → Type 0
+  PublishesNext old new before after plans looking.NoReload = ⊥
+  PublishesNext old new before after plans (looking.ReadFailed name) = ⊥
+  PublishesNext old new before after plans looking.Same = ⊥
+  PublishesNext old new before after plans (looking.Refused why) = ⊥
+  PublishesNext old new before after plans (looking.PortsDiffer kept read) = ⊥
+  PublishesNext old new before after plans looking.SerialsSpent =
+      (old.published ≡ pins.MOST_SERIALS) × (new ≡ old) × IsNoted before after looking.SerialsSpent
+  PublishesNext old new before after plans (looking.AllPinned first second third) =
+      (new ≡ old) × IsPinnedNext old before after first second third
+  PublishesNext old new before after plans (looking.StockShort name asked had) =
+      (new ≡ old) × IsShortNext old before after (looking.StockShort name asked had) asked had
+  PublishesNext old new before after plans (looking.Published serial) =
+      IsPublishedNext old new before after plans serial
+  PublishesNext old new before after plans looking.NoMemory = (new ≡ old)
+      × AddsWatch before after []
+
+  -- no look is made
+  pub record LooksNoMore (old new : Serving (Chain B E b e))
+      (before after : WatchState) : Type 0 where
+    pub told : AddsWatch before after []
+    pub same : new ≡ old
+    pub no_reload : reloads old.plans.blocks ≡ false
+
+  -- what a look answers and leaves
+  abbrev pub LooksOnce : Source → Serving (Chain B E b e) → Serving (Chain B E b e) → WatchState
+      → WatchState
+      → Looking → Type 0
+  LooksOnce source old new before after looking.NoReload = LooksNoMore old new before after
+  LooksOnce source old new before after (looking.ReadFailed name) =
+      LooksOver source old new before after (looking.ReadFailed name)
+  LooksOnce source old new before after looking.Same =
+      LooksOver source old new before after looking.Same
+  LooksOnce source old new before after (looking.Refused why) =
+      LooksOver source old new before after (looking.Refused why)
+  LooksOnce source old new before after (looking.PortsDiffer kept read) =
+      LooksOver source old new before after (looking.PortsDiffer kept read)
+  LooksOnce source old new before after looking.SerialsSpent =
+      LooksOver source old new before after looking.SerialsSpent
+  LooksOnce source old new before after (looking.AllPinned first second third) =
+      LooksOver source old new before after (looking.AllPinned first second third)
+  LooksOnce source old new before after (looking.StockShort name asked had) =
+      LooksOver source old new before after (looking.StockShort name asked had)
+  LooksOnce source old new before after (looking.Published serial) =
+      LooksOver source old new before after (looking.Published serial)
+  LooksOnce source old new before after looking.NoMemory = Starves source old new before after

@@ -7,20 +7,25 @@ use Rattle.pin_table.specs.{SamePublisher, plan_of}
 use Rattle.run_meaning.specs.declared.looking.Looking.{Looking}
 use Rattle.run_meaning.specs.declared.looking.Looking.TheVariants as looking
 use Rattle.reload_watch.specs.declared.watcher.Watcher.{Watcher}
+use Rattle.plugin_api.specs.declared.extra.Extra as extra
+use Rattle.plugin_api.specs.declared.rulebook.Rulebook as rulebook
 use Rattle.reload_watch.specs.Going.{CountsRefusals, WatchGoesOn}
 use Rattle.reload_watch.specs.Look.{LooksOnce, SearchesFirst}
 use Rattle.reload_watch.specs.States.{serving_of}
+use Rattle.reload_watch.specs.Stocked.{KeepsStock}
 use Rattle.reload_watch.specs.Sweeps.{KeepsSweeps}
 
 -- a look with this answer: what it leaves, what it swept, and how its watch goes on. Of how often a
 -- look met want of memory it says nothing.
-pub record HasLooked {W : Type 0} (state : W → WatchState) (source : Source)
-    (old new : Watcher W) (answer : Looking) : Type 0 where
+pub record HasLooked {W B E : Type 0} {b : rulebook.Ghosts B} {e : extra.Ghosts E}
+    (state : W → WatchState) (source : Source)
+    (old new : Watcher W B E b e) (answer : Looking) : Type 0 where
   pub own : SamePublisher old.publisher new.publisher
   pub workers : new.workers ≡ old.workers
   pub looks : LooksOnce source (serving_of old) (serving_of new) (state old.watch)
       (state new.watch) answer
   pub searches : SearchesFirst (plan_of old.publisher) (plan_of new.publisher) answer
+  pub extras : KeepsStock old new
   pub sweeps : KeepsSweeps (plan_of old.publisher).sweeps (plan_of new.publisher).sweeps
   pub goes : WatchGoesOn (state old.watch) (state new.watch)
   pub refusals : CountsRefusals answer (state old.watch).refusals (state new.watch).refusals

@@ -6,12 +6,11 @@ use Rattle.corefile_blocks.specs.declared.bundle.Bundle.{Bundle}
 use Rattle.corefile_bundle.specs.declared.fault.GatherFault.{GatherFault}
 use Rattle.corefile_bundle.specs.declared.fault.GatherFault.TheVariants as unread
 use Rattle.corefile_bundle.specs.Gathering.{Source, TellsGathering}
-use Rattle.chain_build.specs.{AreOwnPlans, PlansData, ground_of}
-use Rattle.chain_meaning.specs.{Ground, terms_on}
-use Rattle.extra_stock.specs.{all_pass, all_taken}
+use Rattle.chain_build.specs.{ArePlans, PlansData, ground_of}
 use Rattle.reload_watch.specs.declared.fault.ReadFault.{ReadFault}
 use Rattle.reload_watch.specs.declared.fault.ReadFault.TheVariants as fault
 use Rattle.run_meaning.specs.Answers.{Refuses}
+use Rattle.reload_watch.specs.States.{Footing, terms_of}
 
 -- a gathering that was told, and a fact of what it came to
 pub record GathersThat (source : Source) (before after : WatchState)
@@ -21,21 +20,21 @@ pub record GathersThat (source : Source) (before after : WatchState)
   pub is : P gives
 
 -- what the first bundle serves by, and the marks that its reading adds to the watch's journal
-pub record ReadsPlans (source : Source) (basis : Ground) (old new : WatchState)
+pub record ReadsPlans (source : Source) (footing : Footing) (old new : WatchState)
     (plans : PlansData) : Type 0 where
   pub tells : TellsGathering source old new (Ok plans.bundle)
-  pub ground_is : ground_of plans ≡ basis
-  pub are : AreOwnPlans plans
+  pub ground_is : ground_of plans ≡ footing.basis
+  pub are : ArePlans footing.taken footing.said plans
 
 -- what reading the first bundle answers
-abbrev pub ReadsFirst : Source → Ground → WatchState → WatchState → Result PlansData ReadFault
+abbrev pub ReadsFirst : Source → Footing → WatchState → WatchState → Result PlansData ReadFault
     → Type 0
-ReadsFirst source basis old new (Ok plans) = ReadsPlans source basis old new plans
-ReadsFirst source basis old new (Err (fault.Refused why)) =
+ReadsFirst source footing old new (Ok plans) = ReadsPlans source footing old new plans
+ReadsFirst source footing old new (Err (fault.Refused why)) =
     GathersThat source old new
-    (λ gives. Refuses (terms_on all_taken all_pass basis) gives why)
-ReadsFirst source basis old new (Err (fault.ReadFailed name)) =
+    (λ gives. Refuses (terms_of footing) gives why)
+ReadsFirst source footing old new (Err (fault.ReadFailed name)) =
     TellsGathering source old new (Err (unread.ReadFailed name))
     × Rose old.counts.reads new.counts.reads
-ReadsFirst source basis old new (Err fault.NoMemory) =
+ReadsFirst source footing old new (Err fault.NoMemory) =
     GathersThat source old new (λ gives. Unit {0})

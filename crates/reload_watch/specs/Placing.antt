@@ -5,10 +5,9 @@ use Rattle.pin_core.specs.Slots.{is_free}
 use Rattle.pin_table.specs.declared.views.Plan.{Plan}
 use Rattle.pin_table.specs.{count_of, plan_slot}
 use Rattle.pin_table.specs.Known.{serial_at}
-use Rattle.chain_build.specs.{OwnChain}
 
 -- a slot that isn't free is the one in which its serial was published, so no two have one serial
-pub record IsPlaced (plan : Plan OwnChain) : Type 0 where
+pub record IsPlaced {C : Type 0} (plan : Plan C) : Type 0 where
   pub each_serial : length plan.past.serials ≡ SLOTS
   pub each_slot : length plan.slots ≡ SLOTS
   pub placed : (slot : ℕ) → slot < SLOTS → is_free (plan_slot plan slot).phase ≡ false

@@ -4,25 +4,43 @@ use Rattle.std.specs.Prelude.{ℕ, List}
 use Rattle.std.specs.Arc.{arc_value}
 use Rattle.outside.specs.States.{WatchState}
 use Rattle.corefile_bundle.specs.Gathering.{Source}
-use Rattle.chain_build.specs.{OwnChain}
+use Rattle.chain_build.specs.declared.chain.Chain.{Chain}
+use Rattle.plugin_api.specs.declared.extra.Extra as extra
+use Rattle.plugin_api.specs.declared.rulebook.Rulebook as rulebook
 use Rattle.chain_build.specs.{PlansData}
+use Rattle.chain_meaning.specs.{Ground, Terms, terms_on}
+use Rattle.plugin_api.specs.{Sayings, Takings}
 use Rattle.pin_table.specs.declared.views.Sweep.{Sweep}
 use Rattle.pin_table.specs.{count_of, plan_of}
 use Rattle.reload_watch.specs.declared.source.Source as declared
 use Rattle.reload_watch.specs.declared.watcher.Watcher.{Watcher}
+
+-- what a program brings, as far as reading depends on it: what its rulebook says, and the ground of
+-- its runs
+pub record Footing : Type 0 where
+  pub taken : Takings
+  pub said : Sayings
+  pub basis : Ground
+
+abbrev pub footing_on : Takings → Sayings → Ground → Footing
+footing_on taken said basis = record { taken = taken; said = said; basis = basis }
+
+abbrev pub terms_of : Footing → Terms
+terms_of footing = terms_on footing.taken footing.said footing.basis
 
 -- what a configuration is read from
 abbrev pub source_data : declared.Source → Source
 source_data source = record { conf = source.conf.now; env = source.env.now }
 
 -- how many generations were published, the chains of each by worker, and what the last serves by
-pub record Serving : Type 0 where
+pub record Serving (C : Type 0) : Type 0 where
   pub published : ℕ
-  pub filled : List (List OwnChain)
+  pub filled : List (List C)
   pub plans : PlansData
 
 -- what a watcher has published
-abbrev pub serving_of : {W : Type 0} → Watcher W → Serving
+abbrev pub serving_of : {W B E : Type 0} {b : rulebook.Ghosts B} {e : extra.Ghosts E}
+    → Watcher W B E b e → Serving (Chain B E b e)
 serving_of watcher = record {
   published = count_of (plan_of watcher.publisher);
   filled = (plan_of watcher.publisher).past.filled;
@@ -31,13 +49,14 @@ serving_of watcher = record {
 
 -- a watcher: its watch, what it has published, the sweeps of its table's slots, the last one first,
 -- and how many looks met want of memory
-pub record WatcherState : Type 0 where
+pub record WatcherState (C : Type 0) : Type 0 where
   pub watch : WatchState
-  pub serving : Serving
+  pub serving : Serving C
   pub sweeps : List Sweep
   pub starved : ℕ
 
-abbrev pub watcher_state : {W : Type 0} → (W → WatchState) → Watcher W → WatcherState
+abbrev pub watcher_state : {W B E : Type 0} {b : rulebook.Ghosts B} {e : extra.Ghosts E}
+    → (W → WatchState) → Watcher W B E b e → WatcherState (Chain B E b e)
 watcher_state state watcher = record {
   watch = state watcher.watch;
   serving = serving_of watcher;

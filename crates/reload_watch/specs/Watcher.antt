@@ -13,42 +13,48 @@ use Rattle.reload_watch.specs.Look.{LooksOnce, starved_by}
 use Rattle.reload_watch.specs.Going.{CountsRefusals}
 use Rattle.run_meaning.specs.Reloads.{reloads, times_of}
 use Rattle.reload_watch.specs.States.{WatcherState}
+use Rattle.chain_build.specs.declared.chain.Chain.{Chain}
+use Rattle.plugin_api.specs.declared.extra.Extra as extra
+use Rattle.plugin_api.specs.declared.rulebook.Rulebook as rulebook
 use Rattle.reload_watch.specs.Sweeps.{KeepsSweeps, SweptFor}
 
--- a look was made, with the sweeps by which it found no free slot, and counted where it met want of
--- memory
-pub record LooksAgain (source : Source) (before after : WatcherState) : Type 0 where
-  pub waited : WatchState
-  pub looked : AddsWatch before.watch waited (Look (times_of before.serving.plans.blocks).interval
-      (times_of before.serving.plans.blocks).jitter ∷ [])
-  pub answer : Looking
-  pub looks : LooksOnce source before.serving after.serving waited after.watch answer
-  pub made : answer ≢ looking.NoReload
-  pub starved_is : after.starved ≡ starved_by answer before.starved
-  pub refused : CountsRefusals answer before.watch.refusals after.watch.refusals
-  pub swept : SweptFor after.sweeps before.serving.published answer
-  pub sweeps : KeepsSweeps before.sweeps after.sweeps
+module _ {B E : Type 0} {b : rulebook.Ghosts B} {e : extra.Ghosts E} where
+  -- a look was made, with the sweeps by which it found no free slot, and counted where it met want
+  -- of memory
+  pub record LooksAgain (source : Source)
+      (before after : WatcherState (Chain B E b e)) : Type 0 where
+    pub waited : WatchState
+    pub looked : AddsWatch before.watch waited (Look (times_of before.serving.plans.blocks).interval
+        (times_of before.serving.plans.blocks).jitter ∷ [])
+    pub answer : Looking
+    pub looks : LooksOnce source before.serving after.serving waited after.watch answer
+    pub made : answer ≢ looking.NoReload
+    pub starved_is : after.starved ≡ starved_by answer before.starved
+    pub refused : CountsRefusals answer before.watch.refusals after.watch.refusals
+    pub swept : SweptFor after.sweeps before.serving.published answer
+    pub sweeps : KeepsSweeps before.sweeps after.sweeps
 
--- no look was made: what serves, what was swept and what was counted and refused stay
-pub record MakesNoLook (before after : WatcherState) : Type 0 where
-  pub serving : after.serving ≡ before.serving
-  pub sweeps : after.sweeps ≡ before.sweeps
-  pub starved : after.starved ≡ before.starved
-  pub refused : after.watch.refusals ≡ before.watch.refusals
+  -- no look was made: what serves, what was swept and what was counted and refused stay
+  pub record MakesNoLook (before after : WatcherState (Chain B E b e)) : Type 0 where
+    pub serving : after.serving ≡ before.serving
+    pub sweeps : after.sweeps ≡ before.sweeps
+    pub starved : after.starved ≡ before.starved
+    pub refused : after.watch.refusals ≡ before.watch.refusals
 
--- the watch has ended
-pub record WatchEnds (before after : WatcherState) : Type 0 where
-  pub told : AddsWatch before.watch after.watch (End ∷ [])
-  pub again : reloads before.serving.plans.blocks ≡ true
-  pub stays : MakesNoLook before after
+  -- the watch has ended
+  pub record WatchEnds (before after : WatcherState (Chain B E b e)) : Type 0 where
+    pub told : AddsWatch before.watch after.watch (End ∷ [])
+    pub again : reloads before.serving.plans.blocks ≡ true
+    pub stays : MakesNoLook before after
 
--- what serves is not to be looked at again
-pub record ReloadsNoMore (before after : WatcherState) : Type 0 where
-  pub told : AddsWatch before.watch after.watch []
-  pub no_reload : reloads before.serving.plans.blocks ≡ false
-  pub stays : MakesNoLook before after
+  -- what serves is not to be looked at again
+  pub record ReloadsNoMore (before after : WatcherState (Chain B E b e)) : Type 0 where
+    pub told : AddsWatch before.watch after.watch []
+    pub no_reload : reloads before.serving.plans.blocks ≡ false
+    pub stays : MakesNoLook before after
 
-abbrev pub TakesLook : Source → WatcherState → WatcherState → Option WatchEnd → Type 0
-TakesLook source before after None = LooksAgain source before after
-TakesLook source before after (Some ends.End) = WatchEnds before after
-TakesLook source before after (Some ends.NoReload) = ReloadsNoMore before after
+  abbrev pub TakesLook : Source → WatcherState (Chain B E b e) → WatcherState (Chain B E b e)
+      → Option WatchEnd → Type 0
+  TakesLook source before after None = LooksAgain source before after
+  TakesLook source before after (Some ends.End) = WatchEnds before after
+  TakesLook source before after (Some ends.NoReload) = ReloadsNoMore before after

@@ -1,55 +1,66 @@
 //! What a gathering comes to, beside what serves.
-ghost use Rattle.std.specs.Prelude.{◌≡◌, ◌≢◌, IfOk, IsTrue, ◌↔◌, Ok};
+ghost use Rattle.std.specs.Prelude.{◌≡◌, ◌≢◌, map, IfOk, IsTrue, ◌↔◌, Ok};
+ghost use Rattle.plugin_api.specs.{Obey};
 ghost use Rattle.corefile_blocks.specs.{IsReadable};
-ghost use Rattle.chain_build.specs.{AreOwnPlans, ground_of};
+ghost use Rattle.chain_build.specs.{ArePlans, ground_of};
 ghost use Rattle.outside.specs.States.{WatchState};
 ghost use Rattle.reload_watch.specs.Going.{found_behind};
 ghost use Rattle.reload_watch.specs.Look.{Finds};
 
 use crate::fault::{answer_to, read_fault};
-use crate::judges::no_judges;
-use chain_build::{CheckFault, OwnPlans, check};
+use chain_build::{CheckFault, Plans, check};
 use corefile_blocks::Bundle;
 use corefile_bundle::GatherFault;
 use dns_data::{NoMemory, Seq};
 use outside::Watch;
+use plugin_api::{Extra, Rulebook};
 use run_meaning::{Looking, Ports};
 use std::alloc::Global;
 
 /// What a gathering comes to: the answer of the look, or what is to serve next.
-pub(crate) enum Found {
+pub(crate) enum Found<B: Rulebook> {
     Kept(Looking),
-    Next(OwnPlans),
+    Next(Plans<B>),
 }
 
-pub(crate) fn find<W: Watch>(
+pub(crate) fn find<W: Watch, B: Rulebook, E: Extra>(
     alloc: Global,
     gathered: Result<Bundle, GatherFault>,
-    current: &OwnPlans,
+    current: &Plans<B>,
+    judges: &[E],
     watch: &mut W,
-) -> Found
-    requires current { AreOwnPlans current.now }
+) -> Found<B>
+    requires current { current.now.names ≡ map E.title judges.now }
+    requires judges { Obey B.taken B.said E.title E.takes E.ruling judges.now }
     requires readable { IfOk gathered (λ bundle. IsReadable bundle) }
-    ensures finds { Finds current.now gathered result }
+    ensures finds { Finds B.taken B.said current.now gathered result }
     ensures watch { W.state watch.new ≡ found_behind result (W.state watch.old) }
 {
     match gathered {
-        Ok(bundle) => compare(alloc, bundle, current, watch),
+        Ok(bundle) => compare(alloc, bundle, current, judges, watch),
         Err(fault) => Found::Kept(answer_to(read_fault(fault))),
     }
 }
 
 // What a bundle comes to.
-fn compare<W: Watch>(alloc: Global, bundle: Bundle, current: &OwnPlans, watch: &mut W) -> Found
-    requires current { AreOwnPlans current.now }
+fn compare<W: Watch, B: Rulebook, E: Extra>(
+    alloc: Global,
+    bundle: Bundle,
+    current: &Plans<B>,
+    judges: &[E],
+    watch: &mut W,
+) -> Found<B>
+    requires current { current.now.names ≡ map E.title judges.now }
+    requires judges { Obey B.taken B.said E.title E.takes E.ruling judges.now }
     requires readable { IsReadable bundle }
-    ensures finds { Finds current.now (Ok bundle) result }
+    ensures finds { Finds B.taken B.said current.now (Ok bundle) result }
     ensures watch { W.state watch.new ≡ found_behind result (W.state watch.old) }
 {
     if bundle.equals(&current.bundle) {
         return Found::Kept(Looking::Same);
     }
-    match check(alloc, bundle, current.default_port, no_judges(), watch) {
+    current.tell();
+    match check(alloc, bundle, current.default_port, judges, watch) {
         Ok(plans) => compare_ports(alloc, plans, current),
         Err(CheckFault::Refused(refusal)) => Found::Kept(Looking::Refused(refusal)),
         Err(CheckFault::NoMemory) => Found::Kept(Looking::NoMemory),
@@ -57,12 +68,12 @@ fn compare<W: Watch>(alloc: Global, bundle: Bundle, current: &OwnPlans, watch: &
 }
 
 // What the plans of another bundle come to: a reload keeps the ports.
-fn compare_ports(alloc: Global, plans: OwnPlans, current: &OwnPlans) -> Found
-    requires current { AreOwnPlans current.now }
-    requires are { AreOwnPlans plans }
+fn compare_ports<B: Rulebook>(alloc: Global, plans: Plans<B>, current: &Plans<B>) -> Found<B>
+    requires current { ArePlans B.taken B.said current.now }
+    requires are { ArePlans B.taken B.said plans }
     requires basis { ground_of plans ≡ ground_of current.now }
     requires differs { plans.bundle ≢ current.now.bundle }
-    ensures finds { Finds current.now (Ok plans.bundle) result }
+    ensures finds { Finds B.taken B.said current.now (Ok plans.bundle) result }
     ensures quiet { (state : WatchState) → found_behind result state ≡ state }
 {
     if is_same_ports(plans.ports.as_slice(), current.ports.as_slice()) {

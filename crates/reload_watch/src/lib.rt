@@ -5,12 +5,10 @@
 mod fault;
 mod first;
 mod found;
-mod judges;
 mod look;
 mod publishing;
 mod reloads;
 mod source;
-mod stock;
 mod turns;
 mod watcher;
 
@@ -19,6 +17,5 @@ pub use first::read_first;
 pub use look::look_once;
 pub use publishing::show_published;
 pub use source::Source;
-pub use stock::no_stock;
 pub use turns::watch;
 pub use watcher::Watcher;

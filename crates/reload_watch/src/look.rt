@@ -10,20 +10,21 @@ use crate::publishing::{note_look, publish_next};
 use crate::reloads::reloads;
 use crate::source::Source;
 use crate::watcher::Watcher;
-use chain_build::OwnChain;
+use chain_build::Chain;
 use corefile_bundle::gather;
 use outside::Watch;
 use pin_table::PinTable;
+use plugin_api::{Extra, Rulebook};
 use run_meaning::Looking;
 use std::alloc::Global;
 
 /// Looks once for a changed configuration: reads the Corefile and the files that it names,
 /// publishes what they mean where that may serve, and notes the line of the answer. Whatever the
 /// answer but `Published`, what serves stays. Want of memory is counted.
-pub fn look_once<W: Watch>(
+pub fn look_once<W: Watch, B: Rulebook, E: Extra>(
     alloc: Global,
-    watcher: &mut Watcher<W>,
-    table: &PinTable<OwnChain>,
+    watcher: &mut Watcher<W, B, E>,
+    table: &PinTable<Chain<B, E>>,
     source: Source<'_>,
 ) -> Looking
     requires keeping { IsKeeping table.now watcher.old }
@@ -39,10 +40,10 @@ pub fn look_once<W: Watch>(
 }
 
 // The look, which counts nothing.
-fn look<W: Watch>(
+fn look<W: Watch, B: Rulebook, E: Extra>(
     alloc: Global,
-    watcher: &mut Watcher<W>,
-    table: &PinTable<OwnChain>,
+    watcher: &mut Watcher<W, B, E>,
+    table: &PinTable<Chain<B, E>>,
     source: Source<'_>,
 ) -> Looking
     requires keeping { IsKeeping table.now watcher.old }
@@ -54,7 +55,14 @@ fn look<W: Watch>(
         return Looking::NoReload;
     }
     let gathered = gather(alloc, &mut watcher.watch, source.conf, source.env);
-    match find(alloc, gathered, &watcher.current, &mut watcher.watch) {
+    let found = find(
+        alloc,
+        gathered,
+        &watcher.current,
+        watcher.stock.judges.as_slice(),
+        &mut watcher.watch,
+    );
+    match found {
         Found::Kept(looking) => note_look(alloc, &mut watcher.watch, looking),
         Found::Next(plans) => publish_next(alloc, watcher, table, plans),
     }

@@ -1,26 +1,31 @@
 //! The publication of what was read, and the notes of looks.
-ghost use Rattle.std.specs.Prelude.{◌≡◌, ◌≤◌, ◌<◌, ◌+◌, ◌*◌, List, [], ◌∷◌, length};
+ghost use Rattle.std.specs.Prelude.{◌≡◌, ◌≤◌, ◌<◌, ◌+◌, ◌*◌, ℕ, List, [], ◌∷◌, length};
 ghost use Rattle.std.specs.Vec.{vec_len, vec_capacity};
 ghost use Rattle.outside.specs.declared.mark.WatchMark.TheVariants as mark;
 ghost use Rattle.outside.specs.States.{WatchStays};
 ghost use Rattle.outside.specs.WatchMarks.{AddsWatch};
-ghost use Rattle.chain_build.specs.{AreOwnPlans, OwnChain, chain_identity, chain_log, ground_of};
-ghost use Rattle.pin_table.specs.{AreFilled, AreNew, IsFound, IsFreed, IsFreeSlot};
+ghost use Rattle.chain_build.specs.{ArePlans, chain_extras, chain_identity, chain_log, ground_of};
+ghost use Rattle.extra_stock.specs.{in_chains, is_named, names_weigh, seats_of_chains};
+ghost use Rattle.plugin_api.specs.{Obey};
+ghost use Rattle.pin_table.specs.{AreFilled, AreNew, IsFound, IsFreeSlot, IsStanding};
 ghost use Rattle.pin_table.specs.{IsPublisherOf, SamePublisher, count_of, plan_of};
 ghost use Rattle.std.specs.Arc.{arc_value};
 ghost use Rattle.reload_watch.specs.Keeping.{IsKeeping};
-ghost use Rattle.reload_watch.specs.Look.{NotesLine, NotesLook, PublishesNext, SearchesFirst};
+ghost use Rattle.reload_watch.specs.Look.{Frees, HasSlot, NotesLine, NotesLook, PublishesNext};
+ghost use Rattle.reload_watch.specs.Look.{SaysStock, SearchesFirst};
 ghost use Rattle.reload_watch.specs.Placing.{IsPlaced};
 ghost use Rattle.reload_watch.specs.Publishing.{AddsGeneration, KeepsPast};
 ghost use Rattle.reload_watch.specs.States.{serving_of};
+ghost use Rattle.reload_watch.specs.Stocked.{HasPlaces, KeepsStock, out_weighs, seats_out};
 ghost use Rattle.reload_watch.specs.Sweeps.{KeepsSweeps};
 
-use crate::stock::no_stock;
 use crate::watcher::Watcher;
-use chain_build::{OwnChain, OwnPlans, build};
+use chain_build::{BuildFault, Chain, Plans, build, take_back};
+use extra_stock::Stock;
 use outside::Watch;
 use pin_core::MOST_SERIALS;
 use pin_table::{FreeSlot, PinTable, Published, Publisher};
+use plugin_api::{Extra, Rulebook};
 use run_meaning::Looking;
 use std::alloc::Global;
 use std::sync::Arc;
@@ -47,52 +52,43 @@ fn note_line<W: Watch>(watch: &mut W, line: &[u8])
     }
 }
 
-// Publishes plans, unless serials are spent or all slots pinned. The chains and the line are made
-// first, so that want of memory publishes nothing.
-pub(crate) fn publish_next<W: Watch>(
+// Publishes plans, unless serials are spent or all slots pinned. The slots are swept first, and the
+// extras that came home are spare again.
+pub(crate) fn publish_next<W: Watch, B: Rulebook, E: Extra>(
     alloc: Global,
-    watcher: &mut Watcher<W>,
-    table: &PinTable<OwnChain>,
-    plans: OwnPlans,
+    watcher: &mut Watcher<W, B, E>,
+    table: &PinTable<Chain<B, E>>,
+    plans: Plans<B>,
 ) -> Looking
     requires keeping { IsKeeping table.now watcher.old }
-    requires are { AreOwnPlans plans }
+    requires are { ArePlans B.taken B.said plans }
     requires basis { ground_of plans ≡ ground_of (arc_value watcher.old.current) }
     ensures keeping { IsKeeping table.now watcher.new }
     ensures own { SamePublisher watcher.old.publisher watcher.new.publisher }
     ensures workers { watcher.new.workers ≡ watcher.old.workers }
     ensures publishes { PublishesNext (serving_of watcher.old) (serving_of watcher.new)
         (W.state watcher.old.watch) (W.state watcher.new.watch) plans result }
+    ensures stock { SaysStock watcher.old.workers plans.extras
+        (λ n. names_weigh E.title (is_named n) watcher.new.stock.spare.items) result }
     ensures searches { SearchesFirst (plan_of watcher.old.publisher)
         (plan_of watcher.new.publisher) result }
     ensures sweeps { KeepsSweeps (plan_of watcher.old.publisher).sweeps
         (plan_of watcher.new.publisher).sweeps }
+    ensures extras { KeepsStock watcher.old watcher.new }
     ensures starved { watcher.new.starved ≡ watcher.old.starved }
     ensures stays { WatchStays (W.state watcher.old.watch) (W.state watcher.new.watch) }
 {
-    let serial = table.published(&watcher.publisher);
-    if serial >= MOST_SERIALS {
+    if table.published(&watcher.publisher) >= MOST_SERIALS {
         return note_look(alloc, &mut watcher.watch, Looking::SerialsSpent);
     }
-    let Ok(next) = Arc::new(alloc, plans) else {
-        return Looking::NoMemory;
-    };
-    let mut stock = no_stock(alloc);
-    let Ok(chains) = build(alloc, &next, serial, watcher.workers, &mut stock) else {
-        return Looking::NoMemory;
-    };
-    let looking = Looking::Published(serial);
-    let Ok(line) = format!(in alloc; "{looking}") else {
-        return Looking::NoMemory;
-    };
-    match free_slot(table, &mut watcher.publisher, &mut watcher.home) {
-        FreeSlot::Free(slot) => {
-            publish(table, &mut watcher.publisher, slot, chains);
-            watcher.current = next;
-            show_published(&mut watcher.watch, &watcher.publisher, serial);
-            note_line(&mut watcher.watch, line.as_bytes());
-            looking
-        }
+    let found = free_slot(
+        table,
+        &mut watcher.publisher,
+        &mut watcher.home,
+        &mut watcher.stock,
+    );
+    match found {
+        FreeSlot::Free(slot) => publish_in(alloc, watcher, table, plans, slot),
         FreeSlot::AllPinned(first, second, third) => {
             let pinned = Looking::AllPinned(first, second, third);
             note_look(alloc, &mut watcher.watch, pinned)
@@ -100,8 +96,64 @@ pub(crate) fn publish_next<W: Watch>(
     }
 }
 
+// Publishes plans in a free slot, unless the stock is short. The line and the chains are made
+// first, so that want of memory publishes nothing.
+fn publish_in<W: Watch, B: Rulebook, E: Extra>(
+    alloc: Global,
+    watcher: &mut Watcher<W, B, E>,
+    table: &PinTable<Chain<B, E>>,
+    plans: Plans<B>,
+    slot: u32,
+) -> Looking
+    requires keeping { IsKeeping table.now watcher.old }
+    requires few { count_of (plan_of watcher.old.publisher) < MOST_SERIALS }
+    requires free { IsFreeSlot (plan_of watcher.old.publisher) slot }
+    requires are { ArePlans B.taken B.said plans }
+    requires basis { ground_of plans ≡ ground_of (arc_value watcher.old.current) }
+    ensures keeping { IsKeeping table.now watcher.new }
+    ensures own { SamePublisher watcher.old.publisher watcher.new.publisher }
+    ensures workers { watcher.new.workers ≡ watcher.old.workers }
+    ensures publishes { PublishesNext (serving_of watcher.old) (serving_of watcher.new)
+        (W.state watcher.old.watch) (W.state watcher.new.watch) plans result }
+    ensures stock { SaysStock watcher.old.workers plans.extras
+        (λ n. names_weigh E.title (is_named n) watcher.new.stock.spare.items) result }
+    ensures slot { HasSlot result }
+    ensures same { (plan_of watcher.new.publisher).sweeps
+        ≡ (plan_of watcher.old.publisher).sweeps }
+    ensures extras { KeepsStock watcher.old watcher.new }
+    ensures starved { watcher.new.starved ≡ watcher.old.starved }
+    ensures stays { WatchStays (W.state watcher.old.watch) (W.state watcher.new.watch) }
+{
+    let serial = table.published(&watcher.publisher);
+    let looking = Looking::Published(serial);
+    let Ok(line) = format!(in alloc; "{looking}") else {
+        return Looking::NoMemory;
+    };
+    let Ok(next) = Arc::new(alloc, plans) else {
+        return Looking::NoMemory;
+    };
+    match build(alloc, &next, serial, watcher.workers, &mut watcher.stock) {
+        Ok(chains) => {
+            publish(table, &mut watcher.publisher, slot, chains);
+            watcher.current = next;
+            show_published(&mut watcher.watch, &watcher.publisher, serial);
+            note_line(&mut watcher.watch, line.as_bytes());
+            looking
+        }
+        Err(BuildFault::StockShort { name, asked, had }) => {
+            let short = Looking::StockShort { name, asked, had };
+            note_look(alloc, &mut watcher.watch, short)
+        }
+        Err(BuildFault::NoMemory) => Looking::NoMemory,
+    }
+}
+
 /// Shows a watch that the generation of this serial was published: it is the publisher's last one.
-pub fn show_published<W: Watch>(watch: &mut W, publisher: &Publisher<OwnChain>, serial: u64)
+pub fn show_published<W: Watch, B: Rulebook, E: Extra>(
+    watch: &mut W,
+    publisher: &Publisher<Chain<B, E>>,
+    serial: u64,
+)
     requires last { count_of (plan_of publisher.now) ≡ serial + 1 }
     ensures told { AddsWatch (W.state watch.old) (W.state watch.new) (mark.Published serial ∷ []) }
     ensures stays { WatchStays (W.state watch.old) (W.state watch.new) }
@@ -109,37 +161,50 @@ pub fn show_published<W: Watch>(watch: &mut W, publisher: &Publisher<OwnChain>, 
     watch.saw_published(serial);
 }
 
-// Sweeps the slots of replaced generations, lets go what came home, and gives a free slot.
-fn free_slot(
-    table: &PinTable<OwnChain>,
-    publisher: &mut Publisher<OwnChain>,
-    home: &mut Vec<OwnChain>,
+// Sweeps the slots of replaced generations, brings the extras of the chains that came home into the
+// stock, and gives a free slot.
+fn free_slot<B: Rulebook, E: Extra>(
+    table: &PinTable<Chain<B, E>>,
+    publisher: &mut Publisher<Chain<B, E>>,
+    home: &mut Vec<Chain<B, E>>,
+    stock: &mut Stock<E>,
 ) -> FreeSlot
     requires own { IsPublisherOf table.now publisher.old }
     requires none { (home.old.items ≡ []) × (vec_len home.old ≡ 0) }
     requires placed { IsPlaced (plan_of publisher.old) }
     requires room { 3 * (plan_of publisher.old).workers ≤ vec_capacity home.old }
+    requires stands { IsStanding chain_identity (plan_of publisher.old) }
+    requires places { HasPlaces (vec_len stock.old.spare) (vec_capacity stock.old.spare)
+        (plan_of publisher.old) }
+    requires obey { Obey B.taken B.said E.title E.takes E.ruling stock.old.spare.items }
     ensures own { SamePublisher publisher.old publisher.new }
     ensures keeps { KeepsPast (plan_of publisher.old) (plan_of publisher.new) }
     ensures placed { IsPlaced (plan_of publisher.new) }
-    ensures freed { (came : List OwnChain)
-        × IsFreed (plan_of publisher.old) [] result came (plan_of publisher.new) }
+    ensures freed { Frees (plan_of publisher.old) result (plan_of publisher.new) }
     ensures sweeps { KeepsSweeps (plan_of publisher.old).sweeps (plan_of publisher.new).sweeps }
     ensures found { IsFound result (plan_of publisher.new) }
     ensures none { (home.new.items ≡ []) × (vec_len home.new ≡ 0) }
     ensures room { vec_capacity home.new ≡ vec_capacity home.old }
+    ensures judges { stock.new.judges ≡ stock.old.judges }
+    ensures obey { Obey B.taken B.said E.title E.takes E.ruling stock.new.spare.items }
+    ensures stands { IsStanding chain_identity (plan_of publisher.new) }
+    ensures places { HasPlaces (vec_len stock.new.spare) (vec_capacity stock.new.spare)
+        (plan_of publisher.new) }
+    ensures weighs { (w : List ℕ → ℕ) → names_weigh E.title w stock.new.spare.items
+        + out_weighs w (plan_of publisher.new)
+        ≡ names_weigh E.title w stock.old.spare.items + out_weighs w (plan_of publisher.old) }
 {
     let found = table.free_slot(publisher, home);
-    home.clear();
+    take_back(home, stock);
     found
 }
 
 // Publishes chains in a free slot, where serials are left.
-fn publish(
-    table: &PinTable<OwnChain>,
-    publisher: &mut Publisher<OwnChain>,
+fn publish<B: Rulebook, E: Extra>(
+    table: &PinTable<Chain<B, E>>,
+    publisher: &mut Publisher<Chain<B, E>>,
     slot: u32,
-    chains: Vec<OwnChain>,
+    chains: Vec<Chain<B, E>>,
 )
     requires own { IsPublisherOf table.now publisher.old }
     requires few { count_of (plan_of publisher.old) < MOST_SERIALS }
@@ -149,11 +214,17 @@ fn publish(
         AreNew chain_identity chain_log serial 0 chains.items }
     requires filled { AreFilled chain_identity chain_log 0 (plan_of publisher.old).past.filled }
     requires placed { IsPlaced (plan_of publisher.old) }
+    requires stands { IsStanding chain_identity (plan_of publisher.old) }
     ensures own { SamePublisher publisher.old publisher.new }
     ensures filled { AreFilled chain_identity chain_log 0 (plan_of publisher.new).past.filled }
     ensures placed { IsPlaced (plan_of publisher.new) }
     ensures published { AddsGeneration (plan_of publisher.old) chains.items
         (plan_of publisher.new) }
+    ensures stands { IsStanding chain_identity (plan_of publisher.new) }
+    ensures seats { seats_out (plan_of publisher.new)
+        ≡ seats_out (plan_of publisher.old) + seats_of_chains chain_extras chains.items }
+    ensures weighs { (w : List ℕ → ℕ) → out_weighs w (plan_of publisher.new)
+        ≡ out_weighs w (plan_of publisher.old) + in_chains chain_extras w chains.items }
 {
     match table.publish(publisher, slot, chains) {
         Published::Ok(_) => {}

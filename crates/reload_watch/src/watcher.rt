@@ -1,19 +1,23 @@
-use chain_build::{OwnChain, OwnPlans};
+use chain_build::{Chain, Plans};
+use extra_stock::Stock;
 use pin_table::Publisher;
+use plugin_api::{Extra, Rulebook};
 use std::sync::Arc;
 
-/// A watcher: its watch, the publisher of the table from which the workers pin their chains, and
-/// what it has counted so far.
+/// A watcher: its watch, the publisher of the table from which the workers pin their chains, the
+/// extras that stand in no chain, and what it has counted so far.
 #[derive(Drop)]
-pub struct Watcher<W> {
+pub struct Watcher<W, B: Rulebook, E: Extra> {
     pub watch: W,
-    pub publisher: Publisher<OwnChain>,
+    pub publisher: Publisher<Chain<B, E>>,
     /// How many workers pin, each a chain of its own.
     pub workers: u64,
     /// What serves: that of the last publication.
-    pub current: Arc<OwnPlans>,
+    pub current: Arc<Plans<B>>,
+    /// The judges, and what is spare; with room for the extras of all chains.
+    pub stock: Stock<E>,
     /// Where the chains of replaced generations come home; with room for those of four.
-    pub home: Vec<OwnChain>,
+    pub home: Vec<Chain<B, E>>,
     /// How many looks met want of memory.
     pub starved: u64,
 }

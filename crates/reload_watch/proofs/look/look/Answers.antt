@@ -1,12 +1,11 @@
 use Rattle.std.proofs.Common.{true, ◌≡◌, ℕ, ap, subst, ◌∙◌, rules}
 use Rattle.outside.specs.States.{WatchState}
 use Rattle.chain_build.specs.{PlansData}
-use Rattle.reload_watch.specs.declared.found.Found.TheVariants.{Kept, Next}
 use Rattle.reload_watch.specs.Going.{CountsRefusals}
 use Rattle.reload_watch.specs.Look.{AnswersKept, IsNext}
 use Rattle.run_meaning.specs.Reloads.{reloads}
 use Rattle.reload_watch.specs.States.{serving_of, source_data}
-use Rattle.reload_watch.proofs.Going.{found_goes, goes_then, next_counts, noted_counts, stays_goes, tells_found}
+use Rattle.reload_watch.proofs.Going.{goes_same, goes_then, kept_goes, next_counts, noted_counts, stays_goes, tells_kept, tells_same}
 use Rattle.reload_watch.proofs.Looks.{kept_looks, next_looks}
 use Rattle.reload_watch.proofs.look.look.Goals as goal
 
@@ -16,19 +15,20 @@ returns-in-Kept-clause-look g c =
     let old = serving_of c.args.watcher.now in
     let before = state c.args.watcher.now.watch in
     let mid = state c.gather-gathered.new.watch in
-    let found = state c.find.new.watch in
+    let found = state c.find-found.new.watch in
     let after = state c.note_look.new.watch in
     let again : reloads old.plans.blocks ≡ true = search rules in
-    let kept = subst (λ (x : PlansData). AnswersKept x c.gather-gathered.result c.in-Kept.looking) c.deref-2.ensures c.in-Kept.ensures.finds in
+    let kept = subst (λ (x : PlansData). AnswersKept g.B.Rulebook.taken g.B.Rulebook.said x c.gather-gathered.result c.in-Kept.looking) c.deref-2.ensures c.in-Kept.ensures.finds in
     record {
       own = search rules;
       workers = search rules;
       looks = kept_looks (source_data c.args.source) old before found after c.gather-gathered.result c.in-Kept.looking c.note_look.result again
-          (tells_found (Kept c.in-Kept.looking) c.in-Kept.ensures.watch c.gather-gathered.ensures.told) kept c.note_look.ensures.notes;
+          (tells_kept c.in-Kept.looking c.in-Kept.ensures.watch c.gather-gathered.ensures.told) kept c.note_look.ensures.notes;
       searches = search rules;
+      extras = search rules;
       sweeps = search rules;
       goes = goes_then (stays_goes c.gather-gathered.ensures.stays)
-          (goes_then (found_goes (Kept c.in-Kept.looking) mid found c.in-Kept.ensures.watch) (stays_goes c.note_look.ensures.stays));
+          (goes_then (kept_goes c.in-Kept.looking mid found c.in-Kept.ensures.watch) (stays_goes c.note_look.ensures.stays));
       refusals = subst (λ (n : ℕ). CountsRefusals c.note_look.result n after.refusals) c.gather-gathered.ensures.stays.refusals
           (noted_counts c.in-Kept.looking c.note_look.result mid found after c.in-Kept.ensures.watch c.note_look.ensures.stays.refusals c.note_look.ensures.notes);
       read = search rules;
@@ -41,19 +41,20 @@ returns-in-Next-clause-look g c =
     let new = serving_of c.publish_next.new.watcher in
     let before = state c.args.watcher.now.watch in
     let mid = state c.gather-gathered.new.watch in
-    let found = state c.find.new.watch in
+    let found = state c.find-found.new.watch in
     let after = state c.publish_next.new.watcher.watch in
     let again : reloads old.plans.blocks ≡ true = search rules in
-    let next = subst (λ (x : PlansData). IsNext x c.gather-gathered.result c.in-Next.plans) c.deref-2.ensures c.in-Next.ensures.finds in
+    let next = subst (λ (x : PlansData). IsNext g.B.Rulebook.taken g.B.Rulebook.said x c.gather-gathered.result c.in-Next.plans) c.deref-2.ensures c.in-Next.ensures.finds in
     record {
       own = search rules;
       workers = search rules;
       looks = next_looks (source_data c.args.source) old new before found after c.gather-gathered.result c.in-Next.plans c.publish_next.result again
-          (tells_found (Next c.in-Next.plans) c.in-Next.ensures.watch c.gather-gathered.ensures.told) next c.publish_next.ensures.publishes;
+          (tells_same c.in-Next.ensures.watch c.gather-gathered.ensures.told) next c.publish_next.ensures.publishes;
       searches = search rules;
+      extras = search rules;
       sweeps = search rules;
       goes = goes_then (stays_goes c.gather-gathered.ensures.stays)
-          (goes_then (found_goes (Next c.in-Next.plans) mid found c.in-Next.ensures.watch) (stays_goes c.publish_next.ensures.stays));
+          (goes_then (goes_same mid found c.in-Next.ensures.watch) (stays_goes c.publish_next.ensures.stays));
       refusals = next_counts old new found after c.in-Next.plans c.publish_next.result before.refusals after.refusals
           (c.publish_next.ensures.stays.refusals ∙ ap (λ (s : WatchState). s.refusals) c.in-Next.ensures.watch ∙ c.gather-gathered.ensures.stays.refusals) c.publish_next.ensures.publishes;
       read = search rules;

@@ -1,6 +1,7 @@
 use Rattle.std.proofs.Common.{rules, refl, ◌∙◌}
 use Rattle.reload_watch.specs.States.{source_data, watcher_state}
 use Rattle.reload_watch.proofs.Watching.{looks_on, starts}
+use Rattle.reload_watch.proofs.Stocked.{keeps_both}
 use Rattle.reload_watch.proofs.turns.watch.Goals as goal
 
 pub loop-init : goal.loop-init
@@ -10,6 +11,7 @@ loop-init g c = record {
   keeping = search rules;
   own = search rules;
   workers = refl;
+  extras = record { judges = refl; weighs = λ _. refl };
   watched = let k = c.requires.keeping in starts (source_data c.args.source) (watcher_state g.W.PatternMaker.state c.args.watcher.now) k.are c.requires.first (k.count ∙ c.requires.first) k.current;
   goes = search rules;
 }
@@ -21,6 +23,7 @@ loop-preserved g c = record {
   keeping = search rules;
   own = search rules;
   workers = c.in_default.ensures.workers ∙ c.loop.invariant.workers;
+  extras = keeps_both c.loop.invariant.extras c.in_default.ensures.extras;
   watched = looks_on (source_data c.args.source) (watcher_state g.W.PatternMaker.state c.args.watcher.now) (watcher_state g.W.PatternMaker.state c.loop.watcher)
       (watcher_state g.W.PatternMaker.state c.take_look.new.watcher) c.loop.invariant.watched c.in_default.ensures.takes;
   goes = search rules;

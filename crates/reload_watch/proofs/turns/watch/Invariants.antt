@@ -2,6 +2,7 @@ use Rattle.std.proofs.Common.{◌≡◌}
 use Rattle.pin_table.specs.{SamePublisher}
 use Rattle.reload_watch.specs.Going.{WatchGoesOn}
 use Rattle.reload_watch.specs.Keeping.{IsKeeping}
+use Rattle.reload_watch.specs.Stocked.{KeepsStock}
 use Rattle.reload_watch.specs.States.{source_data, watcher_state}
 use Rattle.reload_watch.proofs.Watching.{Watched}
 use Rattle.reload_watch.proofs.turns.watch.Given as goal
@@ -14,5 +15,6 @@ invariant-loop g l = record {
   own : SamePublisher l.fn.watcher.publisher l.watcher.publisher;
   workers : l.watcher.workers ≡ l.fn.watcher.workers;
   watched : Watched (source_data l.source) (watcher_state g.W.PatternMaker.state l.fn.watcher) (watcher_state g.W.PatternMaker.state l.watcher);
+  extras : KeepsStock l.fn.watcher l.watcher;
   goes : WatchGoesOn (g.W.PatternMaker.state l.fn.watcher.watch) (g.W.PatternMaker.state l.watcher.watch);
 }

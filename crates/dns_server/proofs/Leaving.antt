@@ -7,21 +7,23 @@ use Rattle.std.proofs.lemmas.List.{length-map, take_all}
 use Rattle.outside.specs.Causes.{RoseJust}
 use Rattle.outside.specs.States.{SideState, WatchState}
 use Rattle.corefile_blocks.specs.declared.bundle.Bundle.{Bundle}
-use Rattle.chain_build.specs.{OwnChain}
-use Rattle.chain_build.specs.{AreOwnPlans, chain_identity, chain_log, own_ground, own_terms, plans_of}
-use Rattle.chain_meaning.specs.{Ground, terms_on}
-use Rattle.extra_stock.specs.{all_pass, all_taken}
+use Rattle.chain_build.specs.declared.chain.Chain.{Chain}
+use Rattle.plugin_api.specs.declared.extra.Extra as extra
+use Rattle.plugin_api.specs.declared.rulebook.Rulebook as rulebook
+use Rattle.chain_build.specs.{ArePlans, chain_identity, chain_log, ground_of, plans_of}
+use Rattle.chain_meaning.specs.{Ground}
+use Rattle.plugin_api.specs.{Obey}
 use Rattle.pin_core.specs.declared.slots.TheConstants.{WORKERS}
 use Rattle.pin_table.specs.declared.passes.Pass.{Pass}
 use Rattle.pin_table.specs.declared.table.PinTable.{PinTable}
 use Rattle.pin_table.specs.declared.views.PassView.{PassView}
 use Rattle.pin_table.specs.declared.views.Plan.{Plan}
-use Rattle.pin_table.specs.{AreFilled, AreGiven, AreIdle, IsPublisherOf, count_of, id_of, plan_of, views_of}
+use Rattle.pin_table.specs.{AreFilled, AreGiven, AreIdle, IsPublisherOf, IsStanding, count_of, id_of, plan_of, views_of}
 use Rattle.pin_core.specs.{OnePinRun, pin_marks}
 use Rattle.pin_table.specs.Closing.{IsClosed, IsTraced, joined_marks, joined_plan}
 use Rattle.pin_table.specs.Opening.{IsOpened}
 use Rattle.query_worker.specs.{pinned_by}
-use Rattle.reload_watch.specs.{AreFilledBy, IsPlaced}
+use Rattle.reload_watch.specs.{AreFilledBy, Footing, HasPlaces, IsPlaced, footing_on, terms_of}
 use Rattle.run_meaning.specs.WatchTurn.{AreLooks, all_starved}
 use Rattle.run_meaning.specs.WatchRun.{EndsWatch}
 use Rattle.reload_watch.specs.declared.watcher.Watcher.{Watcher}
@@ -32,10 +34,10 @@ use Rattle.dns_server.specs.Each.{Each3}
 use Rattle.dns_server.specs.Report.{Finishes, side_pins}
 use Rattle.dns_server.specs.Roles.{Becomes, HasWatched, IsPart, IsWatching, Task, as_role}
 use Rattle.dns_server.specs.Roles as roles
-use Rattle.dns_server.specs.States.{RunSetup, side_runs}
+use Rattle.dns_server.specs.States.{RunSetup, run_terms, side_runs}
 use Rattle.dns_server.proofs.Each.{zip_last}
 use Rattle.dns_server.proofs.Holding.{looks_held, placed_opened}
-use Rattle.dns_server.proofs.Joining.{IdleFrom, IsDone, Leave, all_tell, scripts_are}
+use Rattle.dns_server.proofs.Joining.{IsBy, IdleFrom, IsDone, Leave, all_tell, scripts_are}
 
 -- the last of the roles, and the others
 pub parted : {R : Type 0} (B : R → R → Type 0) (starts others befores afters : List R) (first last : R) → befores ≡ starts ++ first ∷ [] → afters ≡ others ++ last ∷ [] → AllZip B befores afters
@@ -70,95 +72,104 @@ mid_count R (x ∷ xs) [] zs each = absurd each
 mid_count R (x ∷ xs) (y ∷ ys) [] each = absurd each
 mid_count R (x ∷ xs) (y ∷ ys) (z ∷ zs) each = ap suc (mid_count R xs ys zs each.1)
 
--- the pins of sides are those of their passes
-pins_are : (qs : List (PassView OwnChain)) → joined_marks qs ≡ side_pins (map (λ q. pinned_by q) qs)
-pins_are [] = refl
-pins_are (q ∷ qs) = ap (λ l. pin_marks (reverse (pinned_by q)) ∷ l) (pins_are qs)
+module _ {B E : Type 0} {bk : rulebook.Ghosts B} {ex : extra.Ghosts E} where
+  -- the pins of sides are those of their passes
+  pins_are : (qs : List (PassView (Chain B E bk ex))) → joined_marks qs ≡ side_pins (map (λ q. pinned_by q) qs)
+  pins_are [] = refl
+  pins_are (q ∷ qs) = ap (λ l. pin_marks (reverse (pinned_by q)) ∷ l) (pins_are qs)
 
--- the passes of all workers, none of which holds a pin
-pub idle_all : (table : PinTable OwnChain) (passes : List (Pass OwnChain)) → IdleFrom (id_of table) 0 passes → AreIdle (id_of table) passes
-idle_all table passes idle = λ w pass at. let is = idle w pass at in (is.0, is.1 ∙ omega arith, is.2)
+  -- the passes of all workers, none of which holds a pin
+  pub idle_all : {N K : Type 0} (table : PinTable (Chain B E bk ex) N K) (passes : List (Pass (Chain B E bk ex))) → IdleFrom (id_of table) 0 passes → AreIdle (id_of table) passes
+  idle_all table passes idle = λ w pass at. let is = idle w pass at in (is.0, is.1 ∙ omega arith, is.2)
 
-module _ {S W : Type 0} (side : S → SideState) (watch : W → WatchState) (setup : RunSetup) (opened : Opened S W) (last : Watcher W) (dones : List (Done S)) (passes : List (Pass OwnChain)) where
-  abbrev task : Task
-  task = record { table = opened.table; source = setup.source; most = setup.most }
+  module _ {S W : Type 0} (side : S → SideState) (watch : W → WatchState) (setup : RunSetup) (opened : Opened S W B E bk ex) (last : Watcher W B E bk ex) (dones : List (Done S)) (passes : List (Pass (Chain B E bk ex))) where
+    abbrev task : Task (Chain B E bk ex)
+    task = record { table = opened.table; source = setup.source; most = setup.most }
 
-  abbrev first : Bundle
-  first = (arc_value opened.watcher.current).bundle
+    abbrev first : Bundle
+    first = (arc_value opened.watcher.current).bundle
 
-  -- what each pass was given, by the table's last state
-  given : (bundles : List Bundle) → length bundles ≡ count_of (plan_of last.publisher) → IsClosed (joined_plan (plan_of last.publisher) passes)
-      → IsTraced chain_identity chain_log (joined_plan (plan_of last.publisher) passes)
-      → (w : ℕ) (q : PassView OwnChain) → slice_get (views_of passes) w ≡ Some q
-      → AreGiven chain_identity chain_log (plan_of last.publisher).past.filled (0 + w) q.turns × (q.seen ≤ length bundles)
-  given bundles count closed traced w q at =
-      let turns = traced.turns w q at in
-      let rising = closed.rising w q at in
-      (subst (λ (n : ℕ). AreGiven chain_identity chain_log (plan_of last.publisher).past.filled n q.turns) (omega arith) turns, let r = rising.1 in omega (arith, r, count))
+    -- what each pass was given, by the table's last state
+    given : (bundles : List Bundle) → length bundles ≡ count_of (plan_of last.publisher) → IsClosed (joined_plan (plan_of last.publisher) passes)
+        → IsTraced chain_identity chain_log (joined_plan (plan_of last.publisher) passes)
+        → (w : ℕ) (q : PassView (Chain B E bk ex)) → slice_get (views_of passes) w ≡ Some q
+        → AreGiven chain_identity chain_log (plan_of last.publisher).past.filled (0 + w) q.turns × (q.seen ≤ length bundles)
+    given bundles count closed traced w q at =
+        let turns = traced.turns w q at in
+        let rising = closed.rising w q at in
+        (subst (λ (n : ℕ). AreGiven chain_identity chain_log (plan_of last.publisher).past.filled n q.turns) (omega arith) turns, let r = rising.1 in omega (arith, r, count))
 
-  pub finishes : (others : List (Role S W)) (published : ℕ) → roles.IsOpened side setup.default_port opened → HasWatched watch task opened.watcher last
-      → Leave side watch task 0 opened.sides.items others dones passes → published ≡ count_of (plan_of last.publisher)
-      → IsClosed (joined_plan (plan_of last.publisher) passes) → IsTraced chain_identity chain_log (joined_plan (plan_of last.publisher) passes)
-      → Finishes setup first (map side opened.sides.items) (watch opened.watcher.watch) (record { sides = side_runs side dones; watch = watch last.watch; published = published; starved = last.starved })
-  finishes others published is has leave count closed traced =
-      let by = has.watches in
-      let basis = is.ground_is in
-      let bundles = by.bundles in
-      let filled = (plan_of last.publisher).past.filled in
-      let sides_count = part_count (IsDone setup.most) (map side opened.sides.items) (side_runs side dones) (views_of passes) leave.done in
-      let sides_mid = mid_count (IsDone setup.most) (map side opened.sides.items) (side_runs side dones) (views_of passes) leave.done in
-      let count_is : (plan_of last.publisher).workers ≡ length (views_of passes) = has.keeps.workers ∙ has.workers ∙ is.workers ∙ sym (length-map opened.sides.items side) ∙ sym sides_count in
-      let tell = all_tell setup bundles filled 0 (map side opened.sides.items) (side_runs side dones) (views_of passes) is.fresh leave.done
-      (subst (λ (g : Ground). AreFilledBy bundles g filled) basis by.filled) (given bundles by.count closed traced) in
+    pub finishes : (others : List (Role S W B E bk ex)) (published : ℕ) → IsBy bk.taken bk.said setup → roles.IsOpened side setup.footing.basis opened → HasWatched watch task opened.watcher last
+        → Leave side watch task 0 opened.sides.items others dones passes → published ≡ count_of (plan_of last.publisher)
+        → IsClosed (joined_plan (plan_of last.publisher) passes) → IsTraced chain_identity chain_log (joined_plan (plan_of last.publisher) passes)
+        → Finishes setup first (map side opened.sides.items) (watch opened.watcher.watch) (record { sides = side_runs side dones; watch = watch last.watch; published = published; starved = last.starved })
+    finishes others published on is has leave count closed traced =
+        let by = has.watches in
+        let basis = is.ground_is in
+        let to : footing_on bk.taken bk.said (ground_of (arc_value opened.watcher.current)) ≡ setup.footing = ap (λ (g : Ground). footing_on bk.taken bk.said g) basis ∙ sym on in
+        let bundles = by.bundles in
+        let filled = (plan_of last.publisher).past.filled in
+        let sides_count = part_count (IsDone setup.most) (map side opened.sides.items) (side_runs side dones) (views_of passes) leave.done in
+        let sides_mid = mid_count (IsDone setup.most) (map side opened.sides.items) (side_runs side dones) (views_of passes) leave.done in
+        let count_is : (plan_of last.publisher).workers ≡ length (views_of passes) = has.keeps.workers ∙ has.workers ∙ is.workers ∙ sym (length-map opened.sides.items side) ∙ sym sides_count in
+        let tell = all_tell setup on bundles filled 0 (map side opened.sides.items) (side_runs side dones) (views_of passes) is.fresh leave.done
+        (subst (λ (g : Ground). AreFilledBy bundles g filled) basis by.filled) (given bundles by.count closed traced) in
+        record {
+          looks = by.looks;
+          ending = by.ending;
+          told = by.told;
+          are = subst (λ (f : Footing). AreLooks setup.source (terms_of f) (first ∷ []) by.looks) to by.are;
+          ends = subst (λ (x : Footing × List Bundle). EndsWatch (terms_of x.0) x.1 by.ending) (λ i. (to i, by.bundles_are i)) by.ends;
+          count = ap (λ (l : List Bundle). length l) (sym by.bundles_are) ∙ by.count ∙ sym count;
+          starved = subst (λ (n : ℕ). RoseJust (all_starved by.looks) n last.starved) is.watcher.starved by.starved;
+          refused = by.refused;
+          goes = has.goes;
+          scripts = scripts_are setup.most (map side opened.sides.items) (side_runs side dones) (views_of passes) leave.done;
+          pinned = map (λ q. pinned_by q) (views_of passes);
+          tell = rw (sym by.bundles_are) tell;
+          held = looks_held (plan_of last.publisher).workers (plan_of last.publisher).past (views_of passes) count_is leave.settled (plan_of last.publisher).sweeps setup.source (run_terms setup)
+              (first ∷ []) by.looks closed.sweeps (subst (λ (f : Footing). AreLooks setup.source (terms_of f) (first ∷ []) by.looks) to by.are) by.swept;
+          pins = subst (λ (k : ℕ). OnePinRun k published (side_pins (map (λ q. pinned_by q) (views_of passes)))) (count_is ∙ sides_count ∙ sym sides_mid)
+              (subst (λ (k : ℕ). OnePinRun (plan_of last.publisher).workers k (side_pins (map (λ q. pinned_by q) (views_of passes)))) (sym count)
+              (subst (OnePinRun (plan_of last.publisher).workers (count_of (plan_of last.publisher))) (pins_are (views_of passes)) closed.run));
+        }
+
+  -- a watcher that has published the first chains
+  pub watching : {W N K : Type 0} (table : PinTable (Chain B E bk ex) N K) (w : Watcher W B E bk ex) (chains : List (Chain B E bk ex)) → IsPublisherOf table w.publisher → IsOpened chains (plan_of w.publisher)
+      → AreFilled chain_identity chain_log 0 (plan_of w.publisher).past.filled → w.workers ≡ length chains → (0 < length chains) × (length chains ≤ WORKERS)
+      → All (λ chain. plans_of chain ≡ arc_value w.current) chains → ArePlans bk.taken bk.said (arc_value w.current)
+      → (arc_value w.current).names ≡ map ex.title w.stock.judges.items → Obey bk.taken bk.said ex.title ex.takes ex.ruling w.stock.judges.items → Obey bk.taken bk.said ex.title ex.takes ex.ruling w.stock.spare.items
+      → IsStanding chain_identity (plan_of w.publisher) → HasPlaces (vec_len w.stock.spare) (vec_capacity w.stock.spare) (plan_of w.publisher)
+      → (w.home.items ≡ []) × (vec_len w.home ≡ 0) × (4 * length chains ≤ vec_capacity w.home) → w.starved ≡ 0 → IsWatching table w
+  watching table w chains own opened filled workers few serve are names judges spare stands places home starved =
+      let plan = opened.1 in
+      let count : count_of (plan_of w.publisher) ≡ 1 = ap (λ (p : Plan (Chain B E bk ex)). count_of p) plan in
+      let all : take (length chains) chains ≡ chains = take_all (length chains) chains (omega arith) in
       record {
-        looks = by.looks;
-        ending = by.ending;
-        told = by.told;
-        are = subst (λ (g : Ground). AreLooks setup.source (terms_on all_taken all_pass g) (first ∷ []) by.looks) basis by.are;
-        ends = subst (λ (x : Ground × List Bundle). EndsWatch (terms_on all_taken all_pass x.0) x.1 by.ending) (λ i. (basis i, by.bundles_are i)) by.ends;
-        count = ap (λ (l : List Bundle). length l) (sym by.bundles_are) ∙ by.count ∙ sym count;
-        starved = subst (λ (n : ℕ). RoseJust (all_starved by.looks) n last.starved) is.watcher.starved by.starved;
-        refused = by.refused;
-        goes = has.goes;
-        scripts = scripts_are setup.most (map side opened.sides.items) (side_runs side dones) (views_of passes) leave.done;
-        pinned = map (λ q. pinned_by q) (views_of passes);
-        tell = rw (sym by.bundles_are) tell;
-        held = looks_held (plan_of last.publisher).workers (plan_of last.publisher).past (views_of passes) count_is leave.settled (plan_of last.publisher).sweeps setup.source (own_terms setup.default_port)
-            (first ∷ []) by.looks closed.sweeps (subst (λ (g : Ground). AreLooks setup.source (terms_on all_taken all_pass g) (first ∷ []) by.looks) basis by.are) by.swept;
-        pins = subst (λ (k : ℕ). OnePinRun k published (side_pins (map (λ q. pinned_by q) (views_of passes)))) (count_is ∙ sides_count ∙ sym sides_mid)
-            (subst (λ (k : ℕ). OnePinRun (plan_of last.publisher).workers k (side_pins (map (λ q. pinned_by q) (views_of passes)))) (sym count)
-            (subst (OnePinRun (plan_of last.publisher).workers (count_of (plan_of last.publisher))) (pins_are (views_of passes)) closed.run));
-      }
-
--- a watcher that has published the first chains
-pub watching : {W : Type 0} (table : PinTable OwnChain) (w : Watcher W) (chains : List OwnChain) → IsPublisherOf table w.publisher → IsOpened chains (plan_of w.publisher)
-    → AreFilled chain_identity chain_log 0 (plan_of w.publisher).past.filled → w.workers ≡ length chains → (0 < length chains) × (length chains ≤ WORKERS)
-    → All (λ chain. plans_of chain ≡ arc_value w.current) chains → AreOwnPlans (arc_value w.current)
-    → (w.home.items ≡ []) × (vec_len w.home ≡ 0) × (4 * length chains ≤ vec_capacity w.home) → w.starved ≡ 0 → IsWatching table w
-watching table w chains own opened filled workers few serve are home starved =
-    let plan = opened.1 in
-    let count : count_of (plan_of w.publisher) ≡ 1 = ap (λ (p : Plan OwnChain). count_of p) plan in
-    let all : take (length chains) chains ≡ chains = take_all (length chains) chains (omega arith) in
-    record {
-      keeps = record {
-        own = own;
-        filled = filled;
-        workers = ap (λ (p : Plan OwnChain). p.workers) plan ∙ sym workers;
-        some = let f = few.0 in omega (arith, workers, f);
-        few = let f = few.1 in omega (arith, workers, f);
-        joined = ap (λ (p : Plan OwnChain). p.joined) plan;
-        placed = subst IsPlaced (sym plan) (placed_opened (length chains) chains opened.0);
-        count = ap (λ (p : Plan OwnChain). length p.past.filled) plan ∙ sym count;
-        within = omega (arith, count);
-        current = record {
-          earlier = [];
-          chains = chains;
-          last_is = ap (λ (p : Plan OwnChain). p.past.filled) plan ∙ ap (λ (l : List OwnChain). l ∷ []) all;
-          serve = serve;
+        keeps = record {
+          own = own;
+          filled = filled;
+          workers = ap (λ (p : Plan (Chain B E bk ex)). p.workers) plan ∙ sym workers;
+          some = let f = few.0 in omega (arith, workers, f);
+          few = let f = few.1 in omega (arith, workers, f);
+          joined = ap (λ (p : Plan (Chain B E bk ex)). p.joined) plan;
+          placed = subst IsPlaced (sym plan) (placed_opened (length chains) chains opened.0);
+          count = ap (λ (p : Plan (Chain B E bk ex)). length p.past.filled) plan ∙ sym count;
+          within = omega (arith, count);
+          current = record {
+            earlier = [];
+            chains = chains;
+            last_is = ap (λ (p : Plan (Chain B E bk ex)). p.past.filled) plan ∙ ap (λ (l : List (Chain B E bk ex)). l ∷ []) all;
+            serve = serve;
+          };
+          are = are;
+          names = names;
+          judges = judges;
+          spare = spare;
+          stands = stands;
+          places = places;
+          home = record { none = home.0; empty = home.1; room = let h = home.2 in omega (arith, workers, h) };
         };
-        are = are;
-        home = record { none = home.0; empty = home.1; room = let h = home.2 in omega (arith, workers, h) };
-      };
-      first = count;
-      starved = starved;
-    }
+        first = count;
+        starved = starved;
+      }

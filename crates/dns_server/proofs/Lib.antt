@@ -1,3 +1,4 @@
+pub mod Sharings
 pub mod Each
 pub mod Ended
 pub mod Holding
@@ -6,3 +7,4 @@ pub mod Leaving
 pub mod Opened
 pub mod Openings
 pub mod Starting
+pub mod Stocked

@@ -1,6 +1,7 @@
 pub mod Each
 pub mod Messages
 pub mod States
+pub mod Stocking
 pub mod Opening
 pub mod Holding
 pub mod WatchRun
@@ -11,4 +12,5 @@ pub mod Telling
 pub use Rattle.chain_meaning.specs.Accepting.{IsAccepted, IsRefused}
 pub use Rattle.dns_server.specs.Report.{RunData}
 pub use Rattle.dns_server.specs.States.{RunSetup, SideRun}
+pub use Rattle.dns_server.specs.Stocking.{Program, brings}
 pub use Rattle.dns_server.specs.Telling.{IsToldRun, TellsStatus}

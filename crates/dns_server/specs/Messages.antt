@@ -1,6 +1,7 @@
 -- The line of each status, as an operator sees it. This server's own rule.
 use Rattle.std.specs.Prelude.{ℕ, List, [], ◌++◌, codes}
 use Rattle.chain_meaning.specs.{refusal_text}
+use Rattle.run_meaning.specs.{stock_text}
 use Rattle.dns_server.specs.declared.status.Status.{Status}
 use Rattle.dns_server.specs.declared.status.Status.TheVariants as status
 
@@ -13,6 +14,7 @@ status_text (status.ReadFailed name) = codes "cannot read " ++ name
 status_text status.OpenFailed = codes "cannot open"
 status_text status.TellFailed = []
 status_text (status.Refused why) = refusal_text why
+status_text (status.StockShort name asked had) = stock_text name asked had
 status_text status.NoMemory = codes "out of memory"
 status_text status.WorkerFailed = codes "a worker could not receive"
 status_text status.Ended = []

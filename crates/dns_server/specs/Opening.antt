@@ -20,7 +20,7 @@ use Rattle.corefile_blocks.specs.Ports.{ArePorts}
 use Rattle.corefile_bundle.specs.declared.fault.GatherFault.{GatherFault}
 use Rattle.chain_meaning.specs.declared.refusal.Refusal.{Refusal}
 use Rattle.chain_meaning.specs.declared.refusal.Refusal.TheVariants as refusal
-use Rattle.chain_build.specs.{own_terms}
+use Rattle.chain_meaning.specs.{Terms}
 use Rattle.chain_meaning.specs.Accepting.{IsAccepted}
 use Rattle.dns_server.specs.declared.sides.Place.{Place}
 
@@ -47,10 +47,10 @@ abbrev pub side_count : ℕ → List ℕ → ℕ
 side_count workers ports = 2 * (length ports * workers)
 
 -- the first bundle is accepted, with these ports, and its sides are no more than may be opened
-pub record WantsSides (default_port workers : ℕ) (bundle : Bundle) (sides : List OpenedSide)
+pub record WantsSides (terms : Terms) (workers : ℕ) (bundle : Bundle) (sides : List OpenedSide)
     : Type 0 where
   pub blocks : List Block
-  pub accepted : IsAccepted (own_terms default_port) bundle blocks
+  pub accepted : IsAccepted terms bundle blocks
   pub ports : List ℕ
   pub ports_are : ArePorts blocks ports
   pub some : ports ≢ []
@@ -58,12 +58,12 @@ pub record WantsSides (default_port workers : ℕ) (bundle : Bundle) (sides : Li
   pub are : sides ≡ sides_of workers ports
 
 -- what was read is a bundle that wants these sides, and others behind them
-pub record BeginsSides (default_port workers : ℕ) (sides : List OpenedSide)
+pub record BeginsSides (terms : Terms) (workers : ℕ) (sides : List OpenedSide)
     (gives : Result Bundle GatherFault) : Type 0 where
   pub bundle : Bundle
   pub got : gives ≡ Ok bundle
   pub others : List OpenedSide
-  pub wants : WantsSides default_port workers bundle (sides ++ others)
+  pub wants : WantsSides terms workers bundle (sides ++ others)
 
 -- more sides than may be opened
 abbrev pub RefusesSides : List ℕ → ℕ → Refusal → Type 0

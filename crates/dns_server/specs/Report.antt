@@ -1,6 +1,7 @@
 -- What a run reports: how each side worked, what was published, and the cause of its status. This
 -- server's own rule.
-use Rattle.std.specs.Prelude.{◌≡◌, ◌≤◌, ◌<◌, ◌≢◌, ◌⊎◌, ℕ, nat_lt, Bool, true, false, List, [], ◌∷◌, ◌++◌}
+use Rattle.std.specs.Prelude.{◌≡◌, ◌≤◌, ◌<◌, ◌≢◌, ◌⊎◌, ℕ, nat_lt, Bool, true, false, List, [], ◌∷◌}
+use Rattle.std.specs.Prelude.{◌++◌}
 use Rattle.std.specs.Prelude.{length, map, reverse}
 use Rattle.std.specs.Prelude.{Option, None, Some, IfSome, option_map, Result, Ok, Err}
 use Rattle.std.specs.List.{flat_map, AllByRecursion}
@@ -8,6 +9,8 @@ use Rattle.dns_data.specs.declared.limit.TheConstants as limits
 use Rattle.outside.specs.declared.mark.WatchMark.{WatchMark}
 use Rattle.outside.specs.Causes.{Rose, RoseBy, RoseJust, HostCounts}
 use Rattle.outside.specs.Hosts.{HostState, HostTold, IsFreshWatch, OpenedSide, SupplyData, AddsHost}
+use Rattle.outside.specs.declared.host.OpenFault.{OpenFault}
+use Rattle.outside.specs.declared.host.OpenFault.TheVariants as unopened
 use Rattle.outside.specs.Script.{SideScriptData, WatchScriptData}
 use Rattle.outside.specs.States.{SideState, WatchState}
 use Rattle.outside.specs.WatchMarks.{AddsWatch}
@@ -26,7 +29,9 @@ use Rattle.run_meaning.specs.Turn.{IsLawful}
 use Rattle.run_meaning.specs.Workers.{WorkerRun}
 use Rattle.reload_watch.specs.declared.fault.ReadFault.{ReadFault}
 use Rattle.reload_watch.specs.declared.fault.ReadFault.TheVariants as fault
-use Rattle.chain_build.specs.{PlansData, own_ground, own_terms}
+use Rattle.chain_build.specs.{PlansData}
+use Rattle.chain_build.specs.declared.building.BuildFault.{BuildFault}
+use Rattle.chain_build.specs.declared.building.BuildFault.TheVariants as unbuilt
 use Rattle.run_meaning.specs.WatchTurn.{WatchTurn}
 use Rattle.reload_watch.specs.{ReadsPlans, RoseWithin, WatchGoesOn}
 use Rattle.run_meaning.specs.WatchTurn.{AreLooks}
@@ -41,26 +46,33 @@ use Rattle.dns_server.specs.declared.status.Status.TheVariants as status
 use Rattle.command_line.specs.Command.{ServeData, IsCommand, serve}
 use Rattle.chain_meaning.specs.{Terms}
 use Rattle.chain_meaning.specs.Accepting.{IsAccepted}
+use Rattle.chain_meaning.specs.Steps.{block_extras}
+use Rattle.extra_stock.specs.{IsShort}
 use Rattle.dns_server.specs.Holding.{AreHeld, AreHeldBehind}
-use Rattle.dns_server.specs.Opening.{BeginsSides, RefusesSides, TakesSides, WantsSides, scripts_of}
-use Rattle.dns_server.specs.States.{RunSetup, SideRun, setup_of, side_runs}
+use Rattle.dns_server.specs.Opening.{BeginsSides, RefusesSides, TakesSides, WantsSides}
+use Rattle.dns_server.specs.Opening.{scripts_of, side_count}
+use Rattle.dns_server.specs.States.{RunSetup, SideRun, run_terms, setup_of, side_runs}
+use Rattle.dns_server.specs.Stocking.{Program, StockData, count_name, stock_data}
 use Rattle.dns_server.specs.WatchRun.{WatchRun}
 
--- what a report has
+-- what a report has; of its stock the names alone
 pub record RunData : Type 0 where
   pub status : Status
   pub sides : List SideRun
   pub watch : Option WatchState
   pub published : ℕ
+  pub stock : StockData
   pub starved : ℕ
 
--- what a run leaves, by what the types of its sides and its watch tell
-abbrev pub run_data : {S W : Type 0} → (S → SideState) → (W → WatchState) → Ran S W → RunData
-run_data side watch ran = record {
+-- what a run leaves, by what the types of its sides, its watch and its extras tell
+abbrev pub run_data : {S W E : Type 0} → (S → SideState) → (W → WatchState) → (E → List ℕ)
+    → Ran S W E → RunData
+run_data side watch title ran = record {
   status = ran.status;
   sides = side_runs side ran.sides.items;
   watch = option_map watch ran.watch;
   published = ran.published;
+  stock = stock_data title ran.stock;
   starved = ran.starved;
 }
 
@@ -71,7 +83,7 @@ run_data side watch ran = record {
 pub record TellsRun (setup : RunSetup) (bundles : List Bundle) (pinned : List ℕ) (side : SideRun)
     : Type 0 where
   pub run : IfSome side.state.journal
-      (WorkerRun (IsLawful bundles (own_terms setup.default_port)) setup.most pinned side.worked)
+      (WorkerRun (IsLawful bundles (run_terms setup)) setup.most pinned side.worked)
   pub at_most : side.worked.taken ≤ setup.most
   pub seen : side.worked.seen < length bundles
   pub last : side.worked.seen ≡ last_seen pinned
@@ -106,8 +118,8 @@ pub record Finishes (setup : RunSetup) (first : Bundle) (sides : List SideState)
   pub looks : List WatchTurn
   pub ending : List WatchMark
   pub told : AddsWatch watch left.watch (flat_map watch_marks looks ++ ending)
-  pub are : AreLooks setup.source (own_terms setup.default_port) (first ∷ []) looks
-  pub ends : EndsWatch (own_terms setup.default_port) (bundles_of first looks) ending
+  pub are : AreLooks setup.source (run_terms setup) (first ∷ []) looks
+  pub ends : EndsWatch (run_terms setup) (bundles_of first looks) ending
   pub count : length (bundles_of first looks) ≡ left.published
   pub starved : RoseJust (all_starved looks) 0 left.starved
   pub refused : RoseWithin (all_refused looks) (all_starved looks) watch.refusals
@@ -172,9 +184,9 @@ pub record ReadGave (setup : RunSetup) (run : RunData) (P : Result Bundle Gather
 -- first ones of the bundle that it read
 abbrev pub OpensSides : RunSetup → RunData → List Bundle → List OpenedSide → Type 0
 OpensSides setup run [] sides =
-    (sides ≡ []) ⊎ ReadGave setup run (BeginsSides setup.default_port setup.workers sides)
+    (sides ≡ []) ⊎ ReadGave setup run (BeginsSides (run_terms setup) setup.workers sides)
 OpensSides setup run (bundle ∷ others) sides =
-    WantsSides setup.default_port setup.workers bundle sides
+    WantsSides (run_terms setup) setup.workers bundle sides
 
 -- a run by a command: one list of published bundles stands behind the watch's looks, the sides that
 -- were opened, and each side's journal; the pins and unpins of all sides and the publications are
@@ -182,7 +194,7 @@ OpensSides setup run (bundle ∷ others) sides =
 pub record ServesBy (setup : RunSetup) (run : RunData) (before after : HostState) : Type 0 where
   pub bundles : List Bundle
   pub count : length bundles ≡ run.published
-  pub accepted : AllByRecursion (IsServed (own_terms setup.default_port)) bundles
+  pub accepted : AllByRecursion (IsServed (run_terms setup)) bundles
   pub watch : run.published ≢ 0 → run.watch ≢ None
   pub looks : List WatchTurn
   pub watched : WatchRun setup bundles looks run.watch run.starved
@@ -208,21 +220,39 @@ pub record IsRefused (run : RunData) (P : Type 0) : Type 0 where
   pub watch : run.watch ≢ None
   pub why : P
 
+-- the first bundle is accepted, with these blocks and ports, and a fact of them
+pub record WasAcceptedAs (setup : RunSetup) (gives : Result Bundle GatherFault)
+    (P : List Block → List ℕ → Type 0) : Type 0 where
+  pub bundle : Bundle
+  pub got : gives ≡ Ok bundle
+  pub blocks : List Block
+  pub accepted : IsAccepted (run_terms setup) bundle blocks
+  pub ports : List ℕ
+  pub ports_are : ArePorts blocks ports
+  pub is : P blocks ports
+
 -- the first bundle is accepted, with these ports, and a fact of them
 pub record WasAccepted (setup : RunSetup) (gives : Result Bundle GatherFault)
     (P : List ℕ → Type 0) : Type 0 where
   pub bundle : Bundle
   pub got : gives ≡ Ok bundle
   pub blocks : List Block
-  pub accepted : IsAccepted (own_terms setup.default_port) bundle blocks
+  pub accepted : IsAccepted (run_terms setup) bundle blocks
   pub ports : List ℕ
   pub ports_are : ArePorts blocks ports
   pub is : P ports
 
+-- the first bundle asks for more extras of a name than these spares have: as many as its directives
+-- of that name times the sides. It is the first such name in the order of the text.
+abbrev pub WasShort : RunSetup → List (List ℕ) → List ℕ → ℕ → ℕ → Result Bundle GatherFault → Type 0
+WasShort setup spare name asked had gives =
+    WasAcceptedAs setup gives (λ blocks ports. IsShort (side_count setup.workers ports)
+    (map block_extras blocks) (λ n. count_name n spare) name asked had)
+
 -- what was read is refused for this, or its sides are
 abbrev pub ReadWasRefused : RunSetup → Refusal → Result Bundle GatherFault → Type 0
 ReadWasRefused setup why gives =
-    Refuses (own_terms setup.default_port) gives why
+    Refuses (run_terms setup) gives why
     ⊎ WasAccepted setup gives (λ ports. RefusesSides ports setup.workers why)
 
 -- the first bundle has no port, so that there is nothing to serve
@@ -278,6 +308,8 @@ CauseOf status.OpenFailed setup run before after =
 CauseOf status.TellFailed setup run before after = ⊥
 CauseOf (status.Refused why) setup run before after =
     IsRefused run (ReadGave setup run (ReadWasRefused setup why))
+CauseOf (status.StockShort name asked had) setup run before after =
+    IsRefused run (ReadGave setup run (WasShort setup run.stock.spare name asked had))
 CauseOf status.NoMemory setup run before after = Unit {0}
 CauseOf status.WorkerFailed setup run before after = HasFailed run
 CauseOf status.Ended setup run before after = HasEnded setup run
@@ -288,7 +320,7 @@ pub record ServesBehind (setup : RunSetup) (run : RunData) (watch : WatchState)
     (before after : HostState) : Type 0 where
   pub bundles : List Bundle
   pub count : length bundles ≡ run.published
-  pub accepted : AllByRecursion (IsServed (own_terms setup.default_port)) bundles
+  pub accepted : AllByRecursion (IsServed (run_terms setup)) bundles
   pub handed : WatchState
   pub watch_is : run.watch ≡ Some handed
   pub script : handed.script ≡ watch.script
@@ -330,7 +362,7 @@ RefusesNone before after = (after.script ≡ before.script) × (after.refusals �
 abbrev pub RunsPlans : RunSetup → PlansData → RunData → WatchState → HostState → HostState → Type 0
 RunsPlans setup plans run watch before after =
     (fresh : WatchState) → IsFreshWatch fresh → RefusesNone fresh watch
-    → ReadsPlans setup.source (own_ground setup.default_port) fresh watch plans
+    → ReadsPlans setup.source setup.footing fresh watch plans
     → RunsBehind setup run fresh before after
 
 -- a run by a command
@@ -350,11 +382,11 @@ pub record IsIdle (words : List (List ℕ)) (run : RunData) (before after : Host
   pub host : after ≡ before
 
 -- the words ask to serve so, and the run is by that
-pub record IsByCommand (words : List (List ℕ)) (env : List Pair) (run : RunData)
-    (before after : HostState) : Type 0 where
+pub record IsByCommand (program : Program) (words : List (List ℕ)) (env : List Pair)
+    (run : RunData) (before after : HostState) : Type 0 where
   pub how : ServeData
   pub words_are : IsCommand words (serve how)
-  pub runs : RunsCommand (setup_of env how) run before after
+  pub runs : RunsCommand (setup_of program env how) run before after
 
 -- the status of a run by how its workers ended and how often they and the looks met want of memory
 abbrev pub IsEndStatus : List SideRun → ℕ → Status → Type 0
@@ -363,6 +395,7 @@ IsEndStatus sides looking (status.ReadFailed name) = ⊥
 IsEndStatus sides looking status.OpenFailed = ⊥
 IsEndStatus sides looking status.TellFailed = ⊥
 IsEndStatus sides looking (status.Refused refusal) = ⊥
+IsEndStatus sides looking (status.StockShort name asked had) = ⊥
 IsEndStatus sides looking status.NoMemory = Unit {0}
 IsEndStatus sides looking status.WorkerFailed =
     AllByRecursion NeverStarved sides × SomeFailed sides × (looking ≡ 0)
@@ -375,11 +408,27 @@ IsFirstStatus (fault.ReadFailed name) how = how ≡ status.ReadFailed name
 IsFirstStatus fault.NoMemory how = how ≡ status.NoMemory
 
 -- what a run is, by its words, before its status is told
-abbrev pub IsRunOf : List (List ℕ) → List Pair → RunData → HostState → HostState → Type 0
-IsRunOf words env run before after =
-    IsIdle words run before after ⊎ IsByCommand words env run before after
+abbrev pub IsRunOf : Program → List (List ℕ) → List Pair → RunData → HostState → HostState → Type 0
+IsRunOf program words env run before after =
+    IsIdle words run before after ⊎ IsByCommand program words env run before after
 
--- a run that ended before anything was served
-abbrev pub stopped_run : Status → Option WatchState → RunData
-stopped_run how watch =
-    record { status = how; sides = []; watch = watch; published = 0; starved = 0 }
+-- a run that ended before anything was served, with this stock
+abbrev pub stopped_run : Status → Option WatchState → StockData → RunData
+stopped_run how watch stock = record {
+  status = how;
+  sides = [];
+  watch = watch;
+  published = 0;
+  stock = stock;
+  starved = 0;
+}
+
+-- the status of a run whose first chains could not be built
+abbrev pub build_status : BuildFault → Status
+build_status (unbuilt.StockShort name asked had) = status.StockShort name asked had
+build_status unbuilt.NoMemory = status.NoMemory
+
+-- that of one whose sides could not be opened
+abbrev pub open_status : OpenFault → Status
+open_status unopened.Failed = status.OpenFailed
+open_status unopened.NoMemory = status.NoMemory

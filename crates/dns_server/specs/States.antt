@@ -5,32 +5,40 @@ use Rattle.command_line.specs.Command.{ServeData}
 use Rattle.corefile_words.specs.declared.word.Pair.{Pair}
 use Rattle.corefile_bundle.specs.Gathering.{Source}
 use Rattle.run_meaning.specs.Workers.{Worked}
-use Rattle.reload_watch.specs.{source_data}
+use Rattle.plugin_api.specs.{Sayings, Takings}
+use Rattle.chain_meaning.specs.{Terms, ground_at}
+use Rattle.reload_watch.specs.{Footing, footing_on, source_data, terms_of}
 use Rattle.dns_server.specs.declared.setup.Setup.{Setup}
 use Rattle.dns_server.specs.declared.report.Done.{Done}
+use Rattle.dns_server.specs.Stocking.{Program, footing_of}
 
--- what a run is set to: the Corefile to serve by and the environment, the port of keys that name
--- none, how many workers an endpoint has, and how many datagrams a worker takes at most
+-- what a run is set to: the Corefile to serve by and the environment, what reading it stands on,
+-- how many workers an endpoint has, and how many datagrams a worker takes at most
 pub record RunSetup : Type 0 where
   pub source : Source
-  pub default_port : ℕ
+  pub footing : Footing
   pub workers : ℕ
   pub most : ℕ
 
-abbrev pub setup_of : List Pair → ServeData → RunSetup
-setup_of env serve =
+-- what all of a run's configurations stand on
+abbrev pub run_terms : RunSetup → Terms
+run_terms setup = terms_of setup.footing
+
+abbrev pub setup_of : Program → List Pair → ServeData → RunSetup
+setup_of program env serve =
     record {
       source = record { conf = serve.conf; env = env };
-      default_port = serve.port;
+      footing = footing_of program serve.port;
       workers = serve.workers;
       most = serve.most;
     }
 
-abbrev pub run_setup : Setup → RunSetup
-run_setup setup =
+-- with judges of these names
+abbrev pub run_setup : Setup → Takings → Sayings → List (List ℕ) → RunSetup
+run_setup setup taken said judges =
     record {
       source = source_data setup.source;
-      default_port = setup.port;
+      footing = footing_on taken said (ground_at setup.port judges);
       workers = setup.workers;
       most = setup.most;
     }

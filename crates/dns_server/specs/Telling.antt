@@ -9,6 +9,7 @@ use Rattle.dns_server.specs.declared.status.Status.{Status}
 use Rattle.dns_server.specs.declared.status.Status.TheVariants as status
 use Rattle.dns_server.specs.Messages.{status_text}
 use Rattle.dns_server.specs.Report.{RunData, IsRunOf}
+use Rattle.dns_server.specs.Stocking.{Program}
 
 -- the status where its line could not be told: a cause that comes before serving stays
 abbrev pub untold : Status → Status
@@ -17,6 +18,7 @@ untold (status.ReadFailed name) = status.ReadFailed name
 untold status.OpenFailed = status.OpenFailed
 untold status.TellFailed = status.TellFailed
 untold (status.Refused why) = status.TellFailed
+untold (status.StockShort name asked had) = status.TellFailed
 untold status.NoMemory = status.TellFailed
 untold status.WorkerFailed = status.TellFailed
 untold status.Ended = status.TellFailed
@@ -48,9 +50,9 @@ pub record TellsStatus (how final : Status) (before after : HostState) : Type 0 
   pub tells : TellsLine (status_text named) named final before after
 
 -- a whole run: what it did by its words, and then the line of the status that it came to
-pub record IsToldRun (words : List (List ℕ)) (env : List Pair) (run : RunData)
+pub record IsToldRun (program : Program) (words : List (List ℕ)) (env : List Pair) (run : RunData)
     (before after : HostState) : Type 0 where
   pub how : Status
   pub quiet : HostState
-  pub runs : IsRunOf words env (record run { status = how }) before quiet
+  pub runs : IsRunOf program words env (record run { status = how }) before quiet
   pub tells : TellsStatus how run.status quiet after

@@ -12,11 +12,12 @@ mod running;
 mod setup;
 mod sides;
 mod status;
+mod stocking;
 mod telling;
 
 pub use chain_meaning::Refusal;
 pub use report::{Done, Report};
 pub use run_meaning::WorkEnd;
-pub use running::run;
+pub use running::{run, run_with};
 pub use status::Status;
 pub use telling::tell_status;

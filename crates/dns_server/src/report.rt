@@ -1,4 +1,5 @@
 use crate::status::Status;
+use extra_stock::Stock;
 use outside::Host;
 use run_meaning::WorkEnd;
 
@@ -15,25 +16,28 @@ pub struct Done<S> {
     pub starved: u64,
 }
 
-/// What a run leaves, by the types of its sides and of its watch.
+/// What a run leaves, by the types of its sides, of its watch and of its extras.
 #[derive(Drop)]
-pub(crate) struct Ran<S, W> {
+pub(crate) struct Ran<S, W, E> {
     pub status: Status,
     pub sides: Vec<Done<S>>,
     pub watch: Option<W>,
     pub published: u64,
+    pub stock: Stock<E>,
     pub starved: u64,
 }
 
 /// What a run leaves: its sides, in the order in which they were opened, and its watch where that
 /// was opened.
 #[derive(Drop)]
-pub struct Report<H: Host> {
+pub struct Report<H: Host, E> {
     pub status: Status,
     pub sides: Vec<Done<H::Side>>,
     pub watch: Option<H::Watch>,
     /// How many generations were published.
     pub published: u64,
+    /// The extras that were handed in: a judge of each name, and all others.
+    pub stock: Stock<E>,
     /// In how many looks for a changed configuration it met want of memory.
     pub starved: u64,
 }

@@ -11,9 +11,10 @@ ghost use Rattle.dns_server.specs.Roles.{AreStarting, AreWorking, Becomes, IsPar
 ghost use Rattle.dns_server.specs.Roles.{task_of};
 
 use crate::report::Done;
-use chain_build::OwnChain;
+use chain_build::Chain;
 use outside::{Side, Watch};
 use pin_table::{Pass, PinTable};
+use plugin_api::{Extra, Rulebook};
 use query_worker::{Worker, work};
 use reload_watch::{Source, Watcher, watch};
 use run_meaning::WorkEnd;
@@ -24,23 +25,28 @@ use std::thread::Threads;
 
 /// What one thread does: a worker, with how it ended, or the watcher.
 #[derive(Drop)]
-pub(crate) enum Role<S, W> {
-    Work(Worker<S>, Option<WorkEnd>),
-    Watch(Watcher<W>),
+pub(crate) enum Role<S, W, B: Rulebook, E: Extra> {
+    Work(Worker<S, B, E>, Option<WorkEnd>),
+    Watch(Watcher<W, B, E>),
 }
 
 /// What all roles share.
-#[derive(Clone, Copy)]
-pub(crate) struct Shared<'a> {
-    pub table: &'a PinTable<OwnChain>,
+#[derive(Drop)]
+pub(crate) struct Shared<'a, B: Rulebook, E: Extra> {
+    pub table: &'a PinTable<Chain<B, E>>,
     pub source: Source<'a>,
     pub most: u64,
 }
 
 // What a role does until it has ended.
-fn act<R: Wait, S: Side, W: Watch>(rt: &R, alloc: Global, shared: Shared<'_>, role: &mut Role<S, W>)
-    requires ready { IsReady S.state (task_of shared) role.old }
-    ensures { Becomes S.state W.state (task_of shared.entry) role.old role.new }
+fn act<R: Wait, S: Side, W: Watch, B: Rulebook, E: Extra>(
+    rt: &R,
+    alloc: Global,
+    shared: &Shared<'_, B, E>,
+    role: &mut Role<S, W, B, E>,
+)
+    requires ready { IsReady S.state (task_of shared.now) role.old }
+    ensures { Becomes S.state W.state (task_of shared.now) role.old role.new }
 {
     match role {
         Role::Work(worker, end) => {
@@ -53,38 +59,41 @@ fn act<R: Wait, S: Side, W: Watch>(rt: &R, alloc: Global, shared: Shared<'_>, ro
 }
 
 /// All roles act, the workers first and the watcher last, and all have ended behind it.
-pub(crate) fn act_all<R: Threads + Wait + Sync, S: Side + Send + Drop, W: Watch + Send + Drop>(
-    rt: &R,
-    alloc: Global,
-    shared: Shared<'_>,
-    roles: &mut Vec<Role<S, W>>,
-)
-    requires ready { All (IsReady S.state (task_of shared)) roles.old.items }
-    ensures { AllZip (Becomes S.state W.state (task_of shared.entry)) roles.old.items
+pub(crate) fn act_all<
+    R: Threads + Wait + Sync,
+    S: Side + Send + Drop,
+    W: Watch + Send + Drop,
+    B: Rulebook + Send + Sync,
+    E: Extra + Send,
+>(rt: &R, alloc: Global, shared: &Shared<'_, B, E>, roles: &mut Vec<Role<S, W, B, E>>)
+    requires ready { All (IsReady S.state (task_of shared.now)) roles.old.items }
+    ensures { AllZip (Becomes S.state W.state (task_of shared.now)) roles.old.items
         roles.new.items }
 {
     act_each(rt, alloc, shared, roles.as_mut_slice());
 }
 
-fn act_each<R: Threads + Wait + Sync, S: Side + Send + Drop, W: Watch + Send + Drop>(
-    rt: &R,
-    alloc: Global,
-    shared: Shared<'_>,
-    roles: &mut [Role<S, W>],
-)
-    requires ready { All (IsReady S.state (task_of shared)) roles.old }
+fn act_each<
+    R: Threads + Wait + Sync,
+    S: Side + Send + Drop,
+    W: Watch + Send + Drop,
+    B: Rulebook + Send + Sync,
+    E: Extra + Send,
+>(rt: &R, alloc: Global, shared: &Shared<'_, B, E>, roles: &mut [Role<S, W, B, E>])
+    requires ready { All (IsReady S.state (task_of shared.now)) roles.old }
     ensures { (length roles.new ≡ length roles.old)
         × ((k : ℕ) (d : _) → k < length roles.old
-        → Becomes S.state W.state (task_of shared.entry) (slice_index_or roles.old k d)
+        → Becomes S.state W.state (task_of shared.now) (slice_index_or roles.old k d)
         (slice_index_or roles.new k d)) }
 {
     let threads = roles.len();
     if threads == 0 {
         return;
     }
-    let run = |_at: usize, role: &mut Role<S, W>|
-        requires { IsReady S.state (task_of shared) role.now }
-        ensures { Becomes S.state W.state (task_of shared.entry) role.entry.now role.exit.now }
+    let run = |_at: usize, role: &mut Role<S, W, B, E>|
+        requires { IsReady S.state (task_of shared.now) role.now }
+        ensures { Becomes S.state W.state (task_of shared.entry.now) role.entry.now
+            role.exit.now }
     {
         act(rt, alloc, shared, role);
     };
@@ -92,12 +101,12 @@ fn act_each<R: Threads + Wait + Sync, S: Side + Send + Drop, W: Watch + Send + D
 }
 
 /// A worker for each side, in their order, with the passes from the first on.
-pub(crate) fn push_workers<S: Side + Drop, W>(
+pub(crate) fn push_workers<S: Side + Drop, W, B: Rulebook, E: Extra>(
     alloc: Global,
-    table: &PinTable<OwnChain>,
+    table: &PinTable<Chain<B, E>>,
     sides: Vec<S>,
-    passes: &mut Vec<Pass<OwnChain>>,
-    roles: &mut Vec<Role<S, W>>,
+    passes: &mut Vec<Pass<Chain<B, E>>>,
+    roles: &mut Vec<Role<S, W, B, E>>,
 )
     requires passes { ArePasses (id_of table.now) 1 passes.old.items }
     requires each { length passes.old.items ≡ length sides.items }
@@ -116,10 +125,10 @@ pub(crate) fn push_workers<S: Side + Drop, W>(
 }
 
 /// What workers that have ended leave, and their passes.
-pub(crate) fn part<S: Drop, W: Drop>(
-    roles: Vec<Role<S, W>>,
+pub(crate) fn part<S: Drop, W: Drop, B: Rulebook, E: Extra>(
+    roles: Vec<Role<S, W, B, E>>,
     dones: &mut Vec<Done<S>>,
-    passes: &mut Vec<Pass<OwnChain>>,
+    passes: &mut Vec<Pass<Chain<B, E>>>,
 )
     requires workers { AreWorking roles.items }
     requires none { (dones.old.items ≡ []) × (passes.old.items ≡ []) }

@@ -1,19 +1,22 @@
 //! What a run needs memory for before it opens anything.
-ghost use Rattle.std.specs.Prelude.{◌≡◌, ◌≤◌, ◌<◌, ◌+◌, ◌*◌, [], length, map, IfOk};
+ghost use Rattle.std.specs.Prelude.{◌≡◌, ◌≤◌, ◌<◌, ◌+◌, ◌*◌, ℕ, List, [], length, map, IfOk, OnErr};
 ghost use Rattle.std.specs.Arc.{arc_value};
 ghost use Rattle.std.specs.List.{All};
 ghost use Rattle.std.specs.Vec.{vec_capacity, vec_len};
 ghost use Rattle.dns_data.specs.declared.limit.TheConstants as limits;
+ghost use Rattle.extra_stock.specs.{in_chains, is_named, names_weigh, seats_of_chains};
 ghost use Rattle.pin_table.specs.{AreNew};
-ghost use Rattle.chain_build.specs.{chain_identity, chain_log, plans_of};
+ghost use Rattle.plugin_api.specs.{Obey};
+ghost use Rattle.chain_build.specs.{Builds, chain_extras, chain_identity, chain_log, plans_of};
 ghost use Rattle.dns_server.specs.Opening.{place_of, sides_of, side_count};
 
 use crate::report::Done;
 use crate::roles::Role;
 use crate::sides::{Place, places_of};
-use chain_build::{OwnChain, OwnPlans, build};
+use chain_build::{BuildFault, Chain, Plans, build};
 use dns_data::NoMemory;
-use reload_watch::no_stock;
+use extra_stock::Stock;
+use plugin_api::{Extra, Rulebook};
 use std::alloc::Global;
 use std::sync::Arc;
 
@@ -21,21 +24,28 @@ use std::sync::Arc;
 /// sides, for their workers and the watcher, for what they leave, and for the chains of four
 /// generations.
 #[derive(Drop)]
-pub(crate) struct Rooms<S, W> {
-    pub plans: Arc<OwnPlans>,
+pub(crate) struct Rooms<S, W, B: Rulebook, E: Extra> {
+    pub plans: Arc<Plans<B>>,
     pub places: Vec<Place>,
-    pub chains: Vec<OwnChain>,
+    pub chains: Vec<Chain<B, E>>,
     pub sides: Vec<S>,
-    pub roles: Vec<Role<S, W>>,
+    pub roles: Vec<Role<S, W, B, E>>,
     pub dones: Vec<Done<S>>,
-    pub home: Vec<OwnChain>,
+    pub home: Vec<Chain<B, E>>,
 }
 
-impl<S: Drop, W: Drop> Rooms<S, W> {
-    /// So many workers an endpoint.
-    pub fn new(alloc: Global, plans: OwnPlans, workers: u64) -> Result<Rooms<S, W>, NoMemory>
+impl<S: Drop, W: Drop, B: Rulebook, E: Extra> Rooms<S, W, B, E> {
+    /// So many workers an endpoint. The chains are built last, so that want of memory leaves their
+    /// extras in the stock.
+    pub fn new(
+        alloc: Global,
+        plans: Plans<B>,
+        workers: u64,
+        stock: &mut Stock<E>,
+    ) -> Result<Rooms<S, W, B, E>, BuildFault>
         requires few { side_count workers plans.ports ≤ limits.WORKERS }
         requires workers { workers ≤ limits.WORKERS }
+        requires obey { Obey B.taken B.said E.title E.takes E.ruling stock.old.spare.items }
         ensures plans { IfOk result (λ rooms. arc_value rooms.plans ≡ plans) }
         ensures places { IfOk result
             (λ rooms. map place_of rooms.places.items ≡ sides_of workers plans.ports) }
@@ -50,18 +60,44 @@ impl<S: Drop, W: Drop> Rooms<S, W> {
         ensures room { IfOk result (λ rooms. let count = length rooms.places.items in
             (count ≤ vec_capacity rooms.sides) × (count + 1 ≤ vec_capacity rooms.roles)
             × (count ≤ vec_capacity rooms.dones) × (4 * count ≤ vec_capacity rooms.home)) }
+        ensures stock { Builds (side_count workers plans.ports) plans.extras
+            (λ n. names_weigh E.title (is_named n) stock.old.spare.items) result }
+        ensures spares { IfOk result (λ rooms. vec_len stock.new.spare
+            + seats_of_chains chain_extras rooms.chains.items ≤ vec_capacity stock.new.spare) }
+        ensures weighs { (w : List ℕ → ℕ) → IfOk result
+            (λ rooms. names_weigh E.title w stock.new.spare.items
+            + in_chains chain_extras w rooms.chains.items
+            ≡ names_weigh E.title w stock.old.spare.items) }
+        ensures err { (w : List ℕ → ℕ) → OnErr result (names_weigh E.title w stock.new.spare.items
+            ≡ names_weigh E.title w stock.old.spare.items) }
+        ensures judges { stock.new.judges ≡ stock.old.judges }
+        ensures obey { Obey B.taken B.said E.title E.takes E.ruling stock.new.spare.items }
+    {
+        let mut rooms = Rooms::empty(alloc, plans, workers)?;
+        let count = rooms.places.len() as u64;
+        rooms.chains = build(alloc, &rooms.plans, 0, count, stock)?;
+        Ok(rooms)
+    }
+
+    // The same before there are any chains.
+    fn empty(alloc: Global, plans: Plans<B>, workers: u64) -> Result<Rooms<S, W, B, E>, NoMemory>
+        requires few { side_count workers plans.ports ≤ limits.WORKERS }
+        requires workers { workers ≤ limits.WORKERS }
+        ensures plans { IfOk result (λ rooms. arc_value rooms.plans ≡ plans) }
+        ensures places { IfOk result
+            (λ rooms. map place_of rooms.places.items ≡ sides_of workers plans.ports) }
+        ensures none { IfOk result (λ rooms. (rooms.sides.items ≡ []) × (rooms.roles.items ≡ [])
+            × (rooms.dones.items ≡ []) × (rooms.home.items ≡ []) × (vec_len rooms.home ≡ 0)) }
+        ensures room { IfOk result (λ rooms. let count = length rooms.places.items in
+            (count ≤ vec_capacity rooms.sides) × (count + 1 ≤ vec_capacity rooms.roles)
+            × (count ≤ vec_capacity rooms.dones) × (4 * count ≤ vec_capacity rooms.home)) }
     {
         let places = places_of(alloc, plans.ports.as_slice(), workers)?;
         let count = places.len();
-        let plans = Arc::new(alloc, plans)?;
-        let mut stock = no_stock(alloc);
-        let Ok(chains) = build(alloc, &plans, 0, count as u64, &mut stock) else {
-            return Err(NoMemory);
-        };
         Ok(Rooms {
-            plans,
+            plans: Arc::new(alloc, plans)?,
             places,
-            chains,
+            chains: Vec::new(alloc),
             sides: Vec::with_capacity(alloc, count)?,
             roles: Vec::with_capacity(alloc, count + 1)?,
             dones: Vec::with_capacity(alloc, count)?,

@@ -13,6 +13,8 @@ pub enum Status {
     /// The line of another status could not be told.
     TellFailed,
     Refused(Refusal),
+    /// The first configuration asks for more extras of a name than the program brings.
+    StockShort { name: Text, asked: u64, had: u64 },
     NoMemory,
     /// A worker could not receive any more.
     WorkerFailed,
@@ -34,6 +36,9 @@ impl Display for Status {
             Status::ReadFailed(name) => write!(f, "cannot read {}", name.as_str()),
             Status::OpenFailed => f.write_str("cannot open"),
             Status::Refused(refusal) => write!(f, "{refusal}"),
+            Status::StockShort { name, asked, had } => {
+                write!(f, "stock of {}: asked {asked}, had {had}", name.as_str())
+            }
             Status::NoMemory => f.write_str("out of memory"),
             Status::WorkerFailed => f.write_str("a worker could not receive"),
             Status::TellFailed | Status::Ended => Ok(()),

@@ -9,6 +9,7 @@ exit_number (status.ReadFailed name) = 3
 exit_number status.OpenFailed = 3
 exit_number status.TellFailed = 3
 exit_number (status.Refused refusal) = 1
+exit_number (status.StockShort name asked had) = 5
 exit_number status.NoMemory = 4
 exit_number status.WorkerFailed = 6
 exit_number status.Ended = 0

@@ -1,9 +1,13 @@
-//! Tests of the order in which workers and watch of a server go on, over hosts in memory whose sides
-//! wait for one another.
+//! Tests of the order in which workers and watch of a server go on, over hosts in memory whose
+//! sides wait for one another, and of runs with extras.
 #![tactic(auto)]
 
 #[cfg(test)]
+mod extras;
+#[cfg(test)]
 mod orders;
+#[cfg(test)]
+mod replies;
 #[cfg(test)]
 mod scripts;
 #[cfg(test)]

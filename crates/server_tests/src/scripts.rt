@@ -4,11 +4,13 @@ ghost use Rattle.std.specs.List.{All};
 ghost use Rattle.outside_mem.specs.Unused.{IsUnusedSide, IsUnusedWatch};
 
 use crate::stage::Stage;
-use crate::staged_host::StagedHost;
+use crate::staged_host::{StagedHost, Staging};
 use dns_data::{Addr, Buffer, NoMemory, Text, Transport};
-use dns_server::{Report, run};
+use dns_server::{Report, run_with};
+use extra_stock::{Passing, PassingBook};
 use outside::{Datagram, FileSet, SideScript, WatchScript};
 use outside_mem::{MemHost, MemSide, MemWatch};
+use sinkhole_plugin::{Sinkhole, SinkholeBook};
 use std::alloc::Global;
 use std::sync::{Arc, Wait};
 use std::thread::Threads;
@@ -17,12 +19,22 @@ use std::thread::Threads;
 pub const QUERY: &[u8; 29] =
     b"\x12\x34\x01\x00\x00\x01\x00\x00\x00\x00\x00\x00\x07example\x03org\x00\x00\x01\x00\x01";
 
-// A script that gives the query so many times, from 127.0.0.1, port 4000, over UDP to port 53.
+// The query with type A, or with AAAA where its number is odd.
+fn query(number: u32) -> [u8; 29] {
+    let mut bytes = *QUERY;
+    if number % 2 == 1 {
+        bytes[26] = 28;
+    }
+    bytes
+}
+
+// A script that gives the query so many times, from 127.0.0.1, port 4000, over UDP to port 53: first
+// with type A, then with AAAA, and so on.
 fn script(alloc: Global, queries: u32) -> Result<SideScript, NoMemory> {
     let mut gets = Vec::new(alloc);
-    for _ in 0..queries {
+    for number in 0..queries {
         gets.push(Datagram {
-            bytes: Buffer::from_slice(alloc, QUERY)?,
+            bytes: Buffer::from_slice(alloc, &query(number))?,
             client: Addr::V4(0x7f00_0001),
             port: 4000,
             by: Transport::Udp,
@@ -68,8 +80,14 @@ fn watch(alloc: Global, corefiles: &[&[u8]]) -> Result<MemWatch, NoMemory>
     MemWatch::new(alloc, script)
 }
 
-/// A host whose watch finds these Corefiles, and whose sides give the query so many times each.
-pub fn host(alloc: Global, corefiles: &[&[u8]], queries: &[u32]) -> Result<StagedHost, NoMemory> {
+/// A host whose watch finds these Corefiles, whose sides give the query so many times each, and
+/// whose parties wait so for one another.
+pub fn host(
+    alloc: Global,
+    corefiles: &[&[u8]],
+    queries: &[u32],
+    staging: Staging,
+) -> Result<StagedHost, NoMemory> {
     let watch = watch(alloc, corefiles)?;
     let sides = sides(alloc, queries)?;
     let host = MemHost::new(alloc, sides, watch);
@@ -77,7 +95,7 @@ pub fn host(alloc: Global, corefiles: &[&[u8]], queries: &[u32]) -> Result<Stage
     Ok(StagedHost {
         host,
         stage,
-        pair: queries.len() == 2,
+        staging,
     })
 }
 
@@ -90,13 +108,37 @@ fn texts(alloc: Global, words: &str) -> Result<Vec<Text>, NoMemory> {
     Ok(texts)
 }
 
-/// A run by these words.
-pub fn ran(
-    rt: &(impl Threads + Wait + Sync),
+/// A run by these words, without extras.
+pub fn ran<R: Threads + Wait + Sync>(
+    rt: &R,
     alloc: Global,
     words: &str,
     host: &mut StagedHost,
-) -> Result<Report<StagedHost>, NoMemory> {
+) -> Result<Report<StagedHost, Passing>, NoMemory> {
     let words = texts(alloc, words)?;
-    Ok(run(rt, alloc, &words, &[], host))
+    let none: Vec<Passing> = Vec::new(alloc);
+    Ok(run_with::<R, StagedHost, PassingBook, Passing>(rt, alloc, &words, &[], host, none))
+}
+
+// So many sinkholes.
+fn sinkholes(alloc: Global, count: u32) -> Result<Vec<Sinkhole>, NoMemory> {
+    let mut sinkholes = Vec::new(alloc);
+    for _ in 0..count {
+        sinkholes.push(Sinkhole::new())?;
+    }
+    Ok(sinkholes)
+}
+
+/// A run by these words, with so many sinkholes.
+#[tactic(auto, using(sinkhole_plugin::specs::SinkholeLaws::sinkholes_obey))]
+pub fn ran_with<R: Threads + Wait + Sync>(
+    rt: &R,
+    alloc: Global,
+    words: &str,
+    host: &mut StagedHost,
+    count: u32,
+) -> Result<Report<StagedHost, Sinkhole>, NoMemory> {
+    let words = texts(alloc, words)?;
+    let extras = sinkholes(alloc, count)?;
+    Ok(run_with::<R, StagedHost, SinkholeBook, Sinkhole>(rt, alloc, &words, &[], host, extras))
 }

@@ -3,7 +3,7 @@ ghost use Rattle.std.specs.Prelude.{None};
 
 use crate::stage::Stage;
 use crate::staged_side::{StagedSide, Waits};
-use crate::staged_watch::StagedWatch;
+use crate::staged_watch::{LookSteps, NO_STEPS, StagedWatch};
 use dns_data::Transport;
 use outside::{Host, OpenFault, Wrote};
 use outside_mem::MemHost;
@@ -18,12 +18,92 @@ const NEVER: Waits = Waits {
     sent: 0,
 };
 
+/// What the sides over UDP, by number, that over TCP, and the watch wait for and tell.
+#[derive(Clone, Copy, Debug)]
+pub struct Staging {
+    pub udp: [Waits; 3],
+    pub tcp: Waits,
+    pub looks: LookSteps,
+}
+
+/// No party waits.
+pub const FREE: Staging = Staging {
+    udp: [NEVER, NEVER, NEVER],
+    tcp: NEVER,
+    looks: NO_STEPS,
+};
+
+/// The reply over UDP waits for that over TCP.
+pub const PAIR: Staging = Staging {
+    udp: [Waits { until: 1, ..NEVER }, NEVER, NEVER],
+    tcp: Waits { sent: 1, ..NEVER },
+    looks: NO_STEPS,
+};
+
+/// Three workers hold a replaced generation each. The looks 0 to 2 wait for 1, 3 and 5, and look 4
+/// tells 7 and waits for 8. Behind the generations 1 to 3 the watch tells 2, 4 and 6, and behind 4
+/// it tells 9.
+pub const THREE: Staging = Staging {
+    udp: [
+        Waits {
+            again: 8,
+            holds: 1,
+            until: 7,
+            ..NEVER
+        },
+        Waits {
+            first: 2,
+            holds: 3,
+            until: 9,
+            ..NEVER
+        },
+        Waits {
+            first: 4,
+            holds: 5,
+            until: 9,
+            ..NEVER
+        },
+    ],
+    tcp: NEVER,
+    looks: LookSteps {
+        tells: [0, 0, 0, 0, 7],
+        waits: [1, 3, 5, 0, 8],
+        behind: [0, 2, 4, 6, 9],
+    },
+};
+
+/// Two workers hold the first generation: look 0 waits for both, and look 2 lets them go on, one
+/// behind the other, and waits until both are back.
+pub const HELD: Staging = Staging {
+    udp: [
+        Waits {
+            again: 4,
+            holds: 1,
+            until: 3,
+            ..NEVER
+        },
+        NEVER,
+        NEVER,
+    ],
+    tcp: Waits {
+        first: 1,
+        again: 5,
+        holds: 2,
+        until: 4,
+        ..NEVER
+    },
+    looks: LookSteps {
+        tells: [0, 0, 3, 0, 0],
+        waits: [2, 0, 5, 0, 0],
+        behind: [0, 0, 0, 0, 0],
+    },
+};
+
 #[derive(Drop)]
 pub struct StagedHost {
     pub host: MemHost,
     pub stage: Arc<Stage>,
-    /// Whether there is one side over UDP, whose reply waits for that of the one over TCP.
-    pub pair: bool,
+    pub staging: Staging,
 }
 
 impl Host for StagedHost {
@@ -41,6 +121,7 @@ impl Host for StagedHost {
             Ok(watch) => Ok(StagedWatch {
                 watch,
                 looks: 0,
+                steps: self.staging.looks,
                 stage,
             }),
             Err(OpenFault::Failed) => Err(OpenFault::Failed),
@@ -57,7 +138,7 @@ impl Host for StagedHost {
         let Ok(stage) = Arc::try_clone(&self.stage) else {
             return Err(OpenFault::NoMemory);
         };
-        let waits = waits_of(self.pair, by, number);
+        let waits = waits_of(self.staging, by, number);
         match self.host.open_side(port, by, number) {
             Ok(side) => Ok(StagedSide {
                 side,
@@ -79,28 +160,12 @@ impl Host for StagedHost {
     }
 }
 
-fn waits_of(pair: bool, by: Transport, number: u32) -> Waits {
-    match (pair, by, number) {
-        (true, Transport::Udp, _) => Waits { until: 1, ..NEVER },
-        (true, Transport::Tcp, _) => Waits { sent: 1, ..NEVER },
-        (false, Transport::Udp, 0) => Waits {
-            again: 8,
-            holds: 1,
-            until: 7,
-            ..NEVER
+fn waits_of(staging: Staging, by: Transport, number: u32) -> Waits {
+    match by {
+        Transport::Udp => match staging.udp.get(number as usize) {
+            Some(waits) => *waits,
+            None => NEVER,
         },
-        (false, Transport::Udp, 1) => Waits {
-            first: 2,
-            holds: 3,
-            until: 9,
-            ..NEVER
-        },
-        (false, Transport::Udp, _) => Waits {
-            first: 4,
-            holds: 5,
-            until: 9,
-            ..NEVER
-        },
-        _ => NEVER,
+        Transport::Tcp => staging.tcp,
     }
 }

@@ -8,12 +8,28 @@ use outside_mem::MemWatch;
 use std::alloc::Global;
 use std::sync::Arc;
 
-/// The looks 0 to 2 wait for 1, 3 and 5, and look 4 tells 7 and waits for 8. Behind the generations
-/// 1 to 3 it tells 2, 4 and 6, and behind 4 it tells 9. It tells nothing itself.
+/// What each look tells and then waits for, and what is told once a generation is published, by its
+/// serial; 0 is nothing.
+#[derive(Clone, Copy, Debug)]
+pub struct LookSteps {
+    pub tells: [u64; 5],
+    pub waits: [u64; 5],
+    pub behind: [u64; 5],
+}
+
+/// None waits.
+pub const NO_STEPS: LookSteps = LookSteps {
+    tells: [0; 5],
+    waits: [0; 5],
+    behind: [0; 5],
+};
+
+/// It tells nothing itself.
 #[derive(Drop)]
 pub struct StagedWatch {
     pub watch: MemWatch,
     pub looks: u64,
+    pub steps: LookSteps,
     pub stage: Arc<Stage>,
 }
 
@@ -38,10 +54,8 @@ impl Watch for StagedWatch {
     ghost answered = { λ _. tt };
 
     fn look(&mut self, interval: u64, jitter: u64) -> Look {
-        if self.looks == 4 {
-            self.stage.set(7);
-        }
-        self.stage.reach(reached_at(self.looks));
+        self.stage.set(step(&self.steps.tells, self.looks));
+        self.stage.reach(step(&self.steps.waits, self.looks));
         self.looks = self.looks.saturating_add(1);
         self.watch.look(interval, jitter)
     }
@@ -56,28 +70,14 @@ impl Watch for StagedWatch {
 
     fn saw_published(&mut self, serial: u64) {
         self.watch.saw_published(serial);
-        self.stage.set(told_behind(serial));
+        self.stage.set(step(&self.steps.behind, serial));
     }
 }
 
-// What a look of this number waits for.
-fn reached_at(look: u64) -> u64 {
-    match look {
-        0 => 1,
-        1 => 3,
-        2 => 5,
-        4 => 8,
-        _ => 0,
-    }
-}
-
-// What is told once a generation is published.
-fn told_behind(serial: u64) -> u64 {
-    match serial {
-        1 => 2,
-        2 => 4,
-        3 => 6,
-        4 => 9,
-        _ => 0,
+// The step of this number.
+fn step(steps: &[u64; 5], number: u64) -> u64 {
+    match steps.get(number as usize) {
+        Some(step) => *step,
+        None => 0,
     }
 }

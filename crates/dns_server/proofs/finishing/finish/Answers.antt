@@ -1,12 +1,15 @@
-use Rattle.std.proofs.Common.{◌∙◌, List, ◌++◌, length, Some, sym, ap, subst, arith}
+use Rattle.std.proofs.Common.{◌≡◌, ◌∙◌, List, ◌++◌, length, map, Some, refl, sym, ap, subst, arith}
 use Rattle.std.specs.Option.{option_to_list}
-use Rattle.std.specs.List.{All}
+use Rattle.std.specs.List.{All, sum_by}
 use Rattle.std.proofs.lemmas.List.{length_push}
 use Rattle.std.proofs.lemmas.List.Elements.{All-push}
 use Rattle.reload_watch.specs.{source_data}
 use Rattle.dns_server.specs.declared.roles.Role.TheVariants.{Watch}
 use Rattle.dns_server.specs.Roles.{Becomes, IsPart, IsReady, Task}
 use Rattle.dns_server.specs.States.{run_setup}
+use Rattle.dns_server.proofs.Stocked.{names_map, of_extras}
+use Rattle.extra_stock.specs.{asked_by, names_weigh, seats_in}
+use Rattle.reload_watch.specs.{chain_seats, chain_weighs}
 use Rattle.dns_server.proofs.Leaving.{finishes, idle_all, part_count, parted, zip_count}
 use Rattle.dns_server.proofs.Joining.{all_worked, leave}
 use Rattle.dns_server.proofs.Starting.{all_ready, start_count}
@@ -22,7 +25,7 @@ push_reserved-requires g c =
 pub act_all-requires-clause-ready : goal.act_all-requires-clause-ready
 act_all-requires-clause-ready g c = λ κs b.
     let o = c.args.opened in
-    let task : Task = record { table = o.table; source = source_data c.args.setup.source; most = c.args.setup.most } in
+    let task : Task _ = record { table = o.table; source = source_data c.args.setup.source; most = c.args.setup.most } in
     let starts = c.push_workers.new.roles.items in
     let side = g.S.Side.state in
     subst (All (IsReady side task)) (sym c.push_reserved.ensures.items)
@@ -31,7 +34,7 @@ act_all-requires-clause-ready g c = λ κs b.
 pub unreachable-requires : goal.unreachable-requires
 unreachable-requires g c =
     let o = c.args.opened in
-    let task : Task = record { table = o.table; source = source_data c.args.setup.source; most = c.args.setup.most } in
+    let task : Task _ = record { table = o.table; source = source_data c.args.setup.source; most = c.args.setup.most } in
     let B = Becomes g.S.Side.state g.W.PatternMaker.state task in
     let role = c.in-Some-Work.field-0 in
     let last = c.pop.ensures.items ∙ ap (λ (x : _). c.pop.new.self.items ++ option_to_list x) c.in-Some-Work.is in
@@ -41,7 +44,7 @@ unreachable-requires g c =
 pub unreachable-requires-in-None : goal.unreachable-requires-in-None
 unreachable-requires-in-None g c =
     let o = c.args.opened in
-    let task : Task = record { table = o.table; source = source_data c.args.setup.source; most = c.args.setup.most } in
+    let task : Task _ = record { table = o.table; source = source_data c.args.setup.source; most = c.args.setup.most } in
     let B = Becomes g.S.Side.state g.W.PatternMaker.state task in
     let count = zip_count B c.push_reserved.new.self.items c.act_all.new.roles.items c.act_all.ensures in
     let pushed = ap (λ (l : List _). length l) c.push_reserved.ensures.items ∙ length_push c.push_workers.new.roles.items (Watch o.watcher) in
@@ -51,7 +54,7 @@ unreachable-requires-in-None g c =
 pub part-requires-clause-workers : goal.part-requires-clause-workers
 part-requires-clause-workers g c =
     let o = c.args.opened in
-    let task : Task = record { table = o.table; source = source_data c.args.setup.source; most = c.args.setup.most } in
+    let task : Task _ = record { table = o.table; source = source_data c.args.setup.source; most = c.args.setup.most } in
     let side = g.S.Side.state in
     let watch = g.W.PatternMaker.state in
     let B = Becomes side watch task in
@@ -64,7 +67,7 @@ part-requires-clause-workers g c =
 pub part-requires-clause-room : goal.part-requires-clause-room
 part-requires-clause-room g c =
     let o = c.args.opened in
-    let task : Task = record { table = o.table; source = source_data c.args.setup.source; most = c.args.setup.most } in
+    let task : Task _ = record { table = o.table; source = source_data c.args.setup.source; most = c.args.setup.most } in
     let B = Becomes g.S.Side.state g.W.PatternMaker.state task in
     let count = zip_count B c.push_reserved.new.self.items c.act_all.new.roles.items c.act_all.ensures in
     let pushed = ap (λ (l : List _). length l) c.push_reserved.ensures.items ∙ length_push c.push_workers.new.roles.items (Watch o.watcher) in
@@ -76,7 +79,7 @@ part-requires-clause-room g c =
 pub close-totals-requires-clause-own : goal.close-totals-requires-clause-own
 close-totals-requires-clause-own g c =
     let o = c.args.opened in
-    let task : Task = record { table = o.table; source = source_data c.args.setup.source; most = c.args.setup.most } in
+    let task : Task _ = record { table = o.table; source = source_data c.args.setup.source; most = c.args.setup.most } in
     let side = g.S.Side.state in
     let watch = g.W.PatternMaker.state in
     let starts = c.push_workers.new.roles.items in
@@ -88,7 +91,7 @@ close-totals-requires-clause-own g c =
 pub close-totals-requires-clause-passes : goal.close-totals-requires-clause-passes
 close-totals-requires-clause-passes g c =
     let o = c.args.opened in
-    let task : Task = record { table = o.table; source = source_data c.args.setup.source; most = c.args.setup.most } in
+    let task : Task _ = record { table = o.table; source = source_data c.args.setup.source; most = c.args.setup.most } in
     let side = g.S.Side.state in
     let watch = g.W.PatternMaker.state in
     let starts = c.push_workers.new.roles.items in
@@ -104,7 +107,7 @@ close-totals-requires-clause-passes g c =
 pub close-totals-requires-clause-start : goal.close-totals-requires-clause-start
 close-totals-requires-clause-start g c =
     let o = c.args.opened in
-    let task : Task = record { table = o.table; source = source_data c.args.setup.source; most = c.args.setup.most } in
+    let task : Task _ = record { table = o.table; source = source_data c.args.setup.source; most = c.args.setup.most } in
     let side = g.S.Side.state in
     let watch = g.W.PatternMaker.state in
     let starts = c.push_workers.new.roles.items in
@@ -116,7 +119,7 @@ close-totals-requires-clause-start g c =
 pub close-totals-requires-clause-room : goal.close-totals-requires-clause-room
 close-totals-requires-clause-room g c =
     let o = c.args.opened in
-    let task : Task = record { table = o.table; source = source_data c.args.setup.source; most = c.args.setup.most } in
+    let task : Task _ = record { table = o.table; source = source_data c.args.setup.source; most = c.args.setup.most } in
     let side = g.S.Side.state in
     let watch = g.W.PatternMaker.state in
     let starts = c.push_workers.new.roles.items in
@@ -128,7 +131,7 @@ close-totals-requires-clause-room g c =
 pub close-totals-requires-clause-filled : goal.close-totals-requires-clause-filled
 close-totals-requires-clause-filled g c =
     let o = c.args.opened in
-    let task : Task = record { table = o.table; source = source_data c.args.setup.source; most = c.args.setup.most } in
+    let task : Task _ = record { table = o.table; source = source_data c.args.setup.source; most = c.args.setup.most } in
     let side = g.S.Side.state in
     let watch = g.W.PatternMaker.state in
     let starts = c.push_workers.new.roles.items in
@@ -140,7 +143,7 @@ close-totals-requires-clause-filled g c =
 pub close-totals-requires-clause-kept : goal.close-totals-requires-clause-kept
 close-totals-requires-clause-kept g c =
     let o = c.args.opened in
-    let task : Task = record { table = o.table; source = source_data c.args.setup.source; most = c.args.setup.most } in
+    let task : Task _ = record { table = o.table; source = source_data c.args.setup.source; most = c.args.setup.most } in
     let side = g.S.Side.state in
     let watch = g.W.PatternMaker.state in
     let starts = c.push_workers.new.roles.items in
@@ -150,10 +153,10 @@ close-totals-requires-clause-kept g c =
     let leaves = leave side watch task 0 o.sides.items starts others c.part.new.dones.items c.part.new.passes.items c.push_workers.ensures.start both.0 c.part.ensures in
     leaves.kept
 
-pub returns : goal.returns
-returns g c =
+pub returns-clause-finishes : goal.returns-clause-finishes
+returns-clause-finishes g c =
     let o = c.args.opened in
-    let task : Task = record { table = o.table; source = source_data c.args.setup.source; most = c.args.setup.most } in
+    let task : Task _ = record { table = o.table; source = source_data c.args.setup.source; most = c.args.setup.most } in
     let side = g.S.Side.state in
     let watch = g.W.PatternMaker.state in
     let starts = c.push_workers.new.roles.items in
@@ -162,4 +165,54 @@ returns g c =
     let both = parted (Becomes side watch task) starts others c.push_reserved.new.self.items c.act_all.new.roles.items (Watch o.watcher) (Watch c.in-Some-Watch.watcher) c.push_reserved.ensures.items last c.act_all.ensures in
     let leaves = leave side watch task 0 o.sides.items starts others c.part.new.dones.items c.part.new.passes.items c.push_workers.ensures.start both.0 c.part.ensures in
     let end = c.close-totals.ensures in
-    finishes side watch (run_setup c.args.setup) o c.in-Some-Watch.watcher c.part.new.dones.items c.part.new.passes.items others c.close-totals.result.published c.requires.opened both.1 leaves end.published end.closed end.traced
+    finishes side watch (run_setup c.args.setup g.B.Rulebook.taken g.B.Rulebook.said (map g.E.Extra.title o.watcher.stock.judges.items)) o c.in-Some-Watch.watcher c.part.new.dones.items c.part.new.passes.items others c.close-totals.result.published refl c.requires.opened both.1 leaves end.published end.closed end.traced
+
+pub take_back-requires-clause-obey : goal.take_back-requires-clause-obey
+take_back-requires-clause-obey g c =
+    let o = c.args.opened in
+    let task : Task _ = record { table = o.table; source = source_data c.args.setup.source; most = c.args.setup.most } in
+    let side = g.S.Side.state in
+    let watch = g.W.PatternMaker.state in
+    let starts = c.push_workers.new.roles.items in
+    let others = c.pop.new.self.items in
+    let last = c.pop.ensures.items ∙ ap (λ (x : _). others ++ option_to_list x) (c.in-Some-Watch.is ∙ ap Some c.in-Some-Watch.field-0-is) in
+    let both = parted (Becomes side watch task) starts others c.push_reserved.new.self.items c.act_all.new.roles.items (Watch o.watcher) (Watch c.in-Some-Watch.watcher) c.push_reserved.ensures.items last c.act_all.ensures in
+    both.1.keeps.spare
+
+pub take_back-requires-clause-room : goal.take_back-requires-clause-room
+take_back-requires-clause-room g c =
+    let o = c.args.opened in
+    let task : Task _ = record { table = o.table; source = source_data c.args.setup.source; most = c.args.setup.most } in
+    let side = g.S.Side.state in
+    let watch = g.W.PatternMaker.state in
+    let starts = c.push_workers.new.roles.items in
+    let others = c.pop.new.self.items in
+    let last = c.pop.ensures.items ∙ ap (λ (x : _). others ++ option_to_list x) (c.in-Some-Watch.is ∙ ap Some c.in-Some-Watch.field-0-is) in
+    let both = parted (Becomes side watch task) starts others c.push_reserved.new.self.items c.act_all.new.roles.items (Watch o.watcher) (Watch c.in-Some-Watch.watcher) c.push_reserved.ensures.items last c.act_all.ensures in
+    let keeps = both.1.keeps in
+    let moved = c.close-totals.ensures.sum (λ x. chain_seats x) (of_extras seats_in) keeps.stands in
+    let none = ap (λ (l : List _). sum_by (λ x. chain_seats x) l) keeps.home.none in
+    let places = keeps.places in
+    omega (arith, moved, none, places)
+
+pub returns-clause-extras : goal.returns-clause-extras
+returns-clause-extras g c w =
+    let o = c.args.opened in
+    let task : Task _ = record { table = o.table; source = source_data c.args.setup.source; most = c.args.setup.most } in
+    let side = g.S.Side.state in
+    let watch = g.W.PatternMaker.state in
+    let starts = c.push_workers.new.roles.items in
+    let others = c.pop.new.self.items in
+    let last = c.pop.ensures.items ∙ ap (λ (x : _). others ++ option_to_list x) (c.in-Some-Watch.is ∙ ap Some c.in-Some-Watch.field-0-is) in
+    let both = parted (Becomes side watch task) starts others c.push_reserved.new.self.items c.act_all.new.roles.items (Watch o.watcher) (Watch c.in-Some-Watch.watcher) c.push_reserved.ensures.items last c.act_all.ensures in
+    let keeps = both.1.keeps in
+    let moved = c.close-totals.ensures.sum (λ x. chain_weighs w x) (of_extras (asked_by w)) keeps.stands in
+    let none = ap (λ (l : List _). sum_by (λ x. chain_weighs w x) l) keeps.home.none in
+    let more = c.take_back.ensures.weighs w in
+    let title = g.E.Extra.title in
+    let judges : names_weigh title w c.take_back.new.stock.judges.items ≡ names_weigh title w o.watcher.stock.judges.items =
+    λ k. names_weigh title w ((c.take_back.ensures.judges ∙ both.1.extras.judges) k).items in
+    let all = both.1.extras.weighs w in
+    let one = names_map title w c.take_back.new.stock.judges.items in
+    let two = names_map title w c.take_back.new.stock.spare.items in
+    omega (arith, moved, none, more, judges, all, one, two)

@@ -15,7 +15,7 @@ loop-role-preserved g c =
     let done : Done _ = record { side = w.side; end = c.in-Some-end.end; pins = w.tally.pins; seen = w.tally.seen; starved = w.tally.starved } in
     let cut = i.0 ∙ ap (λ (l : List _). c.loop-role.yielded ++ l) c.in-Some.ensures.steps.0 in
     let others = subst AreWorking c.in-Some.ensures.steps.0 i.2 in
-    let is : IsPart c.in-Some.role done w.pass = subst (λ (r : Role _ _). IsPart r done w.pass) (sym (c.in-Work.is ∙ ap (λ (e : _). Work w e) c.in-Some-end.is)) (refl, refl) in
+    let is : IsPart c.in-Some.role done w.pass = subst (λ (r : Role g.row.S.Denot g.row.W.Denot g.row.B.Denot g.row.E.Denot g.B.Rulebook g.E.Extra). IsPart r done w.pass) (sym (c.in-Work.is ∙ ap (λ (e : _). Work w e) c.in-Some-end.is)) (refl, refl) in
     let passes = c.push_reserved.ensures.items in
     let dones = c.push_reserved-in-loop-role.ensures.items in
     let more = length_push c.loop-role.yielded c.in-Some.role in (

@@ -1,7 +1,7 @@
 use Rattle.std.proofs.Common.{◌≡◌, ◌<◌, ◌∙◌, ℕ, ◌+◌, List, [], ◌∷◌, ◌++◌, length, sym, ap, subst, append_assoc, arith}
 use Rattle.std.proofs.lemmas.List.{length_push}
 use Rattle.std.proofs.Common.{length-append}
-use Rattle.chain_build.specs.{OwnChain}
+use Rattle.chain_build.specs.declared.chain.Chain.{Chain}
 use Rattle.pin_table.specs.declared.passes.Pass.{Pass}
 use Rattle.pin_table.specs.{id_of, pass_of}
 use Rattle.pin_table.specs.Opening.{new_pass}
@@ -34,14 +34,14 @@ loop-side-preserved g c =
     let is_first = made.pass ∙ c.remove-pass.ensures.value in
     let is : IsStarting table n c.in-Some.side w = record {
       side_is = made.side;
-      own = subst (λ (p : Pass OwnChain). p.seat.table_id ≡ id_of table) (sym is_first) first.0;
-      pass_is = subst (λ (p : Pass OwnChain). pass_of p ≡ new_pass n 1) (sym is_first) first.1;
+      own = subst (λ (p : Pass _). p.seat.table_id ≡ id_of table) (sym is_first) first.0;
+      pass_is = subst (λ (p : Pass _). pass_of p ≡ new_pass n 1) (sym is_first) first.1;
       idle = made.idle;
     } in
     let left = c.remove-pass.ensures.items in (
       cut ∙ sym (append_assoc c.loop-side.yielded (c.in-Some.side ∷ []) c.next.new.self.rest.items),
       omega (arith, c.remove-pass.ensures.len, many),
-      subst (λ (x : ℕ × List (Pass OwnChain)). PassesFrom (id_of table) x.0 x.1) (λ k. (sym (length_push c.loop-side.yielded c.in-Some.side) k, sym left k)) (other_passes (id_of table) n passes some i.2),
+      subst (λ (x : ℕ × List (Pass (Chain g.row.B.Denot g.row.E.Denot g.B.Rulebook g.E.Extra))). PassesFrom (id_of table) x.0 x.1) (λ k. (sym (length_push c.loop-side.yielded c.in-Some.side) k, sym left k)) (other_passes (id_of table) n passes some i.2),
       subst (AreStarting table 0 (c.loop-side.yielded ++ c.in-Some.side ∷ [])) (sym c.push_reserved.ensures.items) (start_push table 0 c.loop-side.yielded c.loop-side.roles.items c.in-Some.side w i.3 (subst (λ (k : ℕ). IsStarting table k c.in-Some.side w) (omega arith) is)),
       c.push_reserved.ensures.capacity ∙ i.4,
       c.remove-pass.ensures.capacity ∙ i.5,

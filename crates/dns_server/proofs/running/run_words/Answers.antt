@@ -1,8 +1,13 @@
-use Rattle.std.proofs.Common.{ℕ, List, refl, inl, inr, subst}
+use Rattle.std.proofs.Common.{ℕ, List, refl, sym, ap, inl, inr, subst, ◌∙◌}
+use Rattle.extra_stock.specs.{is_named}
+use Rattle.dns_server.specs.Stocking.{data_weighs}
+use Rattle.dns_server.proofs.Stocked.{data_is, names_map}
 use Rattle.outside.specs.Journals.{host-adds-nothing, rose_failed}
 use Rattle.command_line.specs.Command.{serve, serve_data}
+use Rattle.chain_meaning.specs.{ground_at}
+use Rattle.reload_watch.specs.{footing_on}
 use Rattle.dns_server.specs.declared.status.Status.TheVariants as status
-use Rattle.dns_server.specs.Report.{RunsCommand, run_data}
+use Rattle.dns_server.specs.Report.{RunData, RunsCommand, run_data}
 use Rattle.dns_server.proofs.Openings.{opened_before, not_opened, no_serving}
 use Rattle.dns_server.proofs.running.run_words.Goals as goal
 
@@ -12,8 +17,9 @@ returns-in-Ok-open_watch-clause-runs g c =
     inr (record {
       how = serve_data s;
       words_are = rw c.in-Some-Serve.field-0-is at c.in-Some-Serve.ensures.command;
-      runs = subst (λ (conf : List ℕ). RunsCommand (record { source = record { conf = conf; env = c.args.env.now }; default_port = s.port; workers = s.workers; most = s.most })
-          (run_data g.H.Side.Side.state g.H.Watch.PatternMaker.state c.run_command.result) (g.H.Host.state c.args.host.now) (g.H.Host.state c.run_command.new.host)) c.in-Ok.ensures
+      runs = subst (λ (x : List ℕ × List (List ℕ)). RunsCommand (record { source = record { conf = x.0; env = c.args.env.now }; footing = footing_on g.B.Rulebook.taken g.B.Rulebook.said (ground_at s.port x.1); workers = s.workers; most = s.most })
+          (run_data g.H.Side.Side.state g.H.Watch.PatternMaker.state g.E.Extra.title c.run_command.result) (g.H.Host.state c.args.host.now) (g.H.Host.state c.run_command.new.host))
+          (λ i. (c.in-Ok.ensures i, c.in-Ok-sorted.ensures.parts.judges_are i))
           (opened_before (g.H.Watch.PatternMaker.state c.in-Ok-open_watch.watch) c.in-Ok-open_watch.ensures c.run_command.ensures.runs);
     })
 
@@ -33,6 +39,13 @@ returns-in_default-clause-runs g c = inr (record {
   how = serve_data c.in-Some-Serve.serve;
   words_are = rw c.in-Some-Serve.field-0-is at c.in-Some-Serve.ensures.command;
   runs = rw c.stopped-in_default.ensures (not_opened status.NoMemory (host-adds-nothing (g.H.Host.state c.args.host.now)) refl tt);
+})
+
+pub returns-in-Err-clause-runs : goal.returns-in-Err-clause-runs
+returns-in-Err-clause-runs g c = inr (record {
+  how = serve_data c.in-Some-Serve.serve;
+  words_are = rw c.in-Some-Serve.field-0-is at c.in-Some-Serve.ensures.command;
+  runs = rw c.stopped-in-Err.ensures (not_opened status.NoMemory (host-adds-nothing (g.H.Host.state c.args.host.now)) refl tt);
 })
 
 pub returns-in-Some-Load-clause-runs : goal.returns-in-Some-Load-clause-runs
@@ -65,3 +78,24 @@ returns-clause-runs g c =
       words_are = rw c.in-Some-Serve.field-0-is at c.in-Some-Serve.ensures.command;
       runs = rw c.stopped-in-Err-NoMemory.ensures (not_opened status.NoMemory starved.told starved.supply tt);
     })
+
+pub returns-in-Ok-open_watch-clause-extras : goal.returns-in-Ok-open_watch-clause-extras
+returns-in-Ok-open_watch-clause-extras g c = λ name.
+    let title = g.E.Extra.title in
+    let w = is_named name in
+    c.run_command.ensures.extras w
+    ∙ (data_is title w c.in-Ok-sorted.stock ∙ (c.in-Ok-sorted.ensures.parts.weigh w ∙ sym (names_map title w c.args.extras.items)))
+
+pub returns-in-Err-Failed-clause-extras : goal.returns-in-Err-Failed-clause-extras
+returns-in-Err-Failed-clause-extras g c = λ name.
+    let title = g.E.Extra.title in
+    let w = is_named name in
+    ap (λ (d : RunData). data_weighs w d.stock) c.stopped-in-Err-Failed.ensures
+    ∙ (data_is title w c.in-Ok-sorted.stock ∙ (c.in-Ok-sorted.ensures.parts.weigh w ∙ sym (names_map title w c.args.extras.items)))
+
+pub returns-clause-extras : goal.returns-clause-extras
+returns-clause-extras g c = λ name.
+    let title = g.E.Extra.title in
+    let w = is_named name in
+    ap (λ (d : RunData). data_weighs w d.stock) c.stopped-in-Err-NoMemory.ensures
+    ∙ (data_is title w c.in-Ok-sorted.stock ∙ (c.in-Ok-sorted.ensures.parts.weigh w ∙ sym (names_map title w c.args.extras.items)))

@@ -1,0 +1,123 @@
+-- What the roles of a run own may cross threads, and threads may share the table of their chains. The checker's own search
+-- breaks off at the lock in a pool of upstreams, so the types round it are gone through by hand, up to the roles.
+use denote.RattleType.{RattleType}
+use denote.Ref.{NamedLft}
+use denote.Struct.Field.{row_field}
+use denote.Enum.Declared as Enum
+use denote.Param.Send.{IsSend, IsSync, sendable, shr_sync}
+use denote.Param.SendFields.{as_row_send, as_row_sync, declared_send, declared_sync, variants_send}
+use Rattle.std.proofs.Crossing.{crosses, frees, Arc-send, Box-send, Vec-send}
+use Rattle.std.specs.contracts.option.Option as Option
+use Rattle.plugin_api.specs.declared.extra.Extra as extra
+use Rattle.plugin_api.specs.declared.rulebook.Rulebook as rulebook
+use Rattle.chain_build.specs.contracts.chain.Chain as Chain
+use Rattle.chain_build.specs.contracts.held.Held as Held
+use Rattle.chain_build.specs.contracts.plans.Plans as Plans
+use Rattle.pin_table.specs.contracts.passes.Pass as Pass
+use Rattle.pin_table.specs.contracts.publisher.Publisher as Publisher
+use Rattle.pin_table.specs.contracts.table.PinTable as PinTable
+use Rattle.pin_table.specs.declared.tagged.Tagged as tagged
+use Rattle.query_worker.specs.contracts.worker.Worker as Worker
+use Rattle.reload_watch.specs.contracts.watcher.Watcher as Watcher
+use Rattle.dns_server.specs.contracts.roles.Role as Role
+use Rattle.dns_server.specs.contracts.roles.Shared as Shared
+use Rattle.atomic_table.proofs.shared.Seat.TheSendSync as seat
+use Rattle.chain_build.proofs.plans.Plans.TheSendSync as plans
+use Rattle.chain_build.proofs.room.Room.TheSendSync as room
+use Rattle.atomic_table.proofs.shared.Shared.TheSendSync as shared
+use Rattle.atomic_table.proofs.send_lease.SendLease.TheSendSync as lease
+use Rattle.ruled_lock.proofs.Crossings.{kept_send, seat_send, lock_sync}
+use Rattle.ruled_lock.specs.contracts.locked.Locked as Locked
+use Rattle.upstream_health.specs.contracts.state.Health as Health
+use Rattle.upstream_health.specs.contracts.state.PoolAsk as PoolAsk
+use Rattle.upstream_health.specs.contracts.state.PoolTold as PoolTold
+use Rattle.upstream_health.specs.contracts.pool.Pool as Pool
+use Rattle.upstream_health.specs.contracts.pool.PoolSeat as PoolSeat
+use Rattle.forward_plugin.specs.contracts.pool_use.PoolUse as PoolUse
+use Rattle.forward_plugin.specs.contracts.pools.Pools as Pools
+use Rattle.forward_plugin.specs.contracts.pools.Pools.TheInside as Inside
+
+health_send : IsSend Health.the_row
+health_send = search (sendable, crosses) depth 20
+
+pool_seat_send : IsSend PoolSeat.the_row
+pool_seat_send = declared_send PoolSeat.the_type (seat_send Health.the_row PoolAsk.the_row PoolTold.the_row health_send, tt)
+
+pool_sync : IsSync Pool.the_row
+pool_sync = declared_sync Pool.the_type (lock_sync Health.the_row PoolAsk.the_row PoolTold.the_row _ health_send, tt)
+
+pool_send : IsSend Pool.the_row
+pool_send = declared_send Pool.the_type (
+  declared_send (Locked.the_type Health.the_row PoolAsk.the_row PoolTold.the_row _)
+      (search (sendable, crosses, shared.the_send, lease.the_send, kept_send, health_send, frees) depth 30, tt),
+  tt,
+)
+
+use_send : IsSend PoolUse.the_row
+use_send = declared_send PoolUse.the_type (Arc-send _ pool_send pool_sync, (pool_seat_send, tt))
+
+inside_send : IsSend Inside.the_row
+inside_send = declared_send Inside.the_type (Vec-send _ use_send, tt)
+
+pub pools_send : IsSend Pools.the_row
+pools_send = search (inside_send, sendable) depth 5
+
+abbrev option_record : RattleType → Enum.Record
+option_record R = let T = Option.the_type R in record { name = T.name; args = T.args; types = T.types; parts = T.parts; D = T.D; as_values = Option.as_values R; make = Option.the_make R; eta = Option.the_eta R; beta = Option.the_beta R }
+
+option_send : (R : RattleType) → IsSend R → IsSend (Option.the_row R)
+option_send R s = variants_send (option_record R) (tt, ((as_row_send (row_field R) s, tt), tt))
+
+module _ (B E : RattleType) (b : rulebook.Ghosts B.Denot) (e : extra.Ghosts E.Denot) (bs : IsSend B) (by : IsSync B) (es : IsSend E) where
+  held_send : IsSend (Held.the_row B E b e)
+  held_send = declared_send (Held.the_type B E b e) (search sendable, (search sendable, (Vec-send _ (search (sendable, crosses) depth 20), (Vec-send _ pools_send, tt))))
+
+  plans_send : IsSend (Plans.the_row B b)
+  plans_send = plans.the_send B b
+
+  plans_sync : IsSync (Plans.the_row B b)
+  plans_sync = plans.the_sync B b
+
+  pub chain_send : IsSend (Chain.the_row B E b e)
+  chain_send = declared_send (Chain.the_type B E b e) (Arc-send _ plans_send plans_sync, (Box-send _ held_send, tt))
+
+  pass_send : IsSend (Pass.the_row (Chain.the_row B E b e))
+  pass_send = declared_send (Pass.the_type (Chain.the_row B E b e))
+      (seat.the_send _ _ (option_send _ chain_send), (search sendable, (search sendable, (search sendable, (search sendable, tt)))))
+
+  publisher_send : IsSend (Publisher.the_row (Chain.the_row B E b e))
+  publisher_send = declared_send (Publisher.the_type (Chain.the_row B E b e))
+      (seat.the_send _ _ (option_send _ chain_send), (search sendable, (search sendable, (search (sendable, crosses) depth 20, (search sendable, tt)))))
+
+  worker_send : (S : RattleType) → IsSend S → IsSend (Worker.the_row S B E b e)
+  worker_send S s = declared_send (Worker.the_type S B E b e)
+      (as_row_send (row_field S) s, (pass_send, (search (sendable, crosses) depth 20, (room.the_send, tt))))
+
+  watcher_send : (W : RattleType) → IsSend W → IsSend (Watcher.the_row W B E b e)
+  watcher_send W w = declared_send (Watcher.the_type W B E b e) (
+    as_row_send (row_field W) w,
+    (
+      publisher_send,
+      (
+        search sendable,
+        (Arc-send _ plans_send plans_sync, (search (sendable, crosses) depth 20, (Vec-send _ chain_send, (search sendable, tt)))),
+      ),
+    ),
+  )
+
+  abbrev role_record : (S W : RattleType) → Enum.Record
+  role_record S W = let T = Role.the_type S W B E b e in record { name = T.name; args = T.args; types = T.types; parts = T.parts; D = T.D; as_values = Role.as_values S W B E b e; make = Role.the_make S W B E b e; eta = Role.the_eta S W B E b e; beta = Role.the_beta S W B E b e }
+
+  pub role_send : (S W : RattleType) → IsSend S → IsSend W → IsSend (Role.the_row S W B E b e)
+  role_send S W s w = variants_send (role_record S W) ((worker_send S s, (search (sendable, crosses) depth 20, tt)), ((watcher_send W w, tt), tt))
+
+module _ (C N K : RattleType) (t : tagged.Ghosts C.Denot N.Denot K.Denot) where
+  whole_sync : IsSend (Option.the_row C) → IsSync (PinTable.the_row C N K t)
+  whole_sync s = declared_sync (PinTable.the_type C N K t) (search (sendable, crosses, shared.the_sync, lease.the_sync, frees) depth 30, tt)
+
+  pub table_sync : IsSend C → IsSync (PinTable.the_row C N K t)
+  table_sync s = whole_sync (option_send _ s)
+
+module _ (l : NamedLft) (B E : RattleType) (b : rulebook.Ghosts B.Denot) (e : extra.Ghosts E.Denot) (bs : IsSend B) (by : IsSync B) (es : IsSend E) where
+  pub shared_sync : IsSync (Shared.the_row l B E b e)
+  shared_sync = declared_sync (Shared.the_type l B E b e) (search (as_row_sync, shr_sync, table_sync, chain_send) depth 10 fits 5000, (search (sendable, crosses) depth 20, (search sendable, tt)))

@@ -3,26 +3,27 @@
 use crate::case::Case;
 use crate::corefile::read_environment;
 use case_fields::{CaseFault, put_bytes, put_word, read_bytes, read_text};
-use chain_build::{CheckFault, OwnPlans, check as check_bundle};
+use chain_build::{CheckFault, Plans, check as check_bundle};
 use chain_meaning::Refusal;
 use corefile_blocks::Bundle;
 use dns_data::{Bytes, FileText, FileTexts};
-use extra_stock::Passing;
 use outside::RegexMaker;
+use sinkhole_plugin::{Sinkhole, SinkholeBook};
 use std::alloc::Global;
 
-/// `ok`, or `refused` and the line that an operator sees.
+/// `ok`, or `refused` and the line that an operator sees, where the program brings `sinkhole`.
+#[tactic(auto, using(sinkhole_plugin::specs::SinkholeLaws::sinkholes_obey))]
 pub fn check(alloc: Global, case: &Case<'_>, out: &mut String) -> Result<(), CaseFault> {
     let (bundle, port) = read_bundle(alloc, case)?;
     if !bundle.is_readable() {
         return Err(CaseFault::Bad);
     }
-    let judges: &[Passing] = &[];
-    let checked: Result<OwnPlans, CheckFault> = check_bundle(
+    let judges = [Sinkhole::new()];
+    let checked: Result<Plans<SinkholeBook>, CheckFault> = check_bundle(
         alloc,
         bundle,
         port,
-        judges,
+        &judges,
         &mut RegexMaker::new(),
     );
     match checked {

@@ -1,12 +1,11 @@
 //! Marks as lines.
 
 use case_fields::{CaseFault, bytes_field};
-use dns_data::Text;
-use outside::{Mark, ReadOut, WatchMark};
+use dns_data::{Text, Transport};
+use outside::{InnerMark, Mark, Outcome, ReadOut, Upstream, WatchMark};
 use std::alloc::Global;
 
-/// What a side did or saw. No plugin looks at the clock, draws a word, asks an upstream or keeps an
-/// entry yet.
+/// What a side did or saw. No plugin looks at the clock or keeps an entry yet.
 pub fn mark_text(alloc: Global, mark: &Mark) -> Result<String, CaseFault> {
     match mark {
         Mark::Got(_) => Ok(String::from_str(alloc, "got")?),
@@ -14,9 +13,62 @@ pub fn mark_text(alloc: Global, mark: &Mark) -> Result<String, CaseFault> {
         Mark::RecvFailed => Ok(String::from_str(alloc, "recvfailed")?),
         Mark::Pinned(serial) => Ok(format!(in alloc; "pinned {serial}")?),
         Mark::Unpinned(serial) => Ok(format!(in alloc; "unpinned {serial}")?),
+        Mark::Inner(inner) => inner_text(alloc, inner),
         Mark::Noted(line, out) => line_text(alloc, "noted", line.as_slice(), *out),
         Mark::Sent(reply, out) => line_text(alloc, "sent", reply.as_slice(), *out),
         _ => Ok(String::from_str(alloc, "another mark")?),
+    }
+}
+
+// What a plugin took from the outside.
+fn inner_text(alloc: Global, inner: &InnerMark) -> Result<String, CaseFault> {
+    match inner {
+        InnerMark::Word(word) => Ok(format!(in alloc; "word {word}")?),
+        InnerMark::Asked(to, by, message, outcome) => {
+            ask_text(alloc, *to, *by, message.as_slice(), outcome)
+        }
+        InnerMark::More(outcome) => {
+            let gave = outcome_text(alloc, outcome)?;
+            Ok(format!(in alloc; "more {}", gave.as_str())?)
+        }
+        InnerMark::Drawn(number, down) => Ok(format!(in alloc; "drawn {number} {down}")?),
+        InnerMark::Reported(upstream, agreed) => {
+            Ok(format!(in alloc; "reported {upstream} {}", u8::from(*agreed))?)
+        }
+    }
+}
+
+// An ask of an upstream: where it is, the transport, the message, and what came of it.
+fn ask_text(
+    alloc: Global,
+    to: Upstream,
+    by: Transport,
+    message: &[u8],
+    outcome: &Outcome,
+) -> Result<String, CaseFault> {
+    let address = to.addr.text(alloc)?;
+    let by = match by {
+        Transport::Udp => "udp",
+        Transport::Tcp => "tcp",
+    };
+    let message = bytes_field(alloc, message)?;
+    let gave = outcome_text(alloc, outcome)?;
+    let mut text = format!(in alloc; "asked {} {} {by} ", address.as_str(), to.port)?;
+    text.push_str(message.as_str())?;
+    text.push_str(" ")?;
+    text.push_str(gave.as_str())?;
+    Ok(text)
+}
+
+fn outcome_text(alloc: Global, outcome: &Outcome) -> Result<String, CaseFault> {
+    match outcome {
+        Outcome::Got(bytes) => {
+            let field = bytes_field(alloc, bytes.as_slice())?;
+            Ok(format!(in alloc; "got:{}", field.as_str())?)
+        }
+        Outcome::Silence => Ok(String::from_str(alloc, "silence")?),
+        Outcome::Failed => Ok(String::from_str(alloc, "failed")?),
+        Outcome::NoMemory => Err(CaseFault::NoMemory),
     }
 }
 

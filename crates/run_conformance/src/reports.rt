@@ -11,9 +11,10 @@ use case_fields::{CaseFault, bytes_field};
 use command_line::{Command, DEFAULT_PORT, read_command};
 use corefile_words::Pair;
 use dns_data::{NoMemory, Text};
-use dns_server::{Report, Status, run};
+use dns_server::{Report, Status, run_with};
 use outside::SideScript;
 use outside_mem::{MemHost, MemSide, MemWatch};
+use sinkhole_plugin::{Sinkhole, SinkholeBook};
 use std::alloc::Global;
 use std::io;
 use std::io::Write;
@@ -35,6 +36,7 @@ pub fn print<R: Threads + Wait + Sync, W: Write>(
 }
 
 // The lines of a run's outcome.
+#[tactic(auto, using(sinkhole_plugin::specs::SinkholeLaws::sinkholes_obey))]
 fn outcome<R: Threads + Wait + Sync>(
     rt: &R,
     alloc: Global,
@@ -45,11 +47,15 @@ fn outcome<R: Threads + Wait + Sync>(
         env,
         watch,
         sides,
+        sinkholes,
     } = case;
     let watch = MemWatch::new(alloc, watch)?;
     let host = MemHost::new(alloc, unused_sides(alloc, sides)?, watch);
     let mut host = RoundHost::new(alloc, host, &env, port_of(&words))?;
-    let report = run(rt, alloc, &words, &env, &mut host);
+    let extras = sinkholes_of(alloc, sinkholes)?;
+    let report = run_with::<R, RoundHost, SinkholeBook, Sinkhole>(
+        rt, alloc, &words, &env, &mut host, extras,
+    );
     let mut text = String::new(alloc);
     put_status(alloc, &mut text, &report, &host)?;
     put_sides(alloc, &mut text, &report)?;
@@ -57,6 +63,15 @@ fn outcome<R: Threads + Wait + Sync>(
     put_differences(alloc, &mut text, &report, &words, &env)?;
     text.push_str("end\n")?;
     Ok(text)
+}
+
+// So many sinkholes.
+fn sinkholes_of(alloc: Global, count: u32) -> Result<Vec<Sinkhole>, NoMemory> {
+    let mut extras = Vec::new(alloc);
+    for _ in 0..count {
+        extras.push(Sinkhole::new())?;
+    }
+    Ok(extras)
 }
 
 // The sides of scripts.
@@ -73,7 +88,7 @@ fn unused_sides(alloc: Global, scripts: Vec<SideScript>) -> Result<Vec<MemSide>,
 fn put_status(
     alloc: Global,
     text: &mut String,
-    report: &Report<RoundHost>,
+    report: &Report<RoundHost, Sinkhole>,
     host: &RoundHost,
 ) -> Result<(), CaseFault> {
     let (name, number) = status_text(&report.status);
@@ -88,7 +103,7 @@ fn put_status(
 fn put_sides(
     alloc: Global,
     text: &mut String,
-    report: &Report<RoundHost>,
+    report: &Report<RoundHost, Sinkhole>,
 ) -> Result<(), CaseFault> {
     for (number, done) in report.sides.iter().enumerate() {
         put_line(text, format!(in alloc; "journal {number}")?)?;
@@ -103,7 +118,7 @@ fn put_sides(
 fn put_watch(
     alloc: Global,
     text: &mut String,
-    report: &Report<RoundHost>,
+    report: &Report<RoundHost, Sinkhole>,
 ) -> Result<(), CaseFault> {
     put_line(text, String::from_str(alloc, "watch")?)?;
     let Some(watch) = &report.watch else {
@@ -120,7 +135,7 @@ fn put_watch(
 fn put_differences(
     alloc: Global,
     text: &mut String,
-    report: &Report<RoundHost>,
+    report: &Report<RoundHost, Sinkhole>,
     words: &[Text],
     env: &[Pair],
 ) -> Result<(), CaseFault> {
@@ -161,6 +176,7 @@ fn status_text(status: &Status) -> (&'static str, u8) {
     match status {
         Status::Ended => ("Ended", 0),
         Status::Refused(_) => ("Refused", 1),
+        Status::StockShort { .. } => ("StockShort", 5),
         Status::Usage => ("Usage", 2),
         Status::ReadFailed(_) => ("ReadFailed", 3),
         Status::OpenFailed => ("OpenFailed", 3),

@@ -4,7 +4,7 @@
 use case_fields::{CaseFault, read_bytes, read_text};
 use corefile_words::Pair;
 use dns_data::{Addr, Buffer, Bytes, FileText, Seq, Text, Transport};
-use outside::{Datagram, FileSet, SideScript, WatchScript};
+use outside::{Datagram, FileSet, Outcome, SideScript, WatchScript};
 use std::alloc::Global;
 
 /// What the lines so far say of a run.
@@ -15,6 +15,8 @@ pub struct RunCase {
     pub watch: WatchScript,
     /// In the order in which they are opened.
     pub sides: Vec<SideScript>,
+    /// How many sinkholes are handed in.
+    pub sinkholes: u32,
 }
 
 impl RunCase {
@@ -25,6 +27,7 @@ impl RunCase {
             env: Vec::new(alloc),
             watch: WatchScript::of_looks(alloc, Vec::new(alloc)),
             sides: Vec::new(alloc),
+            sinkholes: 0,
         }
     }
 
@@ -38,6 +41,7 @@ impl RunCase {
             "file" => self.take_file(alloc, fields),
             "watchfail" => self.take_failing(fields),
             "side" => self.take_side(alloc),
+            "extras" => self.take_extras(fields),
             _ => match self.sides.last_mut() {
                 Some(script) => take_of_side(alloc, script, key, fields),
                 None => Err(CaseFault::Bad),
@@ -78,6 +82,18 @@ impl RunCase {
         Ok(set.files.push(file)?)
     }
 
+    // How many sinkholes are handed in.
+    fn take_extras(&mut self, fields: &str) -> Result<(), CaseFault> {
+        let ("sinkhole", count) = parted(fields)? else {
+            return Err(CaseFault::Bad);
+        };
+        let Ok(count) = count.parse::<u32>() else {
+            return Err(CaseFault::Bad);
+        };
+        self.sinkholes = count;
+        Ok(())
+    }
+
     // Which calls of the watch are to fail.
     fn take_failing(&mut self, fields: &str) -> Result<(), CaseFault> {
         match fields.split_once(' ') {
@@ -88,7 +104,7 @@ impl RunCase {
     }
 }
 
-// What a side gives. No upstream answers, since no plugin asks one yet.
+// What a side gives.
 fn take_of_side(
     alloc: Global,
     script: &mut SideScript,
@@ -100,6 +116,7 @@ fn take_of_side(
         "nows" => push_numbers(&mut script.nows, fields),
         "words_read" => push_numbers(&mut script.words, fields),
         "asks" if fields.is_empty() => Ok(()),
+        "asks" => push_outcomes(alloc, &mut script.asks, fields),
         "fail" => take_failing_of_side(script, fields),
         _ => Err(CaseFault::Bad),
     }
@@ -130,6 +147,31 @@ fn push_numbers(numbers: &mut Vec<u64>, fields: &str) -> Result<(), CaseFault> {
         numbers.push(number)?;
     }
     Ok(())
+}
+
+// What upstreams do.
+fn push_outcomes(
+    alloc: Global,
+    outcomes: &mut Vec<Outcome>,
+    fields: &str,
+) -> Result<(), CaseFault> {
+    for field in fields.split(' ') {
+        let outcome = read_outcome(alloc, field)?;
+        outcomes.push(outcome)?;
+    }
+    Ok(())
+}
+
+fn read_outcome(alloc: Global, field: &str) -> Result<Outcome, CaseFault> {
+    match field.split_once(':') {
+        Some(("got", bytes)) => Ok(Outcome::Got(Bytes::of(read_bytes(alloc, bytes)?))),
+        Some(_) => Err(CaseFault::Bad),
+        None => match field {
+            "silence" => Ok(Outcome::Silence),
+            "failed" => Ok(Outcome::Failed),
+            _ => Err(CaseFault::Bad),
+        },
+    }
 }
 
 // A field, and the fields behind it.

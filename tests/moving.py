@@ -85,7 +85,8 @@ def scenario_text(name, step):
     if body is None:
         return None
     body = re.sub(r"(?m)^    ", "", body[1]).strip("\n")
-    for here, there in (("{dir}", "/etc/dnschain"), ("{port2}", "5301"), ("{port}", "53"), ("127.0.0.0/16", "10.0.0.0/8")):
+    for here, there in (("{dir}", "/etc/dnschain"), ("{port2}", "5301"), ("{port}", "53"), ("127.0.0.0/16", "10.0.0.0/8"),
+                        ("127.0.0.1:{near} 127.0.0.1:{far}", "10.0.0.2 10.0.0.3")):
         body = body.replace(here, there)
     return body
 

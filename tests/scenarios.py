@@ -272,7 +272,7 @@ def run_try(rows, example):
         run.words = ["--port", "{port}"]
         shutil.copytree(example, room, dirs_exist_ok=True)
         with open(os.path.join(room, "Corefile")) as file:
-            run.put("Corefile", file.read().replace("5300", "{port}").split("\n")[:-1])
+            run.put("Corefile", file.read().replace("5300", "{port}").replace("5301", "{port2}").split("\n")[:-1])
         try:
             run.started()
             for what, command, want in tries:

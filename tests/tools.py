@@ -60,14 +60,14 @@ CASES = [
         "all lines that would be refused, at once",
         "(common) {\n    errors {\n        stacktrace\n    }\n    bogus\n    import deeper\n}\n(deeper) {\n    chaos 1 {\n        x\n    }\n}\n"
         ".:{port} {\n    import common\n    acl {\n        block type HTTPS\n    }\n    hosts {\n        10.0.0.1 a..b\n        reload 5s\n"
-        "        fallthrough\n    }\n    whoami 1\n    forward . 192.0.2.1 {\n        except a.test\n    }\n}\ntls://a.test {\n    file /none/z {\n"
+        "        fallthrough\n    }\n    whoami 1\n    forward . 192.0.2.1 {\n        except a..test\n    }\n}\ntls://a.test {\n    file /none/z {\n"
         "        reload 1s\n    }\n}\nb.test\n{\n}\nc.test {\n    log {\n        class {\n        }\n    }\n    import a b\n}\n", 1,
         ["{file}:28: block: scheme", "    tls://a.test {", "{file}:33: block: outside", "    b.test", "{file}:34: block: nokey", "    {",
          "{file}:38: block: deepbrace", "            class {", "{file}:41: block: importargs", "        import a b",
          "{file}:2: directive: args", "        errors {", "    imported at {file}:14", "{file}:5: unknown directive", "        bogus", "    imported at {file}:14",
          "{file}:9: unknown directive", "        chaos 1 {", "    imported at {file}:14", "{file}:16: directive: kind", "            block type HTTPS",
          "{file}:19: directive: zone", "            10.0.0.1 a..b", "{file}:20: directive: net", "            reload 5s",
-         "{file}:23: directive: args", "        whoami 1", "{file}:24: unknown directive", "        forward . 192.0.2.1 {",
+         "{file}:23: directive: args", "        whoami 1", "{file}:25: directive: zone", "            except a..test",
          "{file}:29: directive: args", "        file /none/z {", "{file}:29: directive: nofile", "        file /none/z {"],
     ),
     (

@@ -36,6 +36,7 @@ THREE = name(b"www", b"example", b"org")
 TEN = name(*[b"label%d" % number for number in range(8)], b"example", b"org")
 
 WHOAMI = ".:%d {\n\twhoami\n}\n"
+SINKHOLE = ".:%d {\n\tsinkhole 192.0.2.99\n\twhoami\n}\n"
 RELOAD = ".:%d {\n\treload\n\twhoami\n}\n"
 ZONE = "example.org:%d {\n\tfile FOLDER/db\n}\n"
 LONG_ZONE = "example.org:%d {\n\tfile FOLDER/long\n}\n"
@@ -89,6 +90,8 @@ CASES = [
     ("a template of one pattern with a group and one answer: A", TEMPLATE, query(NUMBERED)),
     ("the same: a name that the pattern doesn't match, SERVFAIL", TEMPLATE, query(ABSENT)),
     ("a rewrite of a suffix, with answer auto, in front of a hosts file of 1,000 names: A", REWRITE, query(PUBLIC)),
+    ("a sinkhole in front of whoami: A", SINKHOLE, query(TWO)),
+    ("the same: AAAA, by whoami", SINKHOLE, query(TWO, 28)),
     ("a response, which gets no reply", WHOAMI, query(TWO)[:2] + b"\x81" + query(TWO)[3:]),
 ]
 

@@ -38,3 +38,14 @@ pub left_at : {A : Type 0} (f : A → A) (xs ys : List A) (i : ℕ) (x : A) → 
 left_at f xs ys i x all is same r e =
     let s : x ≡ r = is ∙ rw all (get_or_from_slice_get xs i r x e) in
     set_same xs i r e ∙ ap (slice_set xs i) (sym s ∙ sym same ∙ ap f s)
+
+-- a function that leaves all
+pub left_all : {A : Type 0} (f : A → A) (xs : List A) (i : ℕ) → ((x : A) → f x ≡ x) → (r : A) → slice_get xs i ≡ Some r → xs ≡ slice_set xs i (f r)
+left_all f xs i same r e = set_same xs i r e ∙ ap (slice_set xs i) (sym (same r))
+
+-- a function that does the same to the item
+pub changed_as : {A : Type 0} (f g : A → A) (old ys new : List A) (i : ℕ) (x : A) → ys ≡ old → x ≡ get_or ys i x → f x ≡ g x → ((r : A) → slice_get old i ≡ Some r → new ≡ slice_set old i (f r))
+    → (r : A) → slice_get old i ≡ Some r → new ≡ slice_set old i (g r)
+changed_as f g old ys new i x all is same h r e =
+    let s : x ≡ r = is ∙ rw all (get_or_from_slice_get old i r x e) in
+    h r e ∙ ap (slice_set old i) (ap f (sym s) ∙ same ∙ ap g s)

@@ -15,7 +15,7 @@ use crate::renaming::{renamed_by, write_searched};
 use crate::room::RewriteRoom;
 use crate::rule::{Answering, Replacing, Rule, Seconds};
 use crate::steps::Step;
-use dns_data::{Name, NoMemory, Rdata, Record, RecordRoom, Slot};
+use dns_data::{Copies, Name, NoMemory, Rdata, Record, RecordRoom, Slot};
 use std::alloc::Global;
 use std::mem;
 
@@ -181,7 +181,7 @@ fn restore_owner(step: &Step, index: usize, section: &mut RecordRoom) -> Result<
     Ok(())
 }
 
-// Owners that match are renamed.
+// Owners that match are renamed. A record with the owner of the one in front of it costs no search.
 fn rename_owners(
     alloc: Global,
     replacing: &Replacing<Finder>,
@@ -191,30 +191,73 @@ fn rename_owners(
     ensures { OnOk result (section.new
         ≡ map (λ r. owned_or r (replaced_name replacing.now r.owner)) section.old) }
 {
+    let mut last = None;
     let mut index = 0;
     while index < section.len() {
-        rename_owner(alloc, replacing, room, index, section)?;
+        last = Some(rename_owner(alloc, replacing, room, index, section, last)?);
         index += 1;
     }
     Ok(())
 }
 
+// The owner of a record, and the name that a pattern made of it.
+#[derive(Debug, Drop)]
+struct LastOwner {
+    from: Name,
+    to: Option<Name>,
+}
+
+// Renames one where it matches, and gives what its name became.
 fn rename_owner(
     alloc: Global,
     replacing: &Replacing<Finder>,
     room: &mut RewriteRoom,
     index: usize,
     section: &mut RecordRoom,
-) -> Result<(), NoMemory>
-    requires { index < length section.old }
-    ensures { OnOk result (Changes (λ r. owned_or r (replaced_name replacing.now r.owner)) index
-        section.old section.new) }
+    last: Option<LastOwner>,
+) -> Result<LastOwner, NoMemory>
+    requires index { index < length section.old }
+    requires last { IfSome last (λ known. known.to ≡ replaced_name replacing.now known.from) }
+    ensures section { OnOk result (Changes (λ r. owned_or r (replaced_name replacing.now r.owner))
+        index section.old section.new) }
+    ensures known { IfOk result (λ known. known.to ≡ replaced_name replacing.now known.from) }
 {
     let entry = &section.as_slice()[index];
-    match replaced_name(alloc, replacing, &entry.owner, room)? {
-        Some(owner) => section.set_owner(index, &owner),
+    let known = renamed(alloc, replacing, room, &entry.owner, last)?;
+    set_made(&known.to, index, section)?;
+    Ok(known)
+}
+
+fn set_made(made: &Option<Name>, index: usize, section: &mut RecordRoom) -> Result<(), NoMemory>
+    requires { index < length section.old }
+    ensures { OnOk result (Changes (λ r. owned_or r made.now) index section.old section.new) }
+{
+    match made {
+        Some(owner) => section.set_owner(index, owner),
         None => Ok(()),
     }
+}
+
+// What a name becomes, which is known where it is the last one.
+fn renamed(
+    alloc: Global,
+    replacing: &Replacing<Finder>,
+    room: &mut RewriteRoom,
+    name: &Name,
+    last: Option<LastOwner>,
+) -> Result<LastOwner, NoMemory>
+    requires last { IfSome last (λ known. known.to ≡ replaced_name replacing.now known.from) }
+    ensures from { IfOk result (λ known. known.from ≡ name.now) }
+    ensures to { IfOk result (λ known. known.to ≡ replaced_name replacing.now name.now) }
+{
+    if let Some(known) = last {
+        if known.from.equals(name) {
+            return Ok(known);
+        }
+    }
+    let to = replaced_name(alloc, replacing, name, room)?;
+    let from = name.copy(alloc)?;
+    Ok(LastOwner { from, to })
 }
 
 // Names in the data of records are renamed where they match.

@@ -7,6 +7,8 @@ mod faults;
 mod feed;
 mod host;
 mod marks;
+mod never_side;
+mod never_watch;
 mod readings;
 mod side;
 mod telling;
@@ -15,6 +17,8 @@ mod watch;
 mod watch_feed;
 
 pub use host::MemHost;
+pub use never_side::NeverSide;
+pub use never_watch::NeverWatch;
 pub use side::MemSide;
 pub use told::{OpenedSide, ToldLine};
 pub use watch::MemWatch;

@@ -5,6 +5,7 @@ use dns_data::Text;
 use std::alloc::Global;
 use std::env;
 use std::env::VarError;
+use std::io::ErrorKind;
 use std::rt::Env;
 
 /// Why a program's words weren't read.
@@ -17,8 +18,9 @@ pub enum Unheard {
 
 /// The words behind the program's own name.
 pub fn words(rt: &(impl Env + AllocGlobal), alloc: Global) -> Result<Vec<Text>, Unheard> {
-    let Ok(args) = env::args(rt) else {
-        return Err(Unheard::NotText);
+    let args = match env::args(rt) {
+        Ok(args) => args,
+        Err(error) => return Err(why_of(error.kind())),
     };
     let mut words = Vec::new(alloc);
     for (index, word) in args.enumerate() {
@@ -27,6 +29,14 @@ pub fn words(rt: &(impl Env + AllocGlobal), alloc: Global) -> Result<Vec<Text>, 
         }
     }
     Ok(words)
+}
+
+// Why the system's words weren't read, by the kind of the error.
+fn why_of(kind: ErrorKind) -> Unheard {
+    match kind {
+        ErrorKind::OutOfMemory => Unheard::NoMemory,
+        _ => Unheard::NotText,
+    }
 }
 
 /// The environment. Where a variable isn't UTF-8 there is none.

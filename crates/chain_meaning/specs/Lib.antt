@@ -8,8 +8,10 @@ pub mod AcceptingLaws
 pub mod Serving
 pub mod Causes
 pub mod CauseLaws
+pub mod Called
 -- what public clauses cite
 pub use Rattle.chain_meaning.specs.Accepting.{IsAccepted, IsRefused, IsRefusedWith}
+pub use Rattle.chain_meaning.specs.Called.{AreCalls, AsksCalls}
 pub use Rattle.chain_meaning.specs.Causes.{AskedCause, HasCause, IsServFail}
 pub use Rattle.chain_meaning.specs.Mean.{mean, nothing, number, outcome_of}
 pub use Rattle.chain_meaning.specs.RefusalTexts.{refusal_text}

@@ -13,6 +13,6 @@ pub use Rattle.forward_plugin.specs.Forward.{Said, all_failed, forward_means, ne
 pub use Rattle.forward_plugin.specs.Options.{ForwardData, fails_of, is_pooled}
 pub use Rattle.forward_plugin.specs.PoolUses.{IsOwn, SameBut, Uses, UsesAt}
 pub use Rattle.forward_plugin.specs.PoolUses.{calls_by, pool_count, pool_place}
-pub use Rattle.forward_plugin.specs.PoolParts.{HasMore, HasParts}
+pub use Rattle.forward_plugin.specs.PoolParts.{HasMore, HasParts, IsUncalled}
 pub use Rattle.forward_plugin.specs.Reading.{forward_data, forward_fault, forward_read}
 pub use Rattle.forward_plugin.specs.Taking.{Forwards, ForwardState, pool_calls, said, state_at}

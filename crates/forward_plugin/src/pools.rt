@@ -3,7 +3,7 @@ ghost use Rattle.std.specs.Prelude.{◌≡◌, ◌<◌, ◌+◌, ◌-◌, ℕ, l
 ghost use Rattle.std.specs.Arc.{arc_value};
 ghost use Rattle.std.specs.List.{All};
 ghost use Rattle.forward_plugin.specs.Forward.{forward_means};
-ghost use Rattle.forward_plugin.specs.PoolParts.{HasMore, HasParts};
+ghost use Rattle.forward_plugin.specs.PoolParts.{HasMore, HasParts, IsUncalled};
 ghost use Rattle.forward_plugin.specs.PoolUses.{IsOwn, SameBut, calls_by, pool_count, pool_place};
 ghost use Rattle.forward_plugin.specs.Taking.{Forwards, state_at, said};
 ghost use Rattle.forward_plugin.specs.declared.say.ForwardSay.TheVariants.{Next};
@@ -55,6 +55,7 @@ impl Pools {
     pub fn split(&mut self, alloc: Global) -> Result<Pools, NoMemory>
         requires { All HasMore self.old }
         ensures count { IfOk result (λ pools. length pools ≡ length self.old) }
+        ensures fresh { IfOk result (λ pools. All IsUncalled pools) }
         ensures stays { length self.new ≡ length self.old }
         ensures parts { (parts : ℕ) → All (HasParts parts) self.old
             → OnOk result (All (HasParts (parts - 1)) self.new) }
@@ -136,8 +137,10 @@ fn split_uses(
     requires own { All IsOwn uses.old }
     requires more { All HasMore uses.old }
     requires others { All IsOwn others.old.items }
+    requires fresh { All IsUncalled others.old.items }
     ensures own { All IsOwn uses.new }
     ensures others { All IsOwn others.new.items }
+    ensures fresh { All IsUncalled others.new.items }
     ensures stays { length uses.new ≡ length uses.old }
     ensures count { OnOk result
         (length others.new.items ≡ length others.old.items + length uses.old) }
@@ -157,6 +160,7 @@ fn split_use(used: &mut PoolUse) -> Result<PoolUse, NoMemory>
     requires more { HasMore used.old }
     ensures own { IsOwn used.new }
     ensures result { IfOk result IsOwn }
+    ensures fresh { IfOk result IsUncalled }
     ensures parts { (parts : ℕ) → HasParts parts used.old
         → OnOk result (HasParts (parts - 1) used.new) }
 {

@@ -1,6 +1,7 @@
 -- What a look for a changed configuration answers, and the marks that it leaves. This server's own
 -- rule. The answers are tried in the order in which they stand here.
-use Rattle.std.specs.Prelude.{◌≡◌, ◌≢◌, ◌<◌, ℕ, Bool, List, [], ◌∷◌, ◌++◌, Result, Ok, Err}
+use Rattle.std.specs.Prelude.{◌≡◌, ◌≢◌, ◌<◌, ℕ, ◌*◌, Bool, List, [], ◌∷◌, ◌++◌, map, Result, Ok}
+use Rattle.std.specs.Prelude.{Err}
 use Rattle.dns_data.specs.declared.block.Block.{Block}
 use Rattle.pin_core.specs.declared.slots.TheConstants as pins
 use Rattle.pin_table.specs.declared.free_slots.Left.{Left}
@@ -15,6 +16,8 @@ use Rattle.corefile_bundle.specs.{OneRead, marks_of}
 use Rattle.chain_meaning.specs.declared.refusal.Refusal.{Refusal}
 use Rattle.chain_meaning.specs.declared.refusal.Refusal.TheVariants as refusal
 use Rattle.chain_meaning.specs.{IsAccepted, IsRefused, Terms}
+use Rattle.chain_meaning.specs.Steps.{block_extras}
+use Rattle.extra_stock.specs.{asked_by, is_named}
 use Rattle.run_meaning.specs.declared.looking.Looking.{Looking}
 use Rattle.run_meaning.specs.declared.looking.Looking.TheVariants as looking
 use Rattle.run_meaning.specs.Messages.{look_text}
@@ -61,10 +64,13 @@ pub record FoundPinned (standing : Standing) (other : List Block) (first second 
   pub three : IsPinnedSlot third
 
 -- another bundle could be published and a slot was free, but it asks for more extras of a name than
--- there were
-pub record FoundShort (standing : Standing) (other : List Block) (asked had : ℕ) : Type 0 where
+-- there were: for one for each of its directives of that name and each worker
+pub record FoundShort (standing : Standing) (other : List Block) (name : List ℕ) (asked had : ℕ)
+    : Type 0 where
   pub ports : SamePorts other standing.blocks
   pub few : standing.published < pins.MOST_SERIALS
+  pub workers : ℕ
+  pub asked_is : asked ≡ workers * asked_by (is_named name) (map block_extras other)
   pub short : had < asked
 
 -- what a look answers where the gathering came to this
@@ -83,7 +89,7 @@ AnswersLook standing gives looking.SerialsSpent =
 AnswersLook standing gives (looking.AllPinned first second third) =
     GaveOther standing gives (λ other. FoundPinned standing other first second third)
 AnswersLook standing gives (looking.StockShort name asked had) =
-    GaveOther standing gives (λ other. FoundShort standing other asked had)
+    GaveOther standing gives (λ other. FoundShort standing other name asked had)
 AnswersLook standing gives (looking.Published serial) =
     GaveOther standing gives
     (λ other. SamePorts other standing.blocks

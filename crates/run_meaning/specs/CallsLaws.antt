@@ -7,7 +7,8 @@ use Rattle.outside.specs.declared.mark.Mark.{Mark}
 use Rattle.outside.specs.declared.mark.Mark.TheVariants.{RecvEnd, Sent, Unpinned}
 use Rattle.run_meaning.specs.declared.work_end.WorkEnd.{WorkEnd}
 use Rattle.run_meaning.specs.declared.work_end.WorkEnd.TheVariants as ends
-use Rattle.run_meaning.specs.Calls.{calls, calls_in, is_call}
+use Rattle.one_history.specs.Shared.{calls_in, is_call}
+use Rattle.run_meaning.specs.Calls.{calls}
 use Rattle.run_meaning.specs.Turn.{Turn, failed, unread, replied, silenced, starved, marks_of}
 use Rattle.run_meaning.specs.Workers.{Ending, Worked, WorkerRun}
 

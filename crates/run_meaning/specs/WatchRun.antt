@@ -1,5 +1,5 @@
 -- All looks of a watch: what its journal tells of them, and how they end. This server's own rule.
-use Rattle.std.specs.Prelude.{◌≡◌, ◌⊎◌, ℕ, false, List, [], ◌∷◌, ◌++◌, Result, Ok}
+use Rattle.std.specs.Prelude.{◌≡◌, ◌⊎◌, false, List, [], ◌∷◌, ◌++◌, Result, Ok}
 use Rattle.std.specs.List.{flat_map}
 use Rattle.dns_data.specs.declared.block.Block.{Block}
 use Rattle.outside.specs.declared.mark.WatchMark.{WatchMark}

@@ -2,7 +2,7 @@ use Rattle.std.proofs.Common.{◌-◌, rules, subst, sym}
 use Rattle.std.specs.List.{All}
 use Rattle.std.proofs.lemmas.List.Elements.{All-cons, All-push}
 use Rattle.std.proofs.lemmas.Result.{on_ok_weaker}
-use Rattle.forward_plugin.specs.PoolParts.{HasMore, HasParts}
+use Rattle.forward_plugin.specs.PoolParts.{HasMore, HasParts, IsUncalled}
 use Rattle.forward_plugin.specs.PoolUses.{IsOwn}
 use Rattle.forward_plugin.proofs.Partings.{first_one, put_back, the_rest}
 use Rattle.forward_plugin.proofs.pools.+split_uses.Goals as goal
@@ -28,7 +28,10 @@ split_uses-requires t c =
         the_rest IsOwn c.args.uses.now c.in-Some.first.now c.in-Some.rest.now is c.requires.own,
         (
           the_rest HasMore c.args.uses.now c.in-Some.first.now c.in-Some.rest.now is c.requires.more,
-          subst (All IsOwn) (sym c.in_ok-push.ensures.items) (All-push IsOwn c.args.others.now.items c.in_ok-split_use.field-0 c.requires.others c.in_ok-split_use.ensures.result),
+          (
+            subst (All IsOwn) (sym c.in_ok-push.ensures.items) (All-push IsOwn c.args.others.now.items c.in_ok-split_use.field-0 c.requires.others c.in_ok-split_use.ensures.result),
+            subst (All IsUncalled) (sym c.in_ok-push.ensures.items) (All-push IsUncalled c.args.others.now.items c.in_ok-split_use.field-0 c.requires.fresh c.in_ok-split_use.ensures.fresh),
+          ),
         ),
       ),
     )

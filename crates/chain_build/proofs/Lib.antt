@@ -9,3 +9,6 @@ pub mod Coming
 pub mod OneForward
 pub mod Parts
 pub mod Pooled
+pub mod Logging
+pub mod PlacesOfPools
+pub mod LoggedWalks

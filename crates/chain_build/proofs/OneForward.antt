@@ -11,7 +11,7 @@ use Rattle.chain_build.specs.declared.block_chain.BackAnswerer.{BackAnswerer}
 use Rattle.chain_build.specs.declared.places.Places.{Places}
 use Rattle.chain_build.specs.Compiled.{back_of}
 use Rattle.chain_build.specs.Places.{answers_in}
-use Rattle.chain_build.specs.Pools.{AllTake, HasOneForward, TakesPools, forwards_in, pools_in}
+use Rattle.chain_build.specs.Pools.{AllTake, HasLoneForward, HasNoForward, HasOneForward, TakesPools, forwards_in, pools_in}
 
 -- which directives stand among the steps
 past_templates : (plans : List PlanData) (rest : List Step) → forwards_in (template_steps plans ++ rest) ≡ forwards_in rest
@@ -82,3 +82,33 @@ pub rest_takes : (n m : ℕ) (steps rest : List BackAnswerer) (plugin : BackAnsw
 rest_takes n m steps rest plugin is same all =
     let here : All (TakesPools n) (map back_of (plugin ∷ rest)) = subst (λ (s : List BackAnswerer). All (TakesPools n) (map back_of s)) is all in
     subst (λ (k : ℕ). All (TakesPools k) (map back_of rest)) (sym same) (All-tail (TakesPools n) (back_of plugin) (map back_of rest) here)
+
+-- and no step of `forward` stands behind another
+lone_templates : (plans : List PlanData) (rest : List Step) → HasLoneForward rest → HasLoneForward (template_steps plans ++ rest)
+lone_templates [] rest lone = lone
+lone_templates (plan ∷ plans) rest lone = lone
+
+lone_hosts : (plans : List HostsData) (rest : List Step) → HasLoneForward rest → HasLoneForward (hosts_steps plans ++ rest)
+lone_hosts [] rest lone = lone
+lone_hosts (plan ∷ plans) rest lone = lone_hosts plans rest lone
+
+lone_files : (plans : List FileData) (rest : List Step) → HasLoneForward rest → HasLoneForward (file_steps plans ++ rest)
+lone_files [] rest lone = lone
+lone_files (plan ∷ plans) rest lone = lone
+
+none_whoami : (stands : Bool) → HasNoForward (whoami_steps stands)
+none_whoami true = refl
+none_whoami false = refl
+
+lone_whoami : (stands : Bool) → HasLoneForward (whoami_steps stands)
+lone_whoami true = refl
+lone_whoami false = refl
+
+lone_forwards : (plans : List ForwardData) (stands : Bool) → HasLoneForward (forward_steps plans ++ whoami_steps stands)
+lone_forwards [] stands = lone_whoami stands
+lone_forwards (plan ∷ plans) stands = none_whoami stands
+
+pub compiled_lone : (back : List BackAnswerer) (places : Places) → map back_of back ≡ answers_in places → HasLoneForward (map back_of back)
+compiled_lone back places is =
+    subst HasLoneForward (sym is)
+    (lone_templates places.templates _ (lone_hosts places.hosts _ (lone_files places.files _ (lone_forwards places.forwards places.whoami))))

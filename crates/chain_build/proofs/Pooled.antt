@@ -1,5 +1,5 @@
 -- The pools of a chain by its number, and what using some of them keeps.
-use Rattle.std.proofs.Common.{◌≡◌, ◌<◌, ℕ, zero, suc, List, [], ◌∷◌, ◌++◌, map, length, take, drop, Some, option_map, slice_get, slice_index_or, slice_set, sym, ap, ◌∙◌, arith}
+use Rattle.std.proofs.Common.{◌≡◌, ◌<◌, refl, ℕ, zero, suc, List, [], ◌∷◌, ◌++◌, map, length, take, drop, Some, option_map, slice_get, slice_index_or, slice_set, sym, ap, ◌∙◌, arith}
 use Rattle.std.proofs.lemmas.List.{append-nil, drop_all, length-map, take_all}
 use Rattle.std.proofs.lemmas.Option.{slice_get-map}
 use Rattle.chain_build.specs.BlockPools.{chain_pools}
@@ -21,6 +21,12 @@ module _ {A : Type 0} where
   kept_lengths [] n x d inside same = absurd (omega (arith, inside))
   kept_lengths (y ∷ ys) zero x d inside same = ap (λ (k : ℕ). k ∷ map length ys) same
   kept_lengths (y ∷ ys) (suc n) x d inside same = ap (λ (ks : List ℕ). length y ∷ ks) (kept_lengths ys n x d (omega (arith, inside)) same)
+
+  -- what stands within a list stands there by whatever would stand behind it
+  pub same_at : (xs : List (List A)) (n : ℕ) (d e : List A) → n < length xs → slice_index_or xs n d ≡ slice_index_or xs n e
+  same_at [] n d e inside = absurd (omega (arith, inside))
+  same_at (x ∷ xs) zero d e inside = refl
+  same_at (x ∷ xs) (suc n) d e inside = same_at xs n d e (omega (arith, inside))
 
   -- lists of lists of the same lengths are as long
   pub same_count : (xs ys : List (List A)) (ks : List ℕ) → map length xs ≡ ks → map length ys ≡ ks → length ys ≡ length xs

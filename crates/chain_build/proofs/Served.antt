@@ -23,19 +23,41 @@ use Rattle.chain_meaning.specs.declared.decision.Decision.TheVariants as decisio
 use Rattle.dns_data.specs.declared.class.TheConstants as classes
 use Rattle.dns_data.specs.declared.rcode.TheConstants as rcodes
 use Rattle.chain_meaning.specs.Serving.{Replies, answer_in, block_decides, block_of, chain_decides, class_decides, is_known_version, limit_of, opt_reply, query_decides, query_of}
-use Rattle.chain_meaning.specs.Serving.{refused, reply_message, upper_code}
+use Rattle.chain_meaning.specs.Serving.{Serves, bundle_decides, refused, reply_message, upper_code}
 use Rattle.chain_meaning.specs.declared.decision.Decision.{Decision}
-use Rattle.plugin_api.specs.{Sayings}
+use Rattle.chain_meaning.specs.declared.served.Served.{Served}
+use Rattle.chain_meaning.specs.declared.served.Served.TheVariants as served
+use Rattle.chain_meaning.specs.declared.served.Silence.TheVariants as silence
+use Rattle.chain_meaning.specs.Accepting.{IsAccepted}
+use Rattle.chain_meaning.specs.Grounds.{Terms}
+use Rattle.corefile_blocks.specs.declared.bundle.Bundle.{Bundle}
+use Rattle.dns_wire.specs.{QueriesThis, asked_by}
+use Rattle.dns_wire.specs.declared.asked.AskedBeside.{AskedBeside}
+use Rattle.outside.specs.States.{SideState}
+use Rattle.outside.specs.Journals.{adds-nothing}
+use Rattle.outside.specs.TakingLaws.{stays-nothing, took-as}
+use Rattle.dns_lists.specs.declared.memory.NoMemory.{NoMemory}
+use Rattle.one_history.specs.Logs.{GrowsBy, Place, part_at}
+use Rattle.one_history.specs.Shared.{calls_in, placed}
+use Rattle.std.specs.Prelude.{Result, Err, option_and_then}
+use Rattle.plugin_api.specs.{picked}
+use Rattle.chain_meaning.specs.Called.{call_place, place_at, place_in}
+use Rattle.chain_build.specs.LoggedWalks.{ServeState, TakesAt, serving}
+use Rattle.chain_build.specs.Logs.{LogShape, chain_places, shape_of}
+use Rattle.pin_table.specs.{Grows}
+use Rattle.chain_build.specs.Workers.{server_in}
+use Rattle.chain_build.proofs.Logging.{grows_same}
+use Rattle.plugin_api.specs.{Sayings, Takings}
 use Rattle.chain_meaning.specs.MeanLaws.{extras_say, mean-extras}
 use Rattle.chain_meaning.specs.Steps.{Step, extra_step, extra_steps, none_said, rewrite_steps, steps_of}
-use Rattle.chain_build.specs.Plans.{extras_in, steps_in}
+use Rattle.chain_build.specs.Plans.{PlansData, extras_in, steps_in, terms_in}
 use Rattle.chain_build.specs.Compiled.{back_of, back_steps, front_of, whole_by, whole_with}
 use Rattle.chain_build.specs.declared.block_chain.BackAnswerer.{BackAnswerer}
 use Rattle.chain_build.specs.declared.block.BlockChain.{BlockChain}
 use Rattle.chain_build.specs.declared.ended.Ended.{Ended}
 use Rattle.chain_build.specs.declared.ended.Ended.TheVariants as end
 use Rattle.chain_build.specs.declared.block_chain.FrontStep.{FrontStep}
-use Rattle.chain_build.specs.Replying.{lent_of, whole_answer, whole_message}
+use Rattle.chain_build.specs.Replying.{Finishes, LogsServing, Server, TellsServing, lent_of, whole_answer, whole_message}
 
 pub by_number : (said : Sayings) (files : List FileText) (chains : List BlockChain) (blocks : List Block) (n : ℕ) → map (steps_in said) chains ≡ map (steps_of said files) blocks
     → option_map (steps_in said) (slice_get chains n) ≡ option_map (steps_of said files) (slice_get blocks n)
@@ -145,6 +167,128 @@ replied {d} {asked} e {v} {slot} {after} {m} {limit} {upper} {opt} {q} {bytes} u
 pub starved_after : {A : Type 0} (means : List Mark → Meaning A) (v : A) (marks : List Mark) → Took means (Ok v) marks → Starved (means marks)
 starved_after means v marks took =
     let all : means marks ≡ Done v [] = ap means (sym (append-nil marks)) ∙ took [] in subst Starved (sym all) refl
+
+-- what is sent for what these marks decided is what the datagram means by them
+pub serves-so : (bundle : Bundle) (terms : Terms) (d : Datagram) (blocks : List Block) (asked : Asked) (v : Decision) (marks : List Mark) (result : Served) → IsAccepted terms bundle blocks → QueriesThis d.bytes asked
+    → ((left : List Mark) → bundle_decides terms bundle blocks d asked (marks ++ left) ≡ Done v left) → Finishes d asked v result → Serves bundle terms d marks result
+serves-so bundle terms d blocks asked v marks (served.Reply bytes) accepted queries took h =
+    inl (record { blocks = blocks; accepted = accepted; asked = asked; queries = queries; decision = v; took = took; is = h })
+serves-so bundle terms d blocks asked v marks (served.Silent silence.Dropped) accepted queries took h =
+    record { blocks = blocks; accepted = accepted; asked = asked; queries = queries; decision = v; took = took; is = h }
+serves-so bundle terms d blocks asked v marks (served.Silent silence.Short) accepted queries took h = absurd h
+serves-so bundle terms d blocks asked v marks (served.Silent silence.Response) accepted queries took h = absurd h
+serves-so bundle terms d blocks asked v marks served.NoMemory accepted queries took h =
+    inr (record { blocks = blocks; accepted = accepted; asked = asked; queries = queries; starved = starved_after (bundle_decides terms bundle blocks d asked) v marks took })
+
+-- what took no mark logs nothing
+pub logs_nothing : (server : Server) (d : Datagram) (log : List (List Mark)) → LogsServing server d [] log log
+logs_nothing server d log = record { calls = []; are = inl (refl, refl); grown = λ block part. sym (append-nil (part_at server.places log block part)); follows = grows_same log }
+
+-- want of memory before the first mark
+pub told_without : (server : Server) (d : Datagram) (side : SideState) (log : List (List Mark)) → TellsServing server d served.NoMemory (serving side log) (serving side log)
+told_without server d side log = record { marks = []; told = adds-nothing side; stays = stays-nothing side; serves = inl refl; logs = logs_nothing server d log }
+
+-- so serving tells what was decided and sent
+module _ (taken : Takings) (said : Sayings) (plans : PlansData) (serial : ℕ) (d : Datagram) (name : List (List ℕ)) (beside : AskedBeside) (q : Query) (v : Decision) (result : Served)
+    (accepted : IsAccepted (terms_in taken said plans) plans.bundle plans.blocks) (queries : QueriesThis d.bytes (asked_by name beside)) (is : q ≡ query_of d (asked_by name beside)) where
+  abbrev decides : List Mark → Meaning Decision
+  decides = query_decides beside.opt beside.class (steps_of said plans.bundle.files) plans.blocks q
+
+  serves_it : (marks : List Mark) → ((left : List Mark) → decides (marks ++ left) ≡ Done v left) → Finishes d (asked_by q.name beside) v result → Serves plans.bundle (terms_in taken said plans) d marks result
+  serves_it marks took sent =
+      let asked : Asked = asked_by name beside in
+      let by : (left : List Mark) → bundle_decides (terms_in taken said plans) plans.bundle plans.blocks d asked (marks ++ left) ≡ Done v left
+      = subst (λ x. (left : List Mark) → query_decides beside.opt beside.class (steps_of said plans.bundle.files) plans.blocks x (marks ++ left) ≡ Done v left) is took in
+      let send : Finishes d asked v result = subst (λ x. Finishes d (asked_by x.name beside) v result) is sent in
+      serves-so plans.bundle (terms_in taken said plans) d plans.blocks asked v marks result accepted queries by send
+
+  -- without a mark
+  pub told_at_once : (side : SideState) (log : List (List Mark)) → ((left : List Mark) → decides left ≡ Done v left) → Finishes d (asked_by q.name beside) v result
+      → TellsServing (server_in taken said plans serial) d result (serving side log) (serving side log)
+  told_at_once side log took sent = record {
+    marks = [];
+    told = adds-nothing side;
+    stays = stays-nothing side;
+    serves = serves_it [] took sent;
+    logs = logs_nothing (server_in taken said plans serial) d log;
+  }
+
+  -- by what a chain took, with its calls
+  pub told_by : (place : Option Place) (old new : ServeState) → call_place (steps_of said plans.bundle.files) plans.blocks q ≡ place → TakesAt (shape_of plans serial) place decides (Ok v) old new
+      → Finishes d (asked_by q.name beside) v result → TellsServing (server_in taken said plans serial) d result old new
+  told_by place old new placed_is takes sent = record {
+    marks = takes.takes.marks;
+    told = takes.takes.told;
+    stays = takes.takes.stays;
+    serves = serves_it takes.takes.marks takes.takes.took sent;
+    logs = logs_by place takes.takes.marks old.log new.log placed_is takes.grown takes.follows;
+  }
+    where
+      logs_by : (place : Option Place) (marks : List Mark) (before after : List (List Mark)) → call_place (steps_of said plans.bundle.files) plans.blocks q ≡ place
+          → GrowsBy (chain_places plans) serial (placed serial place (calls_in marks)) before after → Grows before after → LogsServing (server_in taken said plans serial) d marks before after
+      logs_by place marks before after at grown follows = record {
+        calls = placed serial place (calls_in marks);
+        are = inr (record {
+          blocks = plans.blocks;
+          accepted = accepted;
+          asked = asked_by name beside;
+          queries = queries;
+          are = ap (λ (p : Option Place). placed serial p (calls_in marks)) (sym at ∙ ap (call_place (steps_of said plans.bundle.files) plans.blocks) is);
+        });
+        grown = grown;
+        follows = follows;
+      }
+
+-- what memory ended in the middle of
+pub told_starved : (taken : Takings) (said : Sayings) (plans : PlansData) (serial : ℕ) (d : Datagram) (name : List (List ℕ)) (beside : AskedBeside) (q : Query) (place : Option Place) (e : NoMemory) (old new : ServeState)
+    → IsAccepted (terms_in taken said plans) plans.bundle plans.blocks → QueriesThis d.bytes (asked_by name beside) → q ≡ query_of d (asked_by name beside)
+    → call_place (steps_of said plans.bundle.files) plans.blocks q ≡ place
+    → TakesAt (shape_of plans serial) place (query_decides beside.opt beside.class (steps_of said plans.bundle.files) plans.blocks q) (Err e) old new
+    → TellsServing (server_in taken said plans serial) d served.NoMemory old new
+told_starved taken said plans serial d name beside q place e old new accepted queries is at takes = record {
+  marks = takes.takes.marks;
+  told = takes.takes.told;
+  stays = takes.takes.stays;
+  serves = inr (record {
+    blocks = plans.blocks;
+    accepted = accepted;
+    asked = asked_by name beside;
+    queries = queries;
+    starved = subst (λ x. Starved (query_decides beside.opt beside.class (steps_of said plans.bundle.files) plans.blocks x takes.takes.marks)) is takes.takes.took;
+  });
+  logs = record {
+    calls = placed serial place (calls_in takes.takes.marks);
+    are = inr (record {
+      blocks = plans.blocks;
+      accepted = accepted;
+      asked = asked_by name beside;
+      queries = queries;
+      are = ap (λ (p : Option Place). placed serial p (calls_in takes.takes.marks)) (sym at ∙ ap (call_place (steps_of said plans.bundle.files) plans.blocks) is);
+    });
+    grown = takes.grown;
+    follows = takes.follows;
+  };
+}
+
+-- a chain's meaning as that of the query that goes through it
+pub takes_at : {A : Type 0} {shape : LogShape} {place : Option Place} (means same : List Mark → Meaning A) {result : Result A NoMemory} {old new : ServeState} → ((marks : List Mark) → same marks ≡ means marks)
+    → TakesAt shape place means result old new → TakesAt shape place same result old new
+takes_at means same {result = result} so p = record {
+  takes = record { marks = p.takes.marks; told = p.takes.told; stays = p.takes.stays; took = took-as means same result p.takes.marks so p.takes.took };
+  grown = p.grown;
+  follows = p.follows;
+}
+
+-- where the calls of a query stand that goes through a chain
+pub place_by_number : (said : Sayings) (files : List FileText) (chains : List BlockChain) (blocks : List Block) (n : ℕ) (chain : BlockChain) (q : Query) → map (steps_in said) chains ≡ map (steps_of said files) blocks
+    → slice_get chains n ≡ Some chain → picked blocks q.local q.name ≡ Some n → call_place (steps_of said files) blocks q ≡ place_in (steps_in said chain) n q
+place_by_number said files chains blocks n chain q same at is =
+    let steps : option_map (steps_of said files) (slice_get blocks n) ≡ Some (steps_in said chain) = sym (by_number said files chains blocks n same) ∙ ap (option_map (steps_in said)) at in
+    ap (option_and_then (place_at (steps_of said files) blocks q)) is ∙ by_block (slice_get blocks n) steps
+  where
+    by_block : (o : Option Block) → option_map (steps_of said files) o ≡ Some (steps_in said chain) → option_and_then (λ b. place_in (steps_of said files b) n q) o ≡ place_in (steps_in said chain) n q
+    by_block None e = absurd cc
+    by_block (Some block) e = let one : steps_of said files block ≡ steps_in said chain = cc in ap (λ (s : List Step). place_in s n q) one
 
 -- by the version of EDNS and the class
 pub version_known : (opt : Option Opt) (class : ℕ) (chains : Block → List Step) (blocks : List Block) (q : Query) → is_known_version opt ≡ true → (marks : List Mark)

@@ -27,7 +27,7 @@ use Rattle.plugin_api.specs.declared.verdict.Verdict.TheVariants as verdict
 use Rattle.chain_meaning.specs.MeanLaws.{answer_nothing, extras_say, mean-step, mean_nothing, or_rest_nothing, rule-others}
 use Rattle.chain_meaning.specs.Steps.{Answerer, Forward, Step, Others, extra_says, verdict_decides}
 use Rattle.chain_build.specs.Compiled.{back_of}
-use Rattle.chain_build.specs.Walking.{Answered, Restored, answered, decided, decision_of}
+use Rattle.chain_build.specs.Walking.{Answered, Restored, Said, Tries, answered, decided, decision_of}
 use Rattle.chain_build.specs.declared.block_chain.BackAnswerer.{BackAnswerer}
 use Rattle.chain_build.specs.declared.ended.Ended.{Ended}
 
@@ -55,6 +55,23 @@ goes plugin rest q old new answered is left =
     let both : (new ≡ old) × ((marks : List Mark) → answer_of plugin q marks ≡ Done None marks) = subst (λ o. Answered plugin q old new (Ok o)) is answered in
     ap (λ x. onward x (or_rest rest q)) (both.1 left)
 
+-- a walk that asks nothing, by the same meaning under another name
+pub tries-as : (means other : List Mark → Meaning Decision) (slot : AnswerData) (r : Result (Option Ended) NoMemory) → ((marks : List Mark) → other marks ≡ means marks) → Tries means slot r → Tries other slot r
+tries-as means other slot (Ok None) same h = h
+tries-as means other slot (Ok (Some e)) same h = λ left. same left ∙ h left
+tries-as means other slot (Err x) same h = subst Starved (sym (same [])) h
+
+pub tries-err : (means : List Mark → Meaning Decision) (slot : AnswerData) (r : Result (Option Ended) NoMemory) → IsErr r → Starved (means []) → Tries means slot r
+tries-err means slot (Ok o) fails none = absurd cc
+tries-err means slot (Err x) fails none = none
+
+pub tried : (means : List Mark → Meaning Decision) (slot : AnswerData) (r : Option Ended) (e : Ended) → Tries means slot (Ok r) → r ≡ Some e → (left : List Mark) → means left ≡ Done (decision_of e slot) left
+tried means slot r e h is = let ended : Tries means slot (Ok (Some e)) = subst (λ o. Tries means slot (Ok o)) is h in ended
+
+pub goes_clear : (plugin : Answerer) (q : Query) (old new : AnswerData) {r : Option Ended} → Answered plugin q old new (Ok r) → r ≡ None → new ≡ old
+goes_clear plugin q old new answered is =
+    let both : (new ≡ old) × ((marks : List Mark) → answer_of plugin q marks ≡ Done None marks) = subst (λ o. Answered plugin q old new (Ok o)) is answered in both.0
+
 pub rewritten_nothing : (back : List BackAnswerer) (ds : List Directive) (changed : Changed) → Starved (rewritten (mean (map back_of back)) ds changed [])
 rewritten_nothing back ds changed = starved_onward (mean (map back_of back) changed.query []) (reply_restored ds changed) (mean_nothing (map back_of back) changed.query) (λ v. refl)
 
@@ -73,7 +90,7 @@ pub others_starved : (says : Query → Option Decision) (steps : List Step) (q :
     → IsErr result → Takes (mean (Others says ∷ steps) q) (decided result answer) side side
 others_starved says steps q result answer side fails = takes-starved (mean (Others says ∷ steps) q) (decided-err result answer fails) (mean_nothing (Others says ∷ steps) q)
 
-others : (says : Query → Option Decision) (steps : List Step) (q : Query) {o : Option Decision} → says q ≡ o → (marks : List Mark)
+pub others : (says : Query → Option Decision) (steps : List Step) (q : Query) {o : Option Decision} → says q ≡ o → (marks : List Mark)
     → mean (Others says ∷ steps) q marks ≡ or_rest (mean steps) q o marks
 others says steps q said marks = mean-step (Others says) steps q marks ∙ rule-others says (mean steps) q marks ∙ ap (λ o. or_rest (mean steps) q o marks) said
 
@@ -146,3 +163,8 @@ pub forward_starves : (plans : List ForwardData) (q : Query) (e : NoMemory) (res
 unfolding answer_of
 forward_starves plans q e (Ok o) slot fails p = absurd cc
 forward_starves plans q e (Err f) slot fails p = asks-fails (forward_means plans q) forward_answered refl (forwards_ask (forward_means plans q) p) (λ v. refl)
+
+-- plugins of others go on
+pub said_none : (says : Query → Option Decision) (q : Query) (old new : AnswerData) {r : Option Ended} → Said says q old new (Ok r) → r ≡ None → says q ≡ None
+said_none says q old new said is =
+    let both : (new ≡ old) × (says q ≡ None) = subst (λ (o : Option Ended). Said says q old new (Ok o)) is said in both.1

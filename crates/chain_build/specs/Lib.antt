@@ -13,6 +13,8 @@ pub mod PlacesLaws
 pub mod Reading
 pub mod Replying
 pub mod Walking
+pub mod Logs
+pub mod LoggedWalks
 pub mod WalkingLaws
 -- what public clauses cite
 pub use Rattle.chain_build.specs.Building.{Builds, BuildsChains}
@@ -20,5 +22,7 @@ pub use Rattle.chain_build.specs.Chains.{IsMade, IsRead, MakesPlans, ReadsBundle
 pub use Rattle.chain_build.specs.Own.{AreOwnPlans, OwnChain, own_ground, own_terms}
 pub use Rattle.chain_build.specs.Reading.{check_behind, is_of_pattern}
 pub use Rattle.chain_build.specs.Plans.{ArePlans, PlansData, ground_of, terms_in}
-pub use Rattle.chain_build.specs.Workers.{chain_extras, chain_identity, chain_log, plans_of}
-pub use Rattle.chain_build.specs.Replying.{TellsServing}
+pub use Rattle.chain_build.specs.Workers.{chain_extras, chain_identity, chain_log, plans_of, server_of}
+pub use Rattle.chain_build.specs.LoggedWalks.{ServeState, serving}
+pub use Rattle.chain_build.specs.Logs.{chain_places}
+pub use Rattle.chain_build.specs.Replying.{LogsServing, Server, TellsServing}

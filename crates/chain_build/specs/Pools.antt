@@ -1,5 +1,5 @@
 -- The pools of a block's chain: one for each of its directives `forward` that has one.
-use Rattle.std.specs.Prelude.{◌≡◌, ℕ, List, [], ◌∷◌, map}
+use Rattle.std.specs.Prelude.{◌≡◌, ℕ, Bool, true, false, List, [], ◌∷◌, map}
 use Rattle.std.specs.List.{All}
 use Rattle.forward_plugin.specs.{ForwardData, pool_count}
 use Rattle.chain_meaning.specs.Steps.{Step, Answers, Forward}
@@ -38,3 +38,21 @@ AllTake count back = All (TakesPools count) (map back_of back)
 -- no plugin takes others than the first `forward`
 abbrev pub HasOneForward : List BackAnswerer → Type 0
 HasOneForward back = AllTake (pools_in back) back
+
+-- whether no step is `forward`
+abbrev pub none_forwards : List Step → Bool
+none_forwards [] = true
+none_forwards (Answers (Forward plans) ∷ steps) = false
+none_forwards (step ∷ steps) = none_forwards steps
+
+abbrev pub HasNoForward : List Step → Type 0
+HasNoForward steps = none_forwards steps ≡ true
+
+-- whether none stands behind another
+abbrev pub one_forwards : List Step → Bool
+one_forwards [] = true
+one_forwards (Answers (Forward plans) ∷ steps) = none_forwards steps
+one_forwards (step ∷ steps) = one_forwards steps
+
+abbrev pub HasLoneForward : List Step → Type 0
+HasLoneForward steps = one_forwards steps ≡ true

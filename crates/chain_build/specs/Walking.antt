@@ -1,11 +1,11 @@
 -- What the parts of a walk do.
-use Rattle.std.specs.Prelude.{◌≡◌, List, Option, Some, None, Result, Ok, Err}
+use Rattle.std.specs.Prelude.{◌≡◌, List, [], Option, Some, None, Result, Ok, Err}
 use Rattle.dns_lists.specs.declared.memory.NoMemory.{NoMemory}
-use Rattle.dns_data.specs.Message.{AnswerData}
+use Rattle.dns_data.specs.Message.{AnswerData, no_answer}
 use Rattle.dns_data.specs.declared.directive.Directive.{Directive}
 use Rattle.dns_data.specs.declared.query.Query.{Query}
 use Rattle.dns_write.specs.Tails.{with_tail}
-use Rattle.outside.specs.Meanings.{Done}
+use Rattle.outside.specs.Meanings.{Meaning, Done, Starved}
 use Rattle.outside.specs.declared.mark.Mark.{Mark}
 use Rattle.chain_meaning.specs.declared.decision.Decision.{Decision}
 use Rattle.chain_meaning.specs.declared.decision.Decision.TheVariants as decision
@@ -49,6 +49,14 @@ abbrev pub Said : (Query → Option Decision) → Query → AnswerData → Answe
 Said says q old new (Ok None) = (new ≡ old) × (says q ≡ None)
 Said says q old new (Ok (Some e)) = says q ≡ Some (decision_of e new)
 Said says q old new (Err e) = Unit {0}
+
+-- a walk that asks nothing ended so, with this answer in the slot, or left it clear where it met a
+-- plugin that asks
+abbrev pub Tries : (List Mark → Meaning Decision) → AnswerData → Result (Option Ended) NoMemory
+    → Type 0
+Tries means slot (Ok None) = slot ≡ no_answer
+Tries means slot (Ok (Some e)) = (left : List Mark) → means left ≡ Done (decision_of e slot) left
+Tries means slot (Err e) = Starved (means [])
 
 -- the reply of the rest was restored by the rules that were applied
 abbrev pub Restored : List Directive → Changed → Decision → AnswerData → Result Ended NoMemory

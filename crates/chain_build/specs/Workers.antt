@@ -1,14 +1,17 @@
 -- Which chain a worker's chain is. This server's own rule.
-use Rattle.std.specs.Prelude.{List, []}
+use Rattle.std.specs.Prelude.{ℕ, List}
 use Rattle.std.specs.Arc.{arc_value}
 use Rattle.std.specs.Box.{box_value}
 use Rattle.dns_data.specs.declared.directive.Directive.{Directive}
 use Rattle.outside.specs.declared.mark.Mark.{Mark}
 use Rattle.pin_table.specs.{Identity, tag}
+use Rattle.plugin_api.specs.{Sayings, Takings}
 use Rattle.plugin_api.specs.declared.extra.Extra as extra
 use Rattle.plugin_api.specs.declared.rulebook.Rulebook as rulebook
 use Rattle.chain_build.specs.declared.chain.Chain.{Chain}
-use Rattle.chain_build.specs.Plans.{PlansData}
+use Rattle.chain_build.specs.Logs.{chain_places, held_log}
+use Rattle.chain_build.specs.Plans.{PlansData, terms_in}
+use Rattle.chain_build.specs.Replying.{Server}
 
 -- what a chain serves by
 abbrev pub plans_of : {B E : Type 0} {b : rulebook.Ghosts B} {e : extra.Ghosts E}
@@ -21,10 +24,25 @@ abbrev pub chain_identity : {B E : Type 0} {b : rulebook.Ghosts B} {e : extra.Gh
 chain_identity chain =
     tag (box_value chain.held).serial (box_value chain.held).worker (plans_of chain)
 
--- it keeps no log: what a pool that workers share told it stands in its side's journal alone
+-- what it called of what workers share
 abbrev pub chain_log : {B E : Type 0} {b : rulebook.Ghosts B} {e : extra.Ghosts E}
     → Chain B E b e → List (List Mark)
-chain_log chain = []
+chain_log chain = held_log (box_value chain.held).pools.items
+
+-- by what plans serve, with this serial
+abbrev pub server_in : Takings → Sayings → PlansData → ℕ → Server
+server_in taken said plans serial = record {
+  bundle = plans.bundle;
+  terms = terms_in taken said plans;
+  serial = serial;
+  places = chain_places plans;
+}
+
+-- by what a chain serves
+abbrev pub server_of : {B E : Type 0} {b : rulebook.Ghosts B} {e : extra.Ghosts E}
+    → Chain B E b e → Server
+server_of {b} chain =
+    server_in b.taken b.said (plans_of chain) (box_value chain.held).serial
 
 -- the directives of its extras, block by block
 abbrev pub chain_extras : {B E : Type 0} {b : rulebook.Ghosts B} {e : extra.Ghosts E}

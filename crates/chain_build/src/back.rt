@@ -1,14 +1,17 @@
-ghost use Rattle.std.specs.Prelude.{◌≡◌, None, OnOk, IfOk, length, map};
+ghost use Rattle.std.specs.Prelude.{◌≡◌, [], ◌∷◌, None, OnOk, IfOk, length, map};
 ghost use Rattle.dns_data.specs.Message.{no_answer};
 ghost use Rattle.dns_write.specs.{with_tail};
-ghost use Rattle.forward_plugin.specs.{pool_count};
-ghost use Rattle.outside.specs.Taking.{Asks};
+ghost use Rattle.forward_plugin.specs.{pool_count, pool_place};
 ghost use Rattle.rewrite_plugin.specs.{changed_by, restored};
+ghost use Rattle.chain_meaning.specs.Called.{pool_in};
 ghost use Rattle.chain_meaning.specs.Mean.{answer_of, mean, rewritten};
 ghost use Rattle.chain_meaning.specs.Steps.{Forward};
 ghost use Rattle.chain_build.specs.Compiled.{back_answerer, back_of, back_steps};
-ghost use Rattle.chain_build.specs.Pools.{AllTake, AsksNothing, TakesPools, pools_in};
-ghost use Rattle.chain_build.specs.Walking.{Answered, Restored, answered, decided, decision_of};
+ghost use Rattle.chain_build.specs.LoggedWalks.{AsksBy, asking};
+ghost use Rattle.chain_build.specs.Pools.{AllTake, AsksNothing, HasLoneForward, TakesPools};
+ghost use Rattle.chain_build.specs.Pools.{pools_in};
+ghost use Rattle.chain_build.specs.Walking.{Answered, Restored, Tries, answered, decided};
+ghost use Rattle.chain_build.specs.Walking.{decision_of};
 
 use crate::block::BlockChain;
 use crate::block_chain::BackAnswerer;
@@ -41,9 +44,12 @@ pub fn run_behind<'a, R: Wait, S: Side>(
     requires clear { room.old.plugins.slot ≡ no_answer }
     requires pools { length pools.old ≡ pools_in chain.now.back }
     ensures count { length pools.new ≡ length pools.old }
-    ensures asks { Asks (mean (back_steps chain.now.rewrites chain.now.back) walk.now.query.now)
-        (decided result room.new.plugins.slot) (S.state side.old) (S.state side.new)
-        room.old.plugins.kept room.new.plugins.kept }
+    ensures asks { AsksBy
+        (pool_in (back_steps chain.now.rewrites chain.now.back) walk.now.query.now)
+        (mean (back_steps chain.now.rewrites chain.now.back) walk.now.query.now)
+        (decided result room.new.plugins.slot)
+        (asking (S.state side.old) room.old.plugins.kept pools.old)
+        (asking (S.state side.new) room.new.plugins.kept pools.new) }
 {
     if chain.rewrites.len() == 0 {
         return run_back(walk, chain.back.as_slice(), pools, side, &mut room.plugins);
@@ -64,11 +70,14 @@ fn run_rewritten<'a, R: Wait, S: Side>(
     requires clear { room.old.plugins.slot ≡ no_answer }
     requires pools { length pools.old ≡ pools_in chain.now.back }
     ensures count { length pools.new ≡ length pools.old }
-    ensures asks { Asks
+    ensures asks { AsksBy
+        (pool_in (map back_of chain.now.back)
+        (changed_by chain.now.rewrites walk.now.query.now).query)
         (rewritten (mean (map back_of chain.now.back)) chain.now.rewrites
         (changed_by chain.now.rewrites walk.now.query.now))
-        (decided result room.new.plugins.slot) (S.state side.old) (S.state side.new)
-        room.old.plugins.kept room.new.plugins.kept }
+        (decided result room.new.plugins.slot)
+        (asking (S.state side.old) room.old.plugins.kept pools.old)
+        (asking (S.state side.new) room.new.plugins.kept pools.new) }
 {
     let (rewrites, back) = (chain.rewrites.as_slice(), chain.back.as_slice());
     change(
@@ -141,10 +150,13 @@ pub fn run_back<'a, R: Wait, S: Side>(
 ) -> Result<Ended<'a>, NoMemory>
     requires clear { room.old.slot ≡ no_answer }
     requires pools { AllTake (length pools.old) steps.now }
+    requires lone { HasLoneForward (map back_of steps.now) }
     ensures count { length pools.new ≡ length pools.old }
-    ensures asks { Asks (mean (map back_of steps.now) walk.now.query.now)
-        (decided result room.new.slot) (S.state side.old) (S.state side.new)
-        room.old.kept room.new.kept }
+    ensures asks { AsksBy (pool_in (map back_of steps.now) walk.now.query.now)
+        (mean (map back_of steps.now) walk.now.query.now)
+        (decided result room.new.slot)
+        (asking (S.state side.old) room.old.kept pools.old)
+        (asking (S.state side.new) room.new.kept pools.new) }
 {
     let Some((plugin, rest)) = steps.split_first() else {
         return Ok(Ended::Code(Code::ServFail, Cause::EndOfChain));
@@ -152,6 +164,80 @@ pub fn run_back<'a, R: Wait, S: Side>(
     match answer_behind(walk, plugin, pools, side, room)? {
         Some(ended) => Ok(ended),
         None => run_back(walk, rest, pools, side, room),
+    }
+}
+
+/// Runs what stands behind a cache, and asks the outside nothing. None: it met a `forward`, which
+/// is where it stops. The slot is clear, and stays so up to there.
+#[inline(always)]
+pub fn try_behind<'a>(
+    alloc: Global,
+    chain: &'a BlockChain,
+    query: &Query,
+    room: &mut WalkRoom,
+) -> Result<Option<Ended<'a>>, NoMemory>
+    requires clear { room.old.plugins.slot ≡ no_answer }
+    ensures { Tries (mean (back_steps chain.now.rewrites chain.now.back) query.now)
+        room.new.plugins.slot result }
+{
+    if chain.rewrites.len() == 0 {
+        return try_back(alloc, chain.back.as_slice(), query, &mut room.plugins);
+    }
+    try_rewritten(alloc, chain, query, room)
+}
+
+// The same on what the rules make of the query, with its reply restored. Stays a call, so that a
+// chain without rules is short.
+#[inline(never)]
+fn try_rewritten<'a>(
+    alloc: Global,
+    chain: &'a BlockChain,
+    query: &Query,
+    room: &mut WalkRoom,
+) -> Result<Option<Ended<'a>>, NoMemory>
+    requires clear { room.old.plugins.slot ≡ no_answer }
+    ensures { Tries
+        (rewritten (mean (map back_of chain.now.back)) chain.now.rewrites
+        (changed_by chain.now.rewrites query.now)) room.new.plugins.slot result }
+{
+    let (rewrites, back) = (chain.rewrites.as_slice(), chain.back.as_slice());
+    change(
+        alloc,
+        rewrites,
+        query,
+        &mut room.plugins.rewrite,
+        &mut room.changed,
+    )?;
+    let changed = &room.changed;
+    match try_back(alloc, back, &changed.query, &mut room.plugins)? {
+        Some(ended) => {
+            let restored = restore_reply(alloc, rewrites, changed, ended, &mut room.plugins)?;
+            Ok(Some(restored))
+        }
+        None => Ok(None),
+    }
+}
+
+/// Runs the plugins that answer, up to the first `forward`. None: one stands there. The slot is
+/// clear, and stays so up to there.
+pub fn try_back<'a>(
+    alloc: Global,
+    steps: &'a [BackAnswerer],
+    query: &Query,
+    room: &mut PluginRoom,
+) -> Result<Option<Ended<'a>>, NoMemory>
+    requires clear { room.old.slot ≡ no_answer }
+    ensures { Tries (mean (map back_of steps.now) query.now) room.new.slot result }
+{
+    let Some((plugin, rest)) = steps.split_first() else {
+        return Ok(Some(Ended::Code(Code::ServFail, Cause::EndOfChain)));
+    };
+    if let BackAnswerer::Forward(_) = plugin {
+        return Ok(None);
+    }
+    match back_answer(alloc, plugin, query, room)? {
+        Some(ended) => Ok(Some(ended)),
+        None => try_back(alloc, rest, query, room),
     }
 }
 
@@ -168,9 +254,11 @@ pub fn answer_behind<'a, R: Wait, S: Side>(
     requires clear { room.old.slot ≡ no_answer }
     requires pools { TakesPools (length pools.old) (back_of plugin.now) }
     ensures count { length pools.new ≡ length pools.old }
-    ensures asks { Asks (answer_of (back_answerer plugin.now) walk.now.query.now)
-        (answered result room.new.slot) (S.state side.old) (S.state side.new)
-        room.old.kept room.new.kept }
+    ensures asks { AsksBy (pool_in (back_of plugin.now ∷ []) walk.now.query.now)
+        (answer_of (back_answerer plugin.now) walk.now.query.now)
+        (answered result room.new.slot)
+        (asking (S.state side.old) room.old.kept pools.old)
+        (asking (S.state side.new) room.new.kept pools.new) }
     ensures next { IfOk result (λ r. r ≡ None → room.new.slot ≡ room.old.slot) }
 {
     if let BackAnswerer::Forward(plans) = plugin {
@@ -190,9 +278,11 @@ fn run_forward<R: Wait, S: Side>(
 ) -> Result<Option<Ended<'static>>, NoMemory>
     requires { pool_count plans.now ≡ length pools.old }
     ensures count { length pools.new ≡ length pools.old }
-    ensures asks { Asks (answer_of (Forward plans.now) walk.now.query.now)
-        (answered result room.new.slot) (S.state side.old) (S.state side.new)
-        room.old.kept room.new.kept }
+    ensures asks { AsksBy (pool_place plans.now walk.now.query.now.name)
+        (answer_of (Forward plans.now) walk.now.query.now)
+        (answered result room.new.slot)
+        (asking (S.state side.old) room.old.kept pools.old)
+        (asking (S.state side.new) room.new.kept pools.new) }
     ensures next { IfOk result (λ r. r ≡ None → room.new.slot ≡ room.old.slot) }
 {
     let asked = ForwardQuery {
@@ -209,7 +299,8 @@ fn run_forward<R: Wait, S: Side>(
 }
 
 /// What a plugin behind a cache that asks nothing answers, with the answer of a reply in the slot,
-/// which is clear. None: it goes on.
+/// which is clear. None: it goes on. Stands in each walk, so that a step takes no call more.
+#[inline(always)]
 #[tactic(auto, unfolding(chain_meaning::specs::Mean::answer_of))]
 pub fn back_answer<'a>(
     alloc: Global,

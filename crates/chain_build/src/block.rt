@@ -1,4 +1,6 @@
-ghost use Rattle.chain_build.specs.Pools.{HasOneForward};
+ghost use Rattle.std.specs.Prelude.{map};
+ghost use Rattle.chain_build.specs.Compiled.{back_of};
+ghost use Rattle.chain_build.specs.Pools.{HasLoneForward, HasOneForward};
 
 use crate::block_chain::{BackAnswerer, FrontStep};
 use dns_data::{Directives, Seq};
@@ -13,5 +15,9 @@ pub struct BlockChain {
     /// The rules that change the query for the plugins behind them.
     pub rewrites: Seq<RewritePlan>,
     pub back: Seq<BackAnswerer>,
+    /// Whether a `forward` stands in `back`, so that no query is tried without one. It tells which
+    /// way a query goes, and not where that ends.
+    pub asks: bool,
     ghost one: { HasOneForward back },
+    ghost lone: { HasLoneForward (map back_of back) },
 }

@@ -1,5 +1,6 @@
 //! The chains of a generation, one for each worker.
-ghost use Rattle.std.specs.Prelude.{◌≡◌, ◌≤◌, ◌<◌, ◌+◌, ◌-◌, ◌*◌, ◌^◌, ◌++◌, ℕ, List, [], IfOk, OnOk, OnErr};
+ghost use Rattle.std.specs.Prelude.{◌≡◌, ◌≤◌, ◌<◌, ◌+◌, ◌-◌, ◌*◌, ◌^◌, ◌++◌, ℕ, List, []};
+ghost use Rattle.std.specs.Prelude.{IfOk, OnOk, OnErr};
 ghost use Rattle.std.specs.Prelude.{length, map, vec_len, vec_capacity};
 ghost use Rattle.std.specs.Arc.{arc_value};
 ghost use Rattle.std.specs.Box.{box_value};
@@ -13,7 +14,7 @@ ghost use Rattle.chain_build.specs.Compiled.{back_of};
 ghost use Rattle.chain_build.specs.BlockPools.{ArePooled, chain_pools};
 ghost use Rattle.chain_build.specs.Pools.{forwards_in, pools_in};
 ghost use Rattle.chain_build.specs.Places.{AreTaken};
-ghost use Rattle.forward_plugin.specs.{HasMore, HasParts};
+ghost use Rattle.forward_plugin.specs.{HasMore, HasParts, IsUncalled};
 ghost use Rattle.chain_build.specs.Workers.{chain_extras, chain_identity, chain_log, plans_of};
 
 use crate::block::BlockChain;
@@ -175,6 +176,7 @@ fn one_chain<B: Rulebook, E: Extra>(
     ensures plans { IfOk result (λ chain. plans_of chain ≡ arc_value of.now.plans.now) }
     ensures serial { IfOk result (λ chain. (box_value chain.held).serial ≡ of.now.serial) }
     ensures worker { IfOk result (λ chain. (box_value chain.held).worker ≡ of.now.worker) }
+    ensures fresh { IfOk result (λ chain. All (All IsUncalled) (box_value chain.held).pools.items) }
     ensures pooled { ArePooled (arc_value of.now.plans.now).chains shared.new }
     ensures parts { (parts : ℕ) → All (All (HasParts parts)) shared.old
         → OnOk result (All (All (HasParts (parts - 1))) shared.new) }
@@ -262,7 +264,9 @@ fn forwards_of(back: &[BackAnswerer]) -> &[ForwardPlan]
 // One part of all pools for a worker, behind those of others.
 fn split_pools(alloc: Global, shared: &mut [Pools], others: &mut Vec<Pools>) -> Result<(), NoMemory>
     requires more { All (All HasMore) shared.old }
+    requires fresh { All (All IsUncalled) others.old.items }
     ensures stays { map length shared.new ≡ map length shared.old }
+    ensures fresh { All (All IsUncalled) others.new.items }
     ensures pools { OnOk result
         (map length others.new.items ≡ map length others.old.items ++ map length shared.old) }
     ensures parts { (parts : ℕ) → All (All (HasParts parts)) shared.old

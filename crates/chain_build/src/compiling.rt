@@ -44,12 +44,14 @@ pub fn compile(alloc: Global, places: Places) -> Result<BlockChain, NoMemory>
     push_logs(&mut front, logs)?;
     push_acls(&mut front, acls)?;
     push_any(&mut front, any)?;
+    let asks = forwards.len() > 0;
     let back = compile_back(alloc, templates, hosts, files, forwards, whoami)?;
     Ok(BlockChain {
         front,
         extras,
         rewrites,
         back,
+        asks,
     })
 }
 

@@ -1,11 +1,12 @@
 ghost use Rattle.dns_data.specs.declared.limit.TheConstants as limits;
 ghost use Rattle.std.specs.Prelude.{◌≡◌, ◌<◌, length};
 ghost use Rattle.dns_data.specs.Message.{no_answer};
-ghost use Rattle.outside.specs.Taking.{Takes};
 ghost use Rattle.acl_plugin.specs.{acl_say};
+ghost use Rattle.chain_meaning.specs.Called.{pool_in};
 ghost use Rattle.chain_meaning.specs.Mean.{mean, nothing};
 ghost use Rattle.chain_build.specs.Compiled.{back_steps, front_answerer, others_steps};
 ghost use Rattle.chain_build.specs.Compiled.{whole_with};
+ghost use Rattle.chain_build.specs.LoggedWalks.{TakesBy, taking};
 ghost use Rattle.chain_build.specs.Pools.{pools_in};
 ghost use Rattle.chain_build.specs.Walking.{Answered, decided};
 
@@ -38,10 +39,13 @@ pub fn run_front<'a, R: Wait, S: Side, X: Extras>(
     requires clear { room.old.plugins.slot ≡ no_answer }
     requires pools { length pools.old ≡ pools_in steps.behind.now.back }
     ensures count { length pools.new ≡ length pools.old }
-    ensures takes { Takes
+    ensures takes { TakesBy
+        (pool_in (back_steps steps.entry.behind.now.rewrites steps.entry.behind.now.back)
+        walk.now.query.now)
         (mean (whole_with (X.says extras.old) steps.entry.front.now
         steps.entry.behind.now.rewrites steps.entry.behind.now.back) walk.now.query.now)
-        (decided result room.new.plugins.slot) (S.state side.old) (S.state side.new) }
+        (decided result room.new.plugins.slot) (taking (S.state side.old) pools.old)
+        (taking (S.state side.new) pools.new) }
     ensures stays { X.says extras.new ≡ X.says extras.old }
     ensures set { X.directives extras.new ≡ X.directives extras.old }
 {
@@ -77,7 +81,7 @@ pub fn run_front<'a, R: Wait, S: Side, X: Extras>(
 
 // Asks plugins of others, and where they go on runs what stands behind a cache.
 #[inline(always)]
-#[tactic(auto, using(crate::proofs::Walks::others_starved, crate::proofs::Walks::others_say, crate::proofs::Walks::others_go))]
+#[tactic(auto, using(crate::proofs::LoggedWalks::others_starved_by, crate::proofs::LoggedWalks::others_say_by, crate::proofs::LoggedWalks::others_go_by))]
 fn run_others<'a, R: Wait, S: Side, X: Extras>(
     walk: &Walk<'_, R>,
     chain: &'a BlockChain,
@@ -89,10 +93,12 @@ fn run_others<'a, R: Wait, S: Side, X: Extras>(
     requires clear { room.old.plugins.slot ≡ no_answer }
     requires pools { length pools.old ≡ pools_in chain.now.back }
     ensures count { length pools.new ≡ length pools.old }
-    ensures takes { Takes
+    ensures takes { TakesBy
+        (pool_in (back_steps chain.now.rewrites chain.now.back) walk.now.query.now)
         (mean (others_steps (X.says extras.old) chain.now.rewrites chain.now.back)
         walk.now.query.now)
-        (decided result room.new.plugins.slot) (S.state side.old) (S.state side.new) }
+        (decided result room.new.plugins.slot) (taking (S.state side.old) pools.old)
+        (taking (S.state side.new) pools.new) }
     ensures stays { X.says extras.new ≡ X.says extras.old }
     ensures set { X.directives extras.new ≡ X.directives extras.old }
 {
@@ -114,9 +120,11 @@ pub fn run_uncached<'a, R: Wait, S: Side>(
     requires clear { room.old.plugins.slot ≡ no_answer }
     requires pools { length pools.old ≡ pools_in chain.now.back }
     ensures count { length pools.new ≡ length pools.old }
-    ensures takes { Takes
+    ensures takes { TakesBy
+        (pool_in (back_steps chain.now.rewrites chain.now.back) walk.now.query.now)
         (mean (back_steps chain.now.rewrites chain.now.back) walk.now.query.now)
-        (decided result room.new.plugins.slot) (S.state side.old) (S.state side.new) }
+        (decided result room.new.plugins.slot) (taking (S.state side.old) pools.old)
+        (taking (S.state side.new) pools.new) }
 {
     room.plugins.kept = Kept::Off;
     run_behind(walk, chain, pools, side, room)

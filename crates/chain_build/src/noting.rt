@@ -1,7 +1,7 @@
 ghost use Rattle.std.specs.Prelude.{◌≡◌};
 ghost use Rattle.dns_data.specs.Message.{AnswerData};
-ghost use Rattle.outside.specs.Taking.{Takes};
 ghost use Rattle.chain_meaning.specs.Mean.{error_noted, outcome_of, query_noted};
+ghost use Rattle.chain_build.specs.LoggedWalks.{TakesQuietly};
 ghost use Rattle.chain_build.specs.Walking.{decided, decision_of};
 
 use crate::ended::Ended;
@@ -19,12 +19,13 @@ pub fn note_error<'a, S: Side>(
     side: &mut S,
 ) -> Result<Ended<'a>, NoMemory>
     ensures { (answer : AnswerData)
-        → Takes (error_noted query.now (decision_of ended.entry answer))
+        → TakesQuietly (error_noted query.now (decision_of ended.entry answer))
         (decided result answer) (S.state side.old) (S.state side.new) }
 {
     if let Ended::Code(code, cause) = ended {
         let line = error_line(alloc, query, code, cause)?;
         let _ = side.note(line.as_str().as_bytes());
+        return Ok(ended);
     }
     Ok(ended)
 }
@@ -38,7 +39,7 @@ pub fn note_query<'a, S: Side>(
     slot: &Slot,
     side: &mut S,
 ) -> Result<Ended<'a>, NoMemory>
-    ensures { Takes (query_noted plan.now query.now (decision_of ended.entry slot.now))
+    ensures { TakesQuietly (query_noted plan.now query.now (decision_of ended.entry slot.now))
         (decided result slot.now) (S.state side.old) (S.state side.new) }
 {
     if !plan.covers(&query.name) {

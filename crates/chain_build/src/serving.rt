@@ -1,27 +1,34 @@
 ghost use Rattle.dns_data.specs.declared.limit.TheConstants as limits;
-ghost use Rattle.std.specs.Prelude.{◌≡◌, ◌≤◌, ◌<◌, Some, None, IfOk, IfSome, IsTrue, IsFalse};
+ghost use Rattle.std.specs.Prelude.{◌≡◌, ◌≤◌, ◌<◌, List, Some, None};
+ghost use Rattle.std.specs.Prelude.{IfNone, IfOk, IfSome, IsTrue, IsFalse};
 ghost use Rattle.std.specs.Prelude.{length, map, option_map, slice_get};
 ghost use Rattle.dns_data.specs.Message.{AreCodes, no_answer};
 ghost use Rattle.dns_wire.specs.{QueriesThis, asked_by};
 ghost use Rattle.dns_write.specs.Assembled.{message_of};
 ghost use Rattle.dns_write.specs.Writes.{Writes};
-ghost use Rattle.outside.specs.Taking.{Takes};
+ghost use Rattle.outside.specs.Meanings.{Done};
+ghost use Rattle.outside.specs.declared.mark.Mark.{Mark};
+ghost use Rattle.chain_meaning.specs.Called.{call_place, place_in, pool_in};
 ghost use Rattle.chain_meaning.specs.Mean.{nothing};
-ghost use Rattle.chain_meaning.specs.Serving.{answer_in, block_decides, block_of, chain_decides};
-ghost use Rattle.chain_meaning.specs.Serving.{class_decides, query_decides};
+ghost use Rattle.chain_meaning.specs.Serving.{answer_in, block_of, chain_decides};
+ghost use Rattle.chain_meaning.specs.Serving.{query_decides, query_of};
 ghost use Rattle.chain_meaning.specs.Steps.{steps_of};
 ghost use Rattle.chain_meaning.specs.declared.decision.Decision.TheVariants as decision;
-ghost use Rattle.chain_build.specs.Plans.{steps_in, terms_in};
-ghost use Rattle.chain_build.specs.Workers.{chain_identity, plans_of};
-ghost use Rattle.chain_build.specs.Replying.{TellsServing, lent_of, whole_answer, whole_message};
+ghost use Rattle.chain_build.specs.LoggedWalks.{TakesAt, TakesBy, serving, taking};
+ghost use Rattle.chain_build.specs.Logs.{held_log, shape_of};
+ghost use Rattle.chain_build.specs.Plans.{steps_in};
+ghost use Rattle.chain_build.specs.Workers.{chain_identity, chain_log, server_in, server_of};
+ghost use Rattle.chain_build.specs.Replying.{Finishes, TellsServing};
+ghost use Rattle.chain_build.specs.Replying.{lent_of, whole_answer, whole_message};
 ghost use Rattle.chain_build.specs.BlockPools.{chain_pools};
 ghost use Rattle.chain_build.specs.Holding.{IsHeld, IsSame};
 ghost use Rattle.chain_build.specs.Pools.{pools_in};
-ghost use Rattle.chain_build.specs.Walking.{decided, decision_of};
+ghost use Rattle.chain_build.specs.Walking.{Tries, decided, decision_of};
 
 use crate::asking::{
     fill_query, header_reply, is_known_version, limit_of, opt_reply, reply_message, upper_code,
 };
+use crate::back::try_behind;
 use crate::block::BlockChain;
 use crate::block_chain::ChainRest;
 use crate::chain::Chain;
@@ -33,7 +40,7 @@ use crate::plans::Plans;
 use crate::room::{Room, WalkRoom};
 use crate::walk::Walk;
 use chain_meaning::{Served, Silence, number};
-use dns_data::{Buffer, NoMemory, Opt, Query, Slot, class, rcode};
+use dns_data::{Buffer, NoMemory, Query, Slot, class, rcode};
 use dns_wire::{AskedBeside, QueryFault, read_asked_into};
 use dns_write::{MessageParts, Tail, write_lent};
 use extra_stock::Seats;
@@ -52,9 +59,9 @@ pub fn serve<R: Wait, B: Rulebook, E: Extra, S: Side>(
     side: &mut S,
     room: &mut Room,
 ) -> Served
-    ensures tells { TellsServing (plans_of chain.old).bundle
-        (terms_in B.taken B.said (plans_of chain.old))
-        datagram.now result (S.state side.old) (S.state side.new) }
+    ensures tells { TellsServing (server_of chain.old) datagram.now result
+        (serving (S.state side.old) (chain_log chain.old))
+        (serving (S.state side.new) (chain_log chain.new)) }
     ensures same { chain_identity chain.new ≡ chain_identity chain.old }
 {
     let arrived = Arrived {
@@ -83,8 +90,10 @@ fn serve_by<R: Wait, B: Rulebook, E: Extra, S: Side>(
     room: &mut Room,
 ) -> Served
     requires holds { IsHeld plans.now held.old }
-    ensures tells { TellsServing plans.now.bundle (terms_in B.taken B.said plans.now)
-        arrived.now.datagram.now result (S.state side.old) (S.state side.new) }
+    ensures tells { TellsServing (server_in B.taken B.said plans.now held.old.serial)
+        arrived.now.datagram.now result
+        (serving (S.state side.old) (held_log held.old.pools.items))
+        (serving (S.state side.new) (held_log held.new.pools.items)) }
     ensures holds { IsHeld plans.now held.new }
     ensures same { IsSame held.old held.new }
 {
@@ -105,7 +114,8 @@ fn serve_by<R: Wait, B: Rulebook, E: Extra, S: Side>(
     }
 }
 
-// The reply to what a query asks, whose name stands in the room.
+// The reply to what a query asks, whose name stands in the room. A chain is tried first without the
+// outside, by calls none of which may wait.
 fn reply<R: Wait, B: Rulebook, E: Extra, S: Side>(
     arrived: &Arrived<'_, R>,
     beside: AskedBeside,
@@ -117,26 +127,68 @@ fn reply<R: Wait, B: Rulebook, E: Extra, S: Side>(
     requires asks { QueriesThis arrived.now.datagram.now.bytes
         (asked_by room.old.query.name beside) }
     requires holds { IsHeld plans.now held.old }
-    ensures tells { TellsServing plans.now.bundle (terms_in B.taken B.said plans.now)
-        arrived.now.datagram.now result (S.state side.old) (S.state side.new) }
+    ensures tells { TellsServing (server_in B.taken B.said plans.now held.old.serial)
+        arrived.now.datagram.now result
+        (serving (S.state side.old) (held_log held.old.pools.items))
+        (serving (S.state side.new) (held_log held.new.pools.items)) }
     ensures holds { IsHeld plans.now held.new }
     ensures same { IsSame held.old held.new }
 {
     let (alloc, datagram) = (arrived.alloc, arrived.datagram);
     plans.tell();
     fill_query(&mut room.query, datagram, beside);
-    let asked = AskedQuery {
-        walk: Walk {
-            rt: arrived.rt,
-            alloc,
-            query: &room.query,
-        },
-        opt: beside.opt,
-        class: beside.class,
+    let slot = &mut room.walk.plugins.slot;
+    let Some(found) = chain_for(&room.query, beside, plans, slot) else {
+        return finish_apart(alloc, datagram, beside, Ended::Reply, room);
     };
-    let Ok(ended) = decide(&asked, plans, held, side, &mut room.walk) else {
-        return Served::NoMemory;
-    };
+    match try_chain::<B>(alloc, found.1, &room.query, &mut room.walk) {
+        Ok(Some(ended)) => finish(alloc, datagram, beside, ended, room),
+        Ok(None) => {
+            let walk = Walk {
+                rt: arrived.rt,
+                alloc,
+                query: &room.query,
+            };
+            match run_found(&walk, plans, found, held, side, &mut room.walk) {
+                Ok(ended) => finish_apart(alloc, datagram, beside, ended, room),
+                Err(NoMemory) => Served::NoMemory,
+            }
+        }
+        Err(NoMemory) => Served::NoMemory,
+    }
+}
+
+// The reply of a chain that ended so, off the common way.
+#[inline(never)]
+fn finish_apart(
+    alloc: Global,
+    datagram: &Datagram,
+    beside: AskedBeside,
+    ended: Ended<'_>,
+    room: &mut Room,
+) -> Served
+    requires asked { room.old.query ≡ query_of datagram.now
+        (asked_by room.old.query.name beside) }
+    ensures { Finishes datagram.now (asked_by room.old.query.name beside)
+        (decision_of ended.entry room.old.walk.plugins.slot) result }
+{
+    finish(alloc, datagram, beside, ended, room)
+}
+
+// The reply of a chain that ended so, where it has one, with the answer of a reply in the slot.
+#[inline(always)]
+fn finish(
+    alloc: Global,
+    datagram: &Datagram,
+    beside: AskedBeside,
+    ended: Ended<'_>,
+    room: &mut Room,
+) -> Served
+    requires asked { room.old.query ≡ query_of datagram.now
+        (asked_by room.old.query.name beside) }
+    ensures { Finishes datagram.now (asked_by room.old.query.name beside)
+        (decision_of ended.entry room.old.walk.plugins.slot) result }
+{
     if !settle(ended, &mut room.walk.plugins.slot) {
         return Served::Silent(Silence::Dropped);
     }
@@ -206,83 +258,46 @@ fn set_code(slot: &mut Slot, rcode: u8)
     slot.rcode = rcode;
 }
 
-// A query on its way, and its OPT record and class.
-#[derive(Drop)]
-struct AskedQuery<'a, R> {
-    walk: Walk<'a, R>,
-    opt: Option<Opt>,
-    class: u16,
-}
-
-// What is decided for a query with this OPT record and class.
-fn decide<'a, R: Wait, B: Rulebook, E: Extra, S: Side>(
-    asked: &AskedQuery<'_, R>,
+// The chain that a query with this OPT record and class goes through, and its number, with the slot
+// clear. None: it goes through none, and the slot has what it is answered.
+fn chain_for<'a, B: Rulebook>(
+    query: &Query,
+    beside: AskedBeside,
     plans: &'a Plans<B>,
-    held: &mut Held<B, E>,
-    side: &mut S,
-    room: &mut WalkRoom,
-) -> Result<Ended<'a>, NoMemory>
-    requires holds { IsHeld plans.now held.old }
-    ensures takes { Takes
-        (query_decides asked.now.opt asked.now.class (steps_of B.said plans.now.bundle.files)
-        plans.now.blocks asked.now.walk.query.now)
-        (decided result room.new.plugins.slot) (S.state side.old) (S.state side.new) }
-    ensures holds { IsHeld plans.now held.new }
-    ensures same { IsSame held.old held.new }
+    slot: &mut Slot,
+) -> Option<(usize, &'a BlockChain)>
+    ensures none { IfNone result ((left : List Mark)
+        → query_decides beside.opt beside.class (steps_of B.said plans.now.bundle.files)
+        plans.now.blocks query.now left ≡ Done (decision.Reply slot.new) left) }
+    ensures some { IfSome result (λ found. (left : List Mark)
+        → query_decides beside.opt beside.class (steps_of B.said plans.now.bundle.files)
+        plans.now.blocks query.now left
+        ≡ chain_decides (steps_in B.said found.1.now) query.now left) }
+    ensures clear { IfSome result (λ found. slot.new ≡ no_answer) }
+    ensures place { IfSome result (λ found.
+        call_place (steps_of B.said plans.now.bundle.files) plans.now.blocks query.now
+        ≡ place_in (steps_in B.said found.1.now) found.0 query.now) }
+    ensures extras { IfSome result
+        (λ found. slice_get plans.now.extras found.0 ≡ Some found.1.now.extras) }
+    ensures pools { IfSome result
+        (λ found. slice_get (map chain_pools plans.now.chains) found.0
+        ≡ Some (pools_in found.1.now.back)) }
 {
-    room.plugins.slot.clear();
-    if is_known_version(asked.opt) {
-        return decide_class(asked, plans, held, side, room);
+    slot.clear();
+    if !is_known_version(beside.opt) {
+        return None;
     }
-    Ok(Ended::Reply)
-}
-
-fn decide_class<'a, R: Wait, B: Rulebook, E: Extra, S: Side>(
-    asked: &AskedQuery<'_, R>,
-    plans: &'a Plans<B>,
-    held: &mut Held<B, E>,
-    side: &mut S,
-    room: &mut WalkRoom,
-) -> Result<Ended<'a>, NoMemory>
-    requires clear { room.old.plugins.slot ≡ no_answer }
-    requires holds { IsHeld plans.now held.old }
-    ensures takes { Takes
-        (class_decides asked.now.class (steps_of B.said plans.now.bundle.files) plans.now.blocks
-        asked.now.walk.query.now)
-        (decided result room.new.plugins.slot) (S.state side.old) (S.state side.new) }
-    ensures holds { IsHeld plans.now held.new }
-    ensures same { IsSame held.old held.new }
-{
-    if asked.class == class::IN {
-        return decide_block(&asked.walk, plans, held, side, room);
+    if beside.class != class::IN {
+        set_code(slot, rcode::REFUSED);
+        return None;
     }
-    set_code(&mut room.plugins.slot, rcode::REFUSED);
-    Ok(Ended::Reply)
-}
-
-// By the chain of the block with the longest zone on the port at which the query came.
-fn decide_block<'a, R: Wait, B: Rulebook, E: Extra, S: Side>(
-    walk: &Walk<'_, R>,
-    plans: &'a Plans<B>,
-    held: &mut Held<B, E>,
-    side: &mut S,
-    room: &mut WalkRoom,
-) -> Result<Ended<'a>, NoMemory>
-    requires clear { room.old.plugins.slot ≡ no_answer }
-    requires holds { IsHeld plans.now held.old }
-    ensures takes { Takes
-        (block_decides (steps_of B.said plans.now.bundle.files)
-        (block_of plans.now.blocks walk.now.query.now) walk.now.query.now)
-        (decided result room.new.plugins.slot) (S.state side.old) (S.state side.new) }
-    ensures holds { IsHeld plans.now held.new }
-    ensures same { IsSame held.old held.new }
-{
-    if let Some((number, steps)) = chain_of(plans, walk.query) {
-        let (seats, pools) = (&mut held.seats[number], &mut held.pools[number]);
-        return run_chain(walk, steps, seats, pools, side, room);
+    match chain_of(plans, query) {
+        Some(found) => Some(found),
+        None => {
+            set_code(slot, rcode::REFUSED);
+            None
+        }
     }
-    set_code(&mut room.plugins.slot, rcode::REFUSED);
-    Ok(Ended::Reply)
 }
 
 // The chain of the block with the longest zone on the port at which the query came, and its number.
@@ -291,6 +306,9 @@ fn chain_of<'a, B: Rulebook>(plans: &'a Plans<B>, query: &Query) -> Option<(usiz
     ensures steps { option_map (λ found. steps_in B.said found.1.now) result
         ≡ option_map (steps_of B.said plans.now.bundle.files)
         (block_of plans.now.blocks query.now) }
+    ensures place { IfSome result (λ found.
+        call_place (steps_of B.said plans.now.bundle.files) plans.now.blocks query.now
+        ≡ place_in (steps_in B.said found.1.now) found.0 query.now) }
     ensures extras { IfSome result
         (λ found. slice_get plans.now.extras found.0 ≡ Some found.1.now.extras) }
     ensures pools { IfSome result
@@ -302,6 +320,63 @@ fn chain_of<'a, B: Rulebook>(plans: &'a Plans<B>, query: &Query) -> Option<(usiz
         return None;
     }
     Some((number, plans.chains.at(number)))
+}
+
+// Runs the chain of a block that has nothing in front, and asks the outside nothing. None: it is
+// another chain, or met a `forward`, and the slot is clear, as it was.
+#[inline(always)]
+fn try_chain<'a, B: Rulebook>(
+    alloc: Global,
+    chain: &'a BlockChain,
+    query: &Query,
+    room: &mut WalkRoom,
+) -> Result<Option<Ended<'a>>, NoMemory>
+    requires clear { room.old.plugins.slot ≡ no_answer }
+    ensures { Tries (chain_decides (steps_in B.said chain.now) query.now)
+        room.new.plugins.slot result }
+{
+    if chain.asks {
+        return Ok(None);
+    }
+    if chain.extras.len() > 0 {
+        return Ok(None);
+    }
+    if chain.front.len() > 0 {
+        return Ok(None);
+    }
+    if chain.rewrites.len() > 0 || chain.back.len() > 0 {
+        return try_behind(alloc, chain, query, room);
+    }
+    Ok(None)
+}
+
+// Runs a chain that was found, with what is held for it.
+#[inline(never)]
+fn run_found<'a, R: Wait, B: Rulebook, E: Extra, S: Side>(
+    walk: &Walk<'_, R>,
+    plans: &Plans<B>,
+    found: (usize, &'a BlockChain),
+    held: &mut Held<B, E>,
+    side: &mut S,
+    room: &mut WalkRoom,
+) -> Result<Ended<'a>, NoMemory>
+    requires clear { room.old.plugins.slot ≡ no_answer }
+    requires holds { IsHeld plans.now held.old }
+    requires extras { slice_get plans.now.extras found.0 ≡ Some found.1.now.extras }
+    requires pools { slice_get (map chain_pools plans.now.chains) found.0
+        ≡ Some (pools_in found.1.now.back) }
+    ensures takes { TakesAt (shape_of plans.now held.old.serial)
+        (place_in (steps_in B.said found.entry.1.now) found.entry.0 walk.now.query.now)
+        (chain_decides (steps_in B.said found.entry.1.now) walk.now.query.now)
+        (decided result room.new.plugins.slot)
+        (serving (S.state side.old) (held_log held.old.pools.items))
+        (serving (S.state side.new) (held_log held.new.pools.items)) }
+    ensures holds { IsHeld plans.now held.new }
+    ensures same { IsSame held.old held.new }
+{
+    let (number, chain) = found;
+    let (seats, pools) = (&mut held.seats[number], &mut held.pools[number]);
+    run_chain(walk, chain, seats, pools, side, room)
 }
 
 // Runs the chain of a block, which mostly has no extras and nothing in front. One without a step
@@ -317,8 +392,11 @@ fn run_chain<'a, R: Wait, B: Rulebook, E: Extra, S: Side>(
     requires clear { room.old.plugins.slot ≡ no_answer }
     requires seated { seats.old ≡ chain.now.extras }
     requires pools { length pools.old ≡ pools_in chain.now.back }
-    ensures takes { Takes (chain_decides (steps_in B.said chain.now) walk.now.query.now)
-        (decided result room.new.plugins.slot) (S.state side.old) (S.state side.new) }
+    ensures takes { TakesBy
+        (pool_in (steps_in B.said chain.now) walk.now.query.now)
+        (chain_decides (steps_in B.said chain.now) walk.now.query.now)
+        (decided result room.new.plugins.slot) (taking (S.state side.old) pools.old)
+        (taking (S.state side.new) pools.new) }
     ensures seated { seats.new ≡ seats.old }
     ensures count { length pools.new ≡ length pools.old }
 {

@@ -13,7 +13,7 @@ use Rattle.chain_meaning.specs.declared.served.Served.TheVariants.{Reply, Silent
 use Rattle.chain_build.specs.declared.chain.Chain.{Chain}
 use Rattle.plugin_api.specs.declared.extra.Extra as extra
 use Rattle.plugin_api.specs.declared.rulebook.Rulebook as rulebook
-use Rattle.chain_build.specs.{TellsServing, chain_identity, plans_of, terms_in}
+use Rattle.chain_build.specs.{TellsServing, chain_identity, chain_log, server_of, serving}
 use Rattle.query_worker.specs.declared.turn.Turned.{Turned}
 use Rattle.run_meaning.specs.Turn.{replied, silenced, starved}
 use Rattle.query_worker.specs.Worker.{AddsTurn, SendsServed, pin_of}
@@ -31,19 +31,19 @@ module _ {B E : Type 0} {bk : rulebook.Ghosts B} {ex : extra.Ghosts E} where
 
   -- pin, what serving made and gave, unpin
   pub answered : {q r : PassView (Chain B E bk ex)} {chain home : (Chain B E bk ex)} {serial : ℕ} {d : Datagram} {a b s c e : SideState} (served : Served) (result : Turned) → IsOver q serial chain home r → Adds a b (Pinned serial ∷ [])
-      → TellsServing (plans_of chain).bundle (terms_in bk.taken bk.said (plans_of chain)) d served b s → SendsServed s c serial served result → Adds c e (Unpinned serial ∷ []) → Grows a e (λ marks. AddsTurn q r result (Got d ∷ marks))
+      → TellsServing (server_of chain) d served (serving b (chain_log chain)) (serving s (chain_log home)) → SendsServed s c serial served result → Adds c e (Unpinned serial ∷ []) → Grows a e (λ marks. AddsTurn q r result (Got d ∷ marks))
   answered {chain = chain} {home = home} {serial = serial} {d = d} (Reply reply) result is pinned serves sends unpinned = rw sends.0 (record {
     marks = _;
     told = adds-then pinned (adds-then serves.told (adds-then sends.1.told unpinned));
-    are = record { turn = replied serial d serves.marks reply sends.1.out; told = refl; chain = chain; home = home; same = is.same; by_pin = (refl, serves.serves); newest = is.newest; pass = is.pass; starved_are = refl };
+    are = record { turn = replied serial d serves.marks reply sends.1.out; told = refl; chain = chain; home = home; same = is.same; by_pin = record { serial_is = refl; serves = serves.serves; logs = serves.logs }; newest = is.newest; pass = is.pass; starved_are = refl };
   })
   answered {chain = chain} {home = home} {serial = serial} {d = d} (Silent why) result is pinned serves sends unpinned = rw sends.0 (record {
     marks = _;
     told = adds-then pinned (adds-then serves.told (adds-then sends.1 unpinned));
-    are = record { turn = silenced serial d serves.marks why; told = refl; chain = chain; home = home; same = is.same; by_pin = (refl, serves.serves); newest = is.newest; pass = is.pass; starved_are = refl };
+    are = record { turn = silenced serial d serves.marks why; told = refl; chain = chain; home = home; same = is.same; by_pin = record { serial_is = refl; serves = serves.serves; logs = serves.logs }; newest = is.newest; pass = is.pass; starved_are = refl };
   })
   answered {chain = chain} {home = home} {serial = serial} {d = d} NoMemory result is pinned serves sends unpinned = rw sends.0 (record {
     marks = _;
     told = adds-then pinned (adds-then serves.told (adds-then sends.1 unpinned));
-    are = record { turn = starved serial d serves.marks; told = refl; chain = chain; home = home; same = is.same; by_pin = (refl, serves.serves); newest = is.newest; pass = is.pass; starved_are = refl };
+    are = record { turn = starved serial d serves.marks; told = refl; chain = chain; home = home; same = is.same; by_pin = record { serial_is = refl; serves = serves.serves; logs = serves.logs }; newest = is.newest; pass = is.pass; starved_are = refl };
   })

@@ -139,9 +139,9 @@ module _ {B E : Type 0} {bk : rulebook.Ghosts B} {ex : extra.Ghosts E} where
   serials_by : (pin : PastPin (Chain B E bk ex)) (turn : Turn) → IsByPin pin turn → serials turn ≡ pin.serial ∷ []
   serials_by pin failed is = absurd is
   serials_by pin unread is = absurd is
-  serials_by pin (replied s d m r o) is = ap (λ (n : ℕ). n ∷ []) (sym is.0)
-  serials_by pin (silenced s d m w) is = ap (λ (n : ℕ). n ∷ []) (sym is.0)
-  serials_by pin (starved s d m) is = ap (λ (n : ℕ). n ∷ []) (sym is.0)
+  serials_by pin (replied s d m r o) is = ap (λ (n : ℕ). n ∷ []) (sym is.serial_is)
+  serials_by pin (silenced s d m w) is = ap (λ (n : ℕ). n ∷ []) (sym is.serial_is)
+  serials_by pin (starved s d m) is = ap (λ (n : ℕ). n ∷ []) (sym is.serial_is)
 
   datagrams_by : (pin : PastPin (Chain B E bk ex)) (turn : Turn) → IsByPin pin turn → datagrams turn ≡ 1
   datagrams_by pin failed is = absurd is

@@ -66,10 +66,10 @@ module _ {B E : Type 0} {b : rulebook.Ghosts B} {e : extra.Ghosts E} where
       (λ bundle. Serves bundle (terms_on b.taken b.said basis) d marks served)
   published_by bundles basis pin serial d marks served of is = record {
     bundle = (plans_of pin.given).bundle;
-    at = subst (λ (n : ℕ). slice_get bundles n ≡ Some (plans_of pin.given).bundle) is.0 of.0;
+    at = subst (λ (n : ℕ). slice_get bundles n ≡ Some (plans_of pin.given).bundle) is.serial_is of.0;
     is = subst (λ (g : Ground). Serves (plans_of pin.given).bundle
         (terms_on b.taken b.said g) d marks
-        served) of.1 is.1;
+        served) of.1 is.serves;
   }
 
   -- by one of the pins whose chains are

@@ -15,7 +15,8 @@ use Rattle.chain_meaning.specs.declared.served.Served.{Served}
 use Rattle.chain_meaning.specs.declared.served.Served.TheVariants.{Reply, Silent, NoMemory}
 use Rattle.chain_meaning.specs.Serving.{Serves}
 use Rattle.chain_build.specs.declared.chain.Chain.{Chain}
-use Rattle.chain_build.specs.{chain_identity, chain_log, ground_of, plans_of, terms_in}
+use Rattle.chain_build.specs.{LogsServing, chain_identity, chain_log, ground_of, plans_of}
+use Rattle.chain_build.specs.{server_of, terms_in}
 use Rattle.plugin_api.specs.declared.extra.Extra as extra
 use Rattle.plugin_api.specs.declared.rulebook.Rulebook as rulebook
 use Rattle.chain_meaning.specs.{Ground}
@@ -53,12 +54,13 @@ pub record CountsPins {C : Type 0} (tally : Tally) (pass : PassView C) : Type 0 
 
 module _ {B E : Type 0} {b : rulebook.Ghosts B} {e : extra.Ghosts E} where
   -- the pin has this serial, and by its chain's bundle and basis this is what a datagram means,
-  -- with these marks
-  abbrev pub IsPinFor : ℕ → Datagram → List Mark → Served → PastPin (Chain B E b e) → Type 0
-  IsPinFor serial d marks served pin =
-      (pin.serial ≡ serial)
-      × Serves (plans_of pin.given).bundle (terms_in b.taken b.said (plans_of pin.given)) d marks
-      served
+  -- with these marks; and its chain's log has grown by the calls that these tell
+  pub record IsPinFor (serial : ℕ) (d : Datagram) (marks : List Mark) (served : Served)
+      (pin : PastPin (Chain B E b e)) : Type 0 where
+    pub serial_is : pin.serial ≡ serial
+    pub serves : Serves (plans_of pin.given).bundle (terms_in b.taken b.said (plans_of pin.given))
+        d marks served
+    pub logs : LogsServing (server_of pin.given) d marks (chain_log pin.given) (chain_log pin.home)
 
   -- the turn took a datagram under this pin, and did what the pin's chain means
   abbrev pub IsByPin : PastPin (Chain B E b e) → Turn → Type 0

@@ -1,6 +1,9 @@
 use Rattle.std.proofs.Common.{refl}
-use Rattle.chain_build.specs.Compiled.{back_answerer}
-use Rattle.chain_build.proofs.Walks.{answered_asks, answered_next}
+use Rattle.std.proofs.Common.{[], ◌∷◌}
+use Rattle.chain_meaning.specs.Called.{pool_in}
+use Rattle.chain_build.specs.Compiled.{back_answerer, back_of}
+use Rattle.chain_build.proofs.LoggedWalks.{by_answered}
+use Rattle.chain_build.proofs.Walks.{answered_next}
 use Rattle.chain_build.proofs.back.answer_behind.Goals as goal
 
 pub returns : goal.returns
@@ -11,6 +14,6 @@ returns g c =
     let new = c.back_answer.new.room.slot in
     record {
       count = refl;
-      asks = answered_asks plugin q old new c.back_answer.result c.back_answer.ensures.answered c.back_answer.ensures.kept;
+      asks = by_answered (pool_in (back_of c.args.plugin.now ∷ []) q) plugin q old new c.back_answer.result c.back_answer.ensures.answered c.back_answer.ensures.kept;
       next = answered_next plugin q old new c.back_answer.result c.back_answer.ensures.answered;
     }

@@ -1,14 +1,15 @@
-use Rattle.std.proofs.Common.{◌≡◌, ◌∙◌, ◌+◌, ◌-◌, List, [], length, map, refl, sym, ap, subst, rules, arith}
-use Rattle.std.proofs.lemmas.List.Elements.{All-nil, All-push}
+use Rattle.std.proofs.Common.{◌≡◌, ◌∙◌, ◌+◌, ◌-◌, length, map, refl, sym, ap, subst, rules, arith}
+use Rattle.std.specs.Box.{box_value}
+use Rattle.std.proofs.lemmas.List.Elements.{All-push}
 use Rattle.std.specs.Arc.{arc_value}
 use Rattle.extra_stock.specs.{asked_by, is_named, seats_in}
 use Rattle.extra_stock.specs.StocksLaws.{chain_gone, chain_left, chains_more}
-use Rattle.outside.specs.declared.mark.Mark.{Mark}
 use Rattle.pin_table.specs.{AreNew-push}
 use Rattle.chain_build.specs.Workers.{chain_extras, chain_identity, chain_log, plans_of}
 use Rattle.std.specs.List.{All}
 use Rattle.forward_plugin.specs.{HasMore, HasParts}
 use Rattle.chain_build.specs.BlockPools.{ArePooled, chain_pools}
+use Rattle.chain_build.proofs.Logging.{empty_log}
 use Rattle.chain_build.proofs.Parts.{more_left, one_less}
 use Rattle.chain_build.proofs.Pooled.{same_count, written_back}
 use Rattle.chain_build.proofs.building.build_chains.Goals as goal
@@ -39,7 +40,7 @@ loop-worker-preserved g c =
       in_seats = chains_more (λ k. seats_in (chain_extras k)) c.loop-worker.chains.items c.push_reserved.new.self.items c.in-Ok.chain c.loop-worker.worker (seats_in plans) push.items was.in_seats (ap (λ p. seats_in p.extras) made.plans);
       len = chain_gone _ _ _ c.loop-worker.worker (seats_in plans) was.len made.ok_len;
       count = search rules;
-      new = rw push.items (AreNew-push chain_identity chain_log c.args.serial 0 c.loop-worker.chains.items c.in-Ok.chain was.new made.serial (made.worker ∙ sym was.count ∙ omega arith) (All-nil (λ (part : List Mark). part ≡ [])));
+      new = rw push.items (AreNew-push chain_identity chain_log c.args.serial 0 c.loop-worker.chains.items c.in-Ok.chain was.new made.serial (made.worker ∙ sym was.count ∙ omega arith) (empty_log (box_value c.in-Ok.chain.held).pools.items made.fresh));
       plans = rw push.items (All-push (λ k. plans_of k ≡ arc_value c.args.plans.now) c.loop-worker.chains.items c.in-Ok.chain was.plans made.plans);
       room = omega (arith, was.room, push.capacity);
       capacity = search rules;

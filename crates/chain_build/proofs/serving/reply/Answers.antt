@@ -1,47 +1,41 @@
-use Rattle.std.proofs.Common.{◌≡◌, ◌++◌, Some, ap, inl, inr, rules, subst, ◌∙◌}
-use Rattle.outside.specs.Meanings.{Done, Starved}
-use Rattle.dns_wire.specs.{asked_by}
-use Rattle.chain_meaning.specs.Serving.{answer_in, query_decides}
-use Rattle.chain_meaning.specs.Steps.{steps_of}
-use Rattle.chain_build.specs.Replying.{whole_answer}
+use Rattle.std.proofs.Common.{◌∙◌}
+use Rattle.chain_meaning.specs.Called.{place_in}
+use Rattle.chain_meaning.specs.Serving.{chain_decides}
+use Rattle.chain_meaning.specs.declared.decision.Decision.TheVariants as decision
+use Rattle.chain_build.specs.Logs.{held_log}
+use Rattle.chain_build.specs.Plans.{steps_in}
+use Rattle.chain_build.specs.Workers.{server_in}
 use Rattle.chain_build.specs.Walking.{decision_of}
-use Rattle.chain_build.proofs.Served.{replied, starved_after}
+use Rattle.chain_build.proofs.Served.{takes_at, told_at_once, told_by, told_starved, told_without}
+use Rattle.chain_build.proofs.Walks.{tried}
 use Rattle.chain_build.proofs.serving.reply.Goals as goal
+
+pub returns-in_default-clause-tells : goal.returns-in_default-clause-tells
+returns-in_default-clause-tells g c =
+    told_at_once g.B.Rulebook.taken g.B.Rulebook.said c.args.plans.now c.args.held.now.serial c.args.arrived.now.datagram.now c.args.room.now.query.name c.args.beside c.fill_query.new.query
+    (decision.Reply c.chain_for.new.slot) c.finish_apart.result c.tell.ensures.accepted c.requires.asks c.fill_query.ensures _ (held_log c.args.held.now.pools.items) c.in_default.ensures.none c.finish_apart.ensures
+
+pub returns-in-Ok-Some-clause-tells : goal.returns-in-Ok-Some-clause-tells
+returns-in-Ok-Some-clause-tells g c =
+    let means = chain_decides (steps_in g.B.Rulebook.said c.in-Some.found.1.now) c.fill_query.new.query in
+    let ended = tried means c.try_chain.new.room.plugins.slot c.in-Ok-Some.field-0 c.in-Ok-Some.ended c.in-Ok-Some.ensures c.in-Ok-Some.field-0-is in
+    told_at_once g.B.Rulebook.taken g.B.Rulebook.said c.args.plans.now c.args.held.now.serial c.args.arrived.now.datagram.now c.args.room.now.query.name c.args.beside c.fill_query.new.query
+    (decision_of c.in-Ok-Some.ended c.try_chain.new.room.plugins.slot) c.finish.result c.tell.ensures.accepted c.requires.asks c.fill_query.ensures _ (held_log c.args.held.now.pools.items)
+    (λ left. c.in-Some.ensures.some left ∙ ended left) c.finish.ensures
+
+pub returns-in-Ok-clause-tells : goal.returns-in-Ok-clause-tells
+returns-in-Ok-clause-tells g c =
+    told_by g.B.Rulebook.taken g.B.Rulebook.said c.args.plans.now c.args.held.now.serial c.args.arrived.now.datagram.now c.args.room.now.query.name c.args.beside c.fill_query.new.query
+    (decision_of c.in-Ok.ended c.run_found.new.room.plugins.slot) c.finish_apart-in-Ok.result c.tell.ensures.accepted c.requires.asks c.fill_query.ensures
+    (place_in (steps_in g.B.Rulebook.said c.in-Some.found.1.now) c.in-Some.found.0 c.fill_query.new.query) _ _ c.in-Some.ensures.place
+    (takes_at (chain_decides (steps_in g.B.Rulebook.said c.in-Some.found.1.now) c.fill_query.new.query) _ c.in-Some.ensures.some c.in-Ok.ensures.takes) c.finish_apart-in-Ok.ensures
+
+pub returns-in-Err-run_found-clause-tells : goal.returns-in-Err-run_found-clause-tells
+returns-in-Err-run_found-clause-tells g c =
+    told_starved g.B.Rulebook.taken g.B.Rulebook.said c.args.plans.now c.args.held.now.serial c.args.arrived.now.datagram.now c.args.room.now.query.name c.args.beside c.fill_query.new.query
+    (place_in (steps_in g.B.Rulebook.said c.in-Some.found.1.now) c.in-Some.found.0 c.fill_query.new.query) _ _ _ c.tell.ensures.accepted c.requires.asks c.fill_query.ensures c.in-Some.ensures.place
+    (takes_at (chain_decides (steps_in g.B.Rulebook.said c.in-Some.found.1.now) c.fill_query.new.query) _ c.in-Some.ensures.some c.in-Err-run_found.ensures.takes)
 
 pub returns-in-Err-clause-tells : goal.returns-in-Err-clause-tells
 returns-in-Err-clause-tells g c =
-    let asked = asked_by c.args.room.now.query.name c.args.beside in
-    record {
-      marks = c.in-Ok.ensures.takes.marks;
-      told = c.in-Ok.ensures.takes.told;
-      stays = c.in-Ok.ensures.takes.stays;
-      serves = inr (record {
-        blocks = c.args.plans.now.blocks;
-        accepted = c.tell.ensures.accepted;
-        asked = asked;
-        queries = c.requires.asks;
-        starved = subst (λ q. Starved (query_decides asked.opt asked.question.class (steps_of g.B.Rulebook.said c.args.plans.now.bundle.files) c.args.plans.now.blocks q c.in-Ok.ensures.takes.marks)) c.fill_query.ensures
-            (starved_after (query_decides asked.opt asked.question.class (steps_of g.B.Rulebook.said c.args.plans.now.bundle.files) c.args.plans.now.blocks c.fill_query.new.query) _ c.in-Ok.ensures.takes.marks c.in-Ok.ensures.takes.took);
-      });
-    }
-
-pub returns-in-Ok-write_whole-clause-tells : goal.returns-in-Ok-write_whole-clause-tells
-returns-in-Ok-write_whole-clause-tells g c =
-    let asked = asked_by c.args.room.now.query.name c.args.beside in
-    let v = decision_of c.in-Ok.ended c.decide.new.room.plugins.slot in
-    let says : answer_in v ≡ Some (whole_answer c.in-Ok.ended c.settle.new.slot) = search rules in
-    record {
-      marks = c.in-Ok.ensures.takes.marks;
-      told = c.in-Ok.ensures.takes.told;
-      stays = c.in-Ok.ensures.takes.stays;
-      serves = inl (record {
-        blocks = c.args.plans.now.blocks;
-        accepted = c.tell.ensures.accepted;
-        asked = asked;
-        queries = c.requires.asks;
-        decision = v;
-        took = λ left. subst (λ q. query_decides asked.opt asked.question.class (steps_of g.B.Rulebook.said c.args.plans.now.bundle.files) c.args.plans.now.blocks q (c.in-Ok.ensures.takes.marks ++ left) ≡ Done v left) c.fill_query.ensures (c.in-Ok.ensures.takes.took left);
-        is = replied c.in-Ok.ended c.upper_code.ensures c.opt_reply-opt.ensures (ap (λ r. r.query) c.take_reply-free.ensures.rest ∙ c.fill_query.ensures) (ap (λ r. r.walk.plugins.slot) c.take_reply-free.ensures.rest)
-            c.limit_of-limit.ensures.value c.reply_message-parts.ensures.message says c.in-Ok-write_whole.ensures;
-      });
-    }
+    told_without (server_in g.B.Rulebook.taken g.B.Rulebook.said c.args.plans.now c.args.held.now.serial) c.args.arrived.now.datagram.now _ (held_log c.args.held.now.pools.items)

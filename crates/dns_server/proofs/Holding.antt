@@ -23,6 +23,7 @@ use Rattle.run_meaning.specs.declared.looking.Looking.{Looking}
 use Rattle.run_meaning.specs.declared.looking.Looking.TheVariants as looking
 use Rattle.run_meaning.specs.Answers.{AnswersLook, Standing}
 use Rattle.reload_watch.specs.Placing.{IsPlaced}
+use Rattle.reload_watch.specs.Standing.{SawOpen}
 use Rattle.reload_watch.specs.Sweeps.{HasSwept, SweptFor}
 use Rattle.reload_watch.specs.WatchTurn.{AreSwept, IsSweptTurn}
 use Rattle.run_meaning.specs.WatchTurn.{WatchTurn, AreLooks, IsLook, looked, starved, published_by}
@@ -31,7 +32,7 @@ use Rattle.dns_server.specs.Holding.{AreHeld, IsHeld, IsHeldFor, IsHeldTurn}
 module _ {C : Type 0} where
   -- once the first chains are published
   pub placed_opened : (n : ℕ) (chains : List C) (found : ℕ) → IsPlaced (opened_plan n chains found)
-  placed_opened n chains found = record { each_serial = refl; each_slot = refl; placed = at }
+  placed_opened n chains found = record { each_serial = refl; each_slot = refl; placed = at; fronted = record { front = 0; low = omega arith; current = refl; last = refl } }
     where
       at : (i : ℕ) → i < SLOTS → is_free (plan_slot (opened_plan n chains found) i).phase ≡ false
           → (serial_at (opened_plan n chains found).past.serials i < count_of (opened_plan n chains found))
@@ -67,6 +68,16 @@ module _ {C : Type 0} where
         held_at past.serials last serial qs held.0 (fresh held.0) (omega (arith, count, held.1)) settled
         (subst (λ (x : ℕ × ℕ). last_below x.0 (serials_of past.serials (joined_at qs held.0)) ≡ Some x.1) (λ i. (is.0 i, is.1 i)) held.2)
     swept_held (sweep ∷ sweeps) last serial left all (inr has) less = swept_held sweeps last serial left (All-tail (IsSweep n past (joined_at qs)) sweep sweeps all) has less
+
+    -- and what it saw of one serial
+    pub saw_held : (sweeps : List Sweep) (last serial : ℕ) → All (IsSweep n past (joined_at qs)) sweeps → SawOpen sweeps last serial → IsHeld last serial (map (λ q. pinned_by q) qs)
+    saw_held [] last serial all saw = absurd saw
+    saw_held (sweep ∷ sweeps) last serial all (inl is) =
+        let head = All-head (IsSweep n past (joined_at qs)) sweep sweeps all in
+        let held = head.held is.2 in
+        held_at past.serials last serial qs held.0 (fresh held.0) (omega (arith, count, held.1)) settled
+        (subst (λ (x : ℕ × ℕ). last_below x.0 (serials_of past.serials (joined_at qs held.0)) ≡ Some x.1) (λ i. (is.0 i, is.1 i)) held.2)
+    saw_held (sweep ∷ sweeps) last serial all (inr saw) = saw_held sweeps last serial (All-tail (IsSweep n past (joined_at qs)) sweep sweeps all) saw
 
     answer_held : (sweeps : List Sweep) (standing : Standing) (gives : Result Bundle GatherFault) (published : ℕ) (answer : Looking) → All (IsSweep n past (joined_at qs)) sweeps
         → AnswersLook standing gives answer → SweptFor sweeps published answer → IsHeldFor (map (λ q. pinned_by q) qs) published answer

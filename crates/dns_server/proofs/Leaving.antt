@@ -36,7 +36,14 @@ use Rattle.dns_server.specs.Roles.{Becomes, HasWatched, IsPart, IsWatching, Task
 use Rattle.dns_server.specs.Roles as roles
 use Rattle.dns_server.specs.States.{RunSetup, run_terms, side_runs}
 use Rattle.dns_server.proofs.Each.{zip_last}
-use Rattle.dns_server.proofs.Holding.{looks_held, placed_opened}
+use Rattle.extra_stock.specs.{is_named}
+use Rattle.reload_watch.specs.{SawOpen, all_weigh}
+use Rattle.run_meaning.specs.Stocked.{AreStocked, Lending}
+use Rattle.run_meaning.specs.StockedLaws.{stocked_to}
+use Rattle.dns_server.specs.Holding.{IsHeld}
+use Rattle.dns_server.specs.Lending.{lent_by}
+use Rattle.dns_server.specs.Stocking.{StockData, count_name}
+use Rattle.dns_server.proofs.Holding.{looks_held, placed_opened, saw_held}
 use Rattle.dns_server.proofs.Joining.{IsBy, IdleFrom, IsDone, Leave, all_tell, scripts_are}
 
 -- the last of the roles, and the others
@@ -99,11 +106,11 @@ module _ {B E : Type 0} {bk : rulebook.Ghosts B} {ex : extra.Ghosts E} where
         let rising = closed.rising w q at in
         (subst (λ (n : ℕ). AreGiven chain_identity chain_log (plan_of last.publisher).past.filled n q.turns) (omega arith) turns, let r = rising.1 in omega (arith, r, count))
 
-    pub finishes : (others : List (Role S W B E bk ex)) (published : ℕ) → IsBy bk.taken bk.said setup → roles.IsOpened side setup.footing.basis opened → HasWatched watch task opened.watcher last
+    pub finishes : (others : List (Role S W B E bk ex)) (published : ℕ) (stock : StockData) → ((name : List ℕ) → count_name name stock.spare ≡ all_weigh (is_named name) opened.watcher) → IsBy bk.taken bk.said setup → roles.IsOpened side setup.footing.basis opened → HasWatched watch task opened.watcher last
         → Leave side watch task 0 opened.sides.items others dones passes → published ≡ count_of (plan_of last.publisher)
         → IsClosed (joined_plan (plan_of last.publisher) passes) → IsTraced chain_identity chain_log (joined_plan (plan_of last.publisher) passes)
-        → Finishes setup first (map side opened.sides.items) (watch opened.watcher.watch) (record { sides = side_runs side dones; watch = watch last.watch; published = published; starved = last.starved })
-    finishes others published on is has leave count closed traced =
+        → Finishes setup first (map side opened.sides.items) (watch opened.watcher.watch) (record { sides = side_runs side dones; watch = watch last.watch; published = published; stock = stock; starved = last.starved })
+    finishes others published stock spare_is on is has leave count closed traced =
         let by = has.watches in
         let basis = is.ground_is in
         let to : footing_on bk.taken bk.said (ground_of (arc_value opened.watcher.current)) ≡ setup.footing = ap (λ (g : Ground). footing_on bk.taken bk.said g) basis ∙ sym on in
@@ -129,6 +136,14 @@ module _ {B E : Type 0} {bk : rulebook.Ghosts B} {ex : extra.Ghosts E} where
           tell = rw (sym by.bundles_are) tell;
           held = looks_held (plan_of last.publisher).workers (plan_of last.publisher).past (views_of passes) count_is leave.settled (plan_of last.publisher).sweeps setup.source (run_terms setup)
               (first ∷ []) by.looks closed.sweeps (subst (λ (f : Footing). AreLooks setup.source (terms_of f) (first ∷ []) by.looks) to by.are) by.swept;
+          lent =
+              let run = lent_by setup (length (side_runs side dones)) stock in
+              let sides : opened.watcher.workers ≡ length (side_runs side dones) = is.workers ∙ (sym (length-map opened.sides.items side) ∙ sym sides_mid) in
+              stocked_to run (SawOpen (plan_of last.publisher).sweeps) (λ n serial. IsHeld n serial (map (λ q. pinned_by q) (views_of passes)))
+              (λ n serial saw. saw_held (plan_of last.publisher).workers (plan_of last.publisher).past (views_of passes) count_is leave.settled (plan_of last.publisher).sweeps n serial closed.sweeps saw)
+              (first ∷ []) by.looks
+              (subst (λ (l : Lending). AreStocked l (SawOpen (plan_of last.publisher).sweeps) (first ∷ []) by.looks)
+              (λ i. record { terms = terms_of (to i); workers = sides i; all = λ name. (sym (spare_is name)) i }) by.stocked);
           pins = subst (λ (k : ℕ). OnePinRun k published (side_pins (map (λ q. pinned_by q) (views_of passes)))) (count_is ∙ sides_count ∙ sym sides_mid)
               (subst (λ (k : ℕ). OnePinRun (plan_of last.publisher).workers k (side_pins (map (λ q. pinned_by q) (views_of passes)))) (sym count)
               (subst (OnePinRun (plan_of last.publisher).workers (count_of (plan_of last.publisher))) (pins_are (views_of passes)) closed.run));

@@ -109,6 +109,7 @@ stops_open {stock} {setup} {before} {after} how watch back places scripts script
     pinned = [];
     sides = tt;
     held = tt;
+    lent = tt;
     pins = no_pins;
   };
   refused = λ none. refused;
@@ -189,13 +190,13 @@ few_sides workers ports sides few are =
     omega (arith, few, count, same)
 
 -- a run that served
-pub serves : {stock : StockData} (setup : RunSetup) (before after : HostState) (how : Status) (fresh read published : WatchState) (plans : PlansData) (places : List OpenedSide) (sides : List SideState) (left : Left)
+pub serves : (setup : RunSetup) (before after : HostState) (how : Status) (fresh read published : WatchState) (plans : PlansData) (places : List OpenedSide) (sides : List SideState) (left : Left)
     → IsFreshWatch fresh → RefusesNone fresh read → ReadsPlans setup.source setup.footing fresh read plans → plans.ports ≢ [] → side_count setup.workers plans.ports ≤ limits.WORKERS
     → AddsWatch read published (Published 0 ∷ []) → RefusesNone read published
     → places ≡ sides_of setup.workers plans.ports → OpensAll before after places sides
     → Finishes setup plans.bundle sides published left → IsEndStatus left.sides left.starved how
-    → RunsBehind setup (record { status = how; sides = left.sides; watch = Some left.watch; published = left.published; stock = stock; starved = left.starved }) fresh before after
-serves {stock} setup before after how fresh read published plans places sides left is_fresh script reads some_ports few publishes kept places_are opens by stands =
+    → RunsBehind setup (record { status = how; sides = left.sides; watch = Some left.watch; published = left.published; stock = left.stock; starved = left.starved }) fresh before after
+serves setup before after how fresh read published plans places sides left is_fresh script reads some_ports few publishes kept places_are opens by stands =
     let accepted : IsAccepted (run_terms setup) plans.bundle plans.blocks = subst (λ (g : Ground). IsAccepted (terms_on setup.footing.taken setup.footing.said g) plans.bundle plans.blocks) reads.ground_is reads.are.accepted in
     let count : length (bundles_of plans.bundle by.looks) ≡ left.published = by.count in
     let some : left.published ≢ 0 = λ e. omega (arith, e, count) in
@@ -227,10 +228,11 @@ serves {stock} setup before after how fresh read published plans places sides le
         pinned = by.pinned;
         sides = by.tell;
         held = by.held;
+        lent = by.lent;
         pins = by.pins;
       };
       refused = λ none. absurd (some none);
-      cause = end_cause stock setup before.counts after.counts (Some left.watch) left.sides left.published left.starved how some stands;
+      cause = end_cause left.stock setup before.counts after.counts (Some left.watch) left.sides left.published left.starved how some stands;
     }
 
 -- the first reads gave no chain
@@ -417,6 +419,7 @@ not_opened {stock} {setup} {before} {after} how told supply cause = record {
     pinned = [];
     sides = tt;
     held = tt;
+    lent = tt;
     pins = no_pins;
   };
   refused = λ none. tt;
@@ -467,6 +470,7 @@ opened_before {setup} {run} {first} {before} {after} watch opens runs =
         pinned = behind.pinned;
         sides = behind.sides;
         held = behind.held;
+        lent = behind.lent;
         pins = behind.pins;
       };
       refused = runs.refused;

@@ -4,6 +4,7 @@ pub mod States
 pub mod Stocking
 pub mod Opening
 pub mod Holding
+pub mod Lending
 pub mod WatchRun
 pub mod Report
 pub mod Roles

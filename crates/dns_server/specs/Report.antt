@@ -49,6 +49,7 @@ use Rattle.chain_meaning.specs.Accepting.{IsAccepted}
 use Rattle.chain_meaning.specs.Steps.{block_extras}
 use Rattle.extra_stock.specs.{IsShort}
 use Rattle.dns_server.specs.Holding.{AreHeld, AreHeldBehind}
+use Rattle.dns_server.specs.Lending.{AreLent, AreLentBehind, lent_by}
 use Rattle.dns_server.specs.Opening.{BeginsSides, RefusesSides, TakesSides, WantsSides}
 use Rattle.dns_server.specs.Opening.{scripts_of, side_count}
 use Rattle.dns_server.specs.States.{RunSetup, SideRun, run_terms, setup_of, side_runs}
@@ -104,11 +105,12 @@ abbrev pub side_pins : List (List ℕ) → List (List PinMark)
 side_pins pinned = map (λ serials. pin_marks (reverse serials)) pinned
 
 -- what the workers and the watcher leave: the sides, the watch, how many generations were
--- published, and how many looks met want of memory
+-- published, the stock to which all extras came home, and how many looks met want of memory
 pub record Left : Type 0 where
   pub sides : List SideRun
   pub watch : WatchState
   pub published : ℕ
+  pub stock : StockData
   pub starved : ℕ
 
 -- workers and a watcher that have ended behind the publication of the first bundle: these looks,
@@ -129,6 +131,7 @@ pub record Finishes (setup : RunSetup) (first : Bundle) (sides : List SideState)
   pub pinned : List (List ℕ)
   pub tell : TellEach setup (bundles_of first looks) pinned left.sides
   pub held : AreHeld pinned (first ∷ []) looks
+  pub lent : AreLent (lent_by setup (length left.sides) left.stock) pinned (first ∷ []) looks
   pub pins : OnePinRun (length left.sides) left.published (side_pins pinned)
 
 -- each published bundle is accepted
@@ -208,6 +211,7 @@ pub record ServesBy (setup : RunSetup) (run : RunData) (before after : HostState
   pub pinned : List (List ℕ)
   pub sides : TellEach setup bundles pinned run.sides
   pub held : AreHeldBehind pinned bundles looks
+  pub lent : AreLentBehind (lent_by setup (length run.sides) run.stock) pinned bundles looks
   pub pins : OnePinRun (length run.sides) run.published (side_pins pinned)
 
 -- the words ask for no serving: they are no command, or `load`, which isn't built
@@ -336,6 +340,7 @@ pub record ServesBehind (setup : RunSetup) (run : RunData) (watch : WatchState)
   pub pinned : List (List ℕ)
   pub sides : TellEach setup bundles pinned run.sides
   pub held : AreHeldBehind pinned bundles looks
+  pub lent : AreLentBehind (lent_by setup (length run.sides) run.stock) pinned bundles looks
   pub pins : OnePinRun (length run.sides) run.published (side_pins pinned)
 
 -- how many patterns a watch refused in a run that published nothing, by its status

@@ -34,17 +34,20 @@ use Rattle.dns_server.specs.declared.finishing.Finished.{Finished}
 use Rattle.dns_server.specs.declared.finishing.Opened.{Opened}
 use Rattle.dns_server.specs.Report.{Left}
 use Rattle.dns_server.specs.States.{side_runs}
+use Rattle.dns_server.specs.Stocking.{stock_data}
 
 -- a worker takes a datagram at least, and as many as it may pin at most
 abbrev pub IsMost : ℕ → Type 0
 IsMost most = (0 < most) × (most ≤ limits.TURNS)
 
 -- what the roles of a run leave
-abbrev pub left_by : {S W E : Type 0} → (S → SideState) → (W → WatchState) → Finished S W E → Left
-left_by side watch finished = record {
+abbrev pub left_by : {S W E : Type 0} → (S → SideState) → (W → WatchState) → (E → List ℕ)
+    → Finished S W E → Left
+left_by side watch title finished = record {
   sides = side_runs side finished.dones.items;
   watch = watch finished.watch;
   published = finished.published;
+  stock = stock_data title finished.stock;
   starved = finished.starved;
 }
 

@@ -61,7 +61,7 @@ pub(crate) fn finish<
     ensures finishes { Finishes
         (run_setup setup.entry B.taken B.said (map E.title opened.watcher.stock.judges.items))
         (arc_value opened.watcher.current).bundle (map S.state opened.sides.items)
-        (W.state opened.watcher.watch) (left_by S.state W.state result) }
+        (W.state opened.watcher.watch) (left_by S.state W.state E.title result) }
     ensures extras { (w : List ℕ → ℕ) → data_weighs w (stock_data E.title result.stock)
         ≡ names_weigh E.title w opened.watcher.stock.judges.items + all_weigh w opened.watcher }
 {

@@ -1,8 +1,11 @@
+pub mod Counting
+pub mod Finding
 pub mod Going
 pub mod Looks
 pub mod Placed
 pub mod Reading
 pub mod Refusing
+pub mod Standing
 pub mod Stocked
 pub mod Sweeping
 pub mod Watching

@@ -1,5 +1,5 @@
 -- In which slots the generations of a table stand, step by step.
-use Rattle.std.proofs.Common.{◌≡◌, ◌≢◌, ◌<◌, ℕ, true, false, List, [], ◌∷◌, ◌++◌, length, map, get_or, set, refl, sym, ap, subst, ◌∙◌, arith}
+use Rattle.std.proofs.Common.{◌≡◌, ◌≢◌, ◌<◌, ℕ, ◌+◌, true, false, List, [], ◌∷◌, ◌++◌, length, map, get_or, set, refl, sym, ap, subst, ◌∙◌, arith}
 use mathlib.Core.Logic.{dite}
 use native.Mathlib.Decide.{ℕ_discrete}
 use Rattle.std.proofs.lemmas.List.{get_or-map, get_or-set_other, get_or-set_same, length-map, length-set}
@@ -11,15 +11,15 @@ use Rattle.pin_core.specs.declared.slots.Phase.{Phase}
 use Rattle.pin_core.specs.declared.slots.Phase.TheVariants.{Free, Filling, Current, Replaced}
 use Rattle.pin_core.specs.declared.slots.Slot.{Slot}
 use Rattle.pin_core.specs.Machine.{unused}
-use Rattle.pin_core.specs.Slots.{is_free, is_replaced, replaced_phase}
+use Rattle.pin_core.specs.Slots.{is_current, is_free, is_replaced, published_slot, replaced_phase}
 use Rattle.pin_table.specs.declared.free_slots.FreeSlot.{FreeSlot}
 use Rattle.pin_table.specs.declared.sweeper.Swept.{Swept}
 use Rattle.pin_table.specs.declared.sweeper.Swept.TheVariants as swept
 use Rattle.pin_table.specs.declared.views.Plan.{Plan}
 use Rattle.pin_table.specs.Freeing.{IsFreed}
 use Rattle.pin_table.specs.Known.{serial_at}
-use Rattle.pin_table.specs.Publishing.{next_plan}
-use Rattle.pin_table.specs.Steps.{plan_slot, retired, swept_plan, with_pins}
+use Rattle.pin_table.specs.Publishing.{fill_to, next_plan}
+use Rattle.pin_table.specs.Steps.{named_plan, plan_slot, retired, swept_plan, with_pins}
 use Rattle.pin_table.specs.Sweeping.{IsSwept, free_again, retired_plan}
 use Rattle.reload_watch.specs.Placing.{IsPlaced}
 
@@ -62,6 +62,23 @@ at_published slots serials published slot pins v u low four_serials four old i w
 long_published : (slots : List Slot) (slot pins : ℕ) (v u : Slot) → length slots ≡ SLOTS → length (set (map (retired pins) (set slots slot v)) slot u) ≡ SLOTS
 long_published slots slot pins v u four = length-set (map (retired pins) (set slots slot v)) slot u ∙ length-map (set slots slot v) (retired pins) ∙ length-set slots slot v ∙ four
 
+-- behind a publication its slot is current, and has the last serial
+front_current : (slots : List Slot) (slot pins : ℕ) (v x : Slot) → slot < SLOTS → length slots ≡ SLOTS → is_current (get_or (set (map (retired pins) (set slots slot v)) slot (published_slot x)) slot unused).phase ≡ true
+front_current slots slot pins v x low four =
+    let wide : length (map (retired pins) (set slots slot v)) ≡ SLOTS = length-map (set slots slot v) (retired pins) ∙ length-set slots slot v ∙ four in
+    ap (λ (y : Slot). is_current y.phase) (get_or-set_same (map (retired pins) (set slots slot v)) slot (published_slot x) unused (omega (arith, wide, low)))
+
+front_last : (serials published : List ℕ) (slot : ℕ) → slot < SLOTS → length serials ≡ SLOTS → get_or (set serials slot (length published)) slot 0 + 1 ≡ length (published ++ slot ∷ [])
+front_last serials published slot low four =
+    let here = get_or-set_same serials slot (length published) 0 (omega (arith, four, low)) in
+    omega (arith, here, length_push published slot)
+
+not_both : (phase : Phase) → is_current phase ≡ true → is_replaced phase ≡ true → ⊥
+not_both Free is other = absurd cc
+not_both (Filling marks) is other = absurd cc
+not_both (Current pins) is other = absurd cc
+not_both (Replaced total ready drained) is other = absurd cc
+
 module _ {C : Type 0} where
   -- two replaced slots have different serials
   pub apart : (p : Plan C) → IsPlaced p → (i j : ℕ) → i < j → j < SLOTS → is_replaced (plan_slot p i).phase ≡ true → is_replaced (plan_slot p j).phase ≡ true
@@ -73,8 +90,8 @@ module _ {C : Type 0} where
       omega (arith, e, less)
 
   -- a slot that is free again
-  placed_retired : (p : Plan C) (slot found : ℕ) (chains : List C) → slot < SLOTS → IsPlaced p → IsPlaced (retired_plan p slot found chains)
-  placed_retired p slot found chains low is = record {
+  placed_retired : (p : Plan C) (slot found : ℕ) (chains : List C) → slot < SLOTS → is_replaced (plan_slot p slot).phase ≡ true → IsPlaced p → IsPlaced (retired_plan p slot found chains)
+  placed_retired p slot found chains low replaced is = record {
     each_serial = is.each_serial;
     each_slot = length-set p.slots slot (free_again (plan_slot p slot)) ∙ is.each_slot;
     placed = λ i within free. dite (ℕ_discrete i slot)
@@ -86,13 +103,27 @@ module _ {C : Type 0} where
         cc
         ))
         (λ ne. is.placed i within (ap (λ (x : Slot). is_free x.phase) (sym (get_or-set_other p.slots slot i (free_again (plan_slot p slot)) unused ne)) ∙ free));
+    fronted =
+        let f = is.fronted in
+        let ne : f.front ≢ slot = λ e. not_both (plan_slot p f.front).phase f.current (ap (λ (k : ℕ). is_replaced (plan_slot p k).phase) e ∙ replaced) in
+        record {
+          front = f.front;
+          low = f.low;
+          current = ap (λ (x : Slot). is_current x.phase) (get_or-set_other p.slots slot f.front (free_again (plan_slot p slot)) unused ne) ∙ f.current;
+          last = f.last;
+        };
   }
 
   -- behind a sweep
   placed_swept : (p : Plan C) (slot : ℕ) (home : List C) (x : Swept) (home' : List C) (p' : Plan C) → slot < SLOTS → IsSwept p slot home x home' p' → IsPlaced p → IsPlaced p'
-  placed_swept p slot home swept.Retired home' p' low swept is = subst IsPlaced (sym swept.then) (placed_retired p slot swept.found swept.chains low is)
+  placed_swept p slot home swept.Retired home' p' low swept is = subst IsPlaced (sym swept.then) (placed_retired p slot swept.found swept.chains low swept.replaced is)
   placed_swept p slot home (swept.NotYet ended total) home' p' low swept is =
-      let same : IsPlaced (swept_plan p slot ended) = record { each_serial = is.each_serial; each_slot = is.each_slot; placed = is.placed } in
+      let same : IsPlaced (swept_plan p slot ended) = record {
+        each_serial = is.each_serial;
+        each_slot = is.each_slot;
+        placed = is.placed;
+        fronted = let f = is.fronted in record { front = f.front; low = f.low; current = f.current; last = f.last };
+      } in
       subst IsPlaced (sym swept.4) same
   placed_swept p slot home swept.Current home' p' low swept is = subst IsPlaced (sym swept.2) is
   placed_swept p slot home swept.Bare home' p' low swept is = subst IsPlaced (sym swept.2) is
@@ -111,4 +142,5 @@ module _ {C : Type 0} where
     each_serial = length-set p.past.serials slot (length p.past.published) ∙ is.each_serial;
     each_slot = long_published p.slots slot _ _ _ is.each_slot;
     placed = at_published p.slots p.past.serials p.past.published slot _ _ _ low is.each_serial is.each_slot is.placed;
+    fronted = record { front = slot; low = low; current = front_current p.slots slot _ _ (plan_slot (fill_to (named_plan p slot (length p.past.published)) slot chains p.workers) slot) low is.each_slot; last = front_last p.past.serials p.past.published slot low is.each_serial };
   }

@@ -1,5 +1,5 @@
 -- What a gathering that gave no bundle comes to.
-use Rattle.std.proofs.Common.{◌≡◌, ◌≢◌, ℕ, List, Result, Ok, Err, refl}
+use Rattle.std.proofs.Common.{◌≡◌, ℕ, List, Result, Err, refl}
 use Rattle.outside.specs.Causes.{Rose}
 use Rattle.outside.specs.States.{WatchState}
 use Rattle.corefile_blocks.specs.declared.bundle.Bundle.{Bundle}

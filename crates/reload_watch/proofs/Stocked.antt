@@ -1,5 +1,5 @@
 -- Where the extras are behind the calls of a look.
-use Rattle.std.proofs.Common.{◌≡◌, ◌+◌, ◌<◌, ◌≤◌, Bool, true, false, cond, ℕ, List, [], ◌∷◌, Some, refl, sym, ap, subst, ◌∙◌, arith}
+use Rattle.std.proofs.Common.{◌≡◌, ◌<◌, Bool, true, false, cond, ℕ, List, [], ◌∷◌, Some, Result, refl, sym, ap, subst, ◌∙◌, arith, inl, inr}
 use Rattle.std.specs.Prelude.{find}
 use Rattle.std.proofs.lemmas.Bool.{ltb-true}
 use Rattle.std.proofs.lemmas.Option.{none-some, same_Some}
@@ -10,13 +10,18 @@ use Rattle.chain_build.specs.declared.chain.Chain.{Chain}
 use Rattle.chain_build.specs.{PlansData, chain_extras, chain_identity}
 use Rattle.pin_table.specs.{Identity, IsOfIdentity}
 use Rattle.pin_table.specs.declared.views.Plan.{Plan}
+use Rattle.pin_table.specs.declared.free_slots.FreeSlot.TheVariants as found
+use Rattle.plugin_api.specs.{Sayings, Takings}
+use Rattle.outside.specs.States.{WatchState}
+use Rattle.corefile_blocks.specs.declared.bundle.Bundle.{Bundle}
+use Rattle.corefile_bundle.specs.declared.fault.GatherFault.{GatherFault}
 use Rattle.run_meaning.specs.declared.looking.Looking.{Looking}
 use Rattle.run_meaning.specs.declared.looking.Looking.TheVariants as looking
-use Rattle.reload_watch.specs.Look.{HasSlot, SearchesFirst}
+use Rattle.reload_watch.specs.Look.{AnswersKept, Frees, LeavesSlot, NotesLook, SearchesFirst}
 use Rattle.plugin_api.specs.declared.extra.Extra as extra
 use Rattle.plugin_api.specs.declared.rulebook.Rulebook as rulebook
 use Rattle.reload_watch.specs.declared.watcher.Watcher.{Watcher}
-use Rattle.reload_watch.specs.Stocked.{KeepsStock, chain_seats, chain_weighs}
+use Rattle.reload_watch.specs.Stocked.{KeepsStock}
 
 module _ {B E : Type 0} {bk : rulebook.Ghosts B} {ex : extra.Ghosts E} where
   -- what extras a chain has is told by its identity
@@ -48,15 +53,35 @@ short_less workers blocks had name asks has s =
     let two = s.has_is in
     omega (arith, less_name, one, two)
 
--- a look that found a free slot has no other search to tell of
-pub none_searched : {C : Type 0} (before after : Plan C) (answer : Looking) → HasSlot answer → SearchesFirst before after answer
-none_searched before after looking.NoReload has = tt
-none_searched before after (looking.ReadFailed name) has = tt
-none_searched before after looking.Same has = tt
-none_searched before after (looking.Refused why) has = tt
-none_searched before after (looking.PortsDiffer ports others) has = tt
-none_searched before after looking.SerialsSpent has = tt
-none_searched before after (looking.AllPinned one two three) has = absurd has
-none_searched before after (looking.StockShort name asked had) has = tt
-none_searched before after (looking.Published serial) has = tt
-none_searched before after looking.NoMemory has = tt
+-- a look that found a free slot
+pub searched_free : {B E : Type 0} {bk : rulebook.Ghosts B} {ex : extra.Ghosts E} (before mid after : Plan (Chain B E bk ex)) (slot : ℕ) (answer : Looking) → Frees before (found.Free slot) mid → LeavesSlot mid after answer → SearchesFirst before after answer
+searched_free before mid after slot looking.NoReload frees leaves = tt
+searched_free before mid after slot (looking.ReadFailed name) frees leaves = tt
+searched_free before mid after slot looking.Same frees leaves = tt
+searched_free before mid after slot (looking.Refused why) frees leaves = tt
+searched_free before mid after slot (looking.PortsDiffer ports others) frees leaves = tt
+searched_free before mid after slot looking.SerialsSpent frees leaves = tt
+searched_free before mid after slot (looking.AllPinned one two three) frees leaves = absurd leaves
+searched_free before mid after slot (looking.StockShort name asked had) frees leaves = (slot, subst (λ (p : Plan _). Frees before (found.Free slot) p) (sym leaves) frees)
+searched_free before mid after slot (looking.Published serial) frees leaves = record { slot = slot; mid = mid; frees = frees; chains = leaves.0; adds = leaves.1; weighs = leaves.2 }
+searched_free before mid after slot looking.NoMemory frees leaves = tt
+
+kept_search : {B E : Type 0} {bk : rulebook.Ghosts B} {ex : extra.Ghosts E} (before after : Plan (Chain B E bk ex)) (taken : Takings) (said : Sayings) (plans : PlansData) (gives : Result Bundle GatherFault) (answer : Looking) → AnswersKept taken said plans gives answer → SearchesFirst before after answer
+kept_search before after taken said plans gives looking.NoReload kept = absurd kept
+kept_search before after taken said plans gives (looking.ReadFailed name) kept = tt
+kept_search before after taken said plans gives looking.Same kept = tt
+kept_search before after taken said plans gives (looking.Refused why) kept = tt
+kept_search before after taken said plans gives (looking.PortsDiffer ports others) kept = tt
+kept_search before after taken said plans gives looking.SerialsSpent kept = absurd kept
+kept_search before after taken said plans gives (looking.AllPinned one two three) kept = absurd kept
+kept_search before after taken said plans gives (looking.StockShort name asked had) kept = absurd kept
+kept_search before after taken said plans gives (looking.Published serial) kept = absurd kept
+kept_search before after taken said plans gives looking.NoMemory kept = tt
+
+-- a look that came to no search has none to tell of
+pub kept_searched : {B E : Type 0} {bk : rulebook.Ghosts B} {ex : extra.Ghosts E} (before after : Plan (Chain B E bk ex)) (taken : Takings) (said : Sayings) (plans : PlansData) (gives : Result Bundle GatherFault) (w w' : WatchState) (answer result : Looking)
+    → AnswersKept taken said plans gives answer → NotesLook w w' answer result → SearchesFirst before after result
+kept_searched before after taken said plans gives w w' answer result kept notes = elim notes.either [
+  | inl is ↦ rw is.0 (kept_search before after taken said plans gives answer kept)
+  | inr is ↦ rw is.0 tt
+]

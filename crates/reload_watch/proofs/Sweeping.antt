@@ -14,6 +14,9 @@ use Rattle.pin_table.specs.Steps.{count_of, look_at, swept_plan}
 use Rattle.pin_table.specs.Sweeping.{IsSwept}
 use Rattle.run_meaning.specs.declared.looking.Looking.{Looking}
 use Rattle.run_meaning.specs.declared.looking.Looking.TheVariants as looking
+use Rattle.chain_build.specs.declared.chain.Chain.{Chain}
+use Rattle.plugin_api.specs.declared.extra.Extra as extra
+use Rattle.plugin_api.specs.declared.rulebook.Rulebook as rulebook
 use Rattle.reload_watch.specs.Look.{SearchesFirst}
 use Rattle.reload_watch.specs.Placing.{IsPlaced}
 use Rattle.reload_watch.specs.Sweeps.{KeepsSweeps, SweptFor, SweptThree}
@@ -110,8 +113,9 @@ module _ {C : Type 0} where
       (ap (λ (l : Left). l.ended) two, ap (λ (l : Left). l.total) two ∙ s2'.1)
       (ap (λ (l : Left). l.ended) three, ap (λ (l : Left). l.total) three ∙ s3'.1))
 
-  -- what a look swept, by its answer
-  pub swept_by : (p p' : Plan C) (answer : Looking) → IsPlaced p → SearchesFirst p p' answer → SweptFor p'.sweeps (count_of p) answer
+-- what a look swept, by its answer
+module _ {B E : Type 0} {bk : rulebook.Ghosts B} {ex : extra.Ghosts E} where
+  pub swept_by : (p p' : Plan (Chain B E bk ex)) (answer : Looking) → IsPlaced p → SearchesFirst p p' answer → SweptFor p'.sweeps (count_of p) answer
   swept_by p p' looking.NoReload placed is = tt
   swept_by p p' (looking.ReadFailed name) placed is = tt
   swept_by p p' looking.Same placed is = tt

@@ -1,5 +1,5 @@
 -- How the looks of a watcher go on.
-use Rattle.std.proofs.Common.{true, Result, Ok, Err, ◌≡◌, ◌≢◌, ℕ, ◌+◌, ◌-◌, Bool, List, [], ◌∷◌, ◌++◌, length, Option, Some, None, append_assoc, refl, sym, ap, subst, ◌∙◌, arith}
+use Rattle.std.proofs.Common.{true, Result, Ok, Err, ◌≡◌, ◌≢◌, ℕ, ◌+◌, ◌-◌, Bool, List, [], ◌∷◌, ◌++◌, length, Option, Some, None, append_assoc, refl, sym, ap, subst, ◌∙◌, inl, inr, arith}
 use Rattle.std.specs.Prelude.{OnSome}
 use Rattle.std.specs.List.{All, flat_map}
 use Rattle.std.proofs.lemmas.List.{append-nil}
@@ -18,7 +18,8 @@ use Rattle.chain_meaning.specs.Accepting.{IsAccepted}
 use Rattle.chain_build.specs.declared.chain.Chain.{Chain}
 use Rattle.plugin_api.specs.declared.extra.Extra as extra
 use Rattle.plugin_api.specs.declared.rulebook.Rulebook as rulebook
-use Rattle.chain_build.specs.{ArePlans, PlansData, ground_of, plans_of}
+use Rattle.chain_build.specs.{ArePlans, PlansData, chain_extras, ground_of, plans_of}
+use Rattle.dns_data.specs.declared.directive.Directive.{Directive}
 use Rattle.chain_meaning.specs.{Ground, Terms, terms_on}
 use Rattle.run_meaning.specs.declared.looking.Looking.{Looking}
 use Rattle.run_meaning.specs.declared.looking.Looking.TheVariants as looking
@@ -29,6 +30,15 @@ use Rattle.run_meaning.specs.Answers.{AnswersLook, look_marks}
 use Rattle.reload_watch.specs.Going.{CountsRefusals, RoseWithin}
 use Rattle.run_meaning.specs.Reloads.{reloads, times_of}
 use Rattle.pin_table.specs.declared.views.Sweep.{Sweep}
+use Rattle.reload_watch.specs.Counted.{AreAsked, AreAskedBy, CountsFor}
+use Rattle.reload_watch.specs.Shortage.{Around, TellsStock}
+use Rattle.reload_watch.specs.Standing.{SawOpen}
+use Rattle.reload_watch.specs.WatchRun.{Watches, lending_of}
+use Rattle.run_meaning.specs.declared.watch_end.WatchEnd.{WatchEnd}
+use Rattle.run_meaning.specs.declared.watch_end.WatchEnd.TheVariants as ends
+use Rattle.run_meaning.specs.WatchRun.{EndsWatch, end_marks}
+use Rattle.reload_watch.proofs.Finding.{asked-push, by-push, finds_by, stocked_more}
+use Rattle.run_meaning.specs.Stocked.{AreStocked, FindsFor, IsStocked, Lending}
 use Rattle.reload_watch.specs.States.{Serving, WatcherState}
 use Rattle.reload_watch.specs.Sweeps.{KeepsSweeps, SweptFor}
 use Rattle.reload_watch.specs.WatchTurn.{answer_refused, look_refused, all_refused, IsSweptTurn}
@@ -36,7 +46,7 @@ use Rattle.reload_watch.specs.WatchTurn.{AreSwept}
 use Rattle.run_meaning.specs.WatchTurn.{WatchTurn, looked, starved, watch_marks, published_by}
 use Rattle.run_meaning.specs.WatchTurn.{bundles_of, look_starved, all_starved, IsLooked, IsLook}
 use Rattle.run_meaning.specs.WatchTurn.{AreLooks}
-use Rattle.reload_watch.specs.Watcher.{TakesLook}
+use Rattle.reload_watch.specs.Watcher.{MakesNoLook, TakesLook}
 use Rattle.reload_watch.proofs.Refusing.{all_refused-push, refused_within, starved_within, stays_within}
 
 pub bundles-push : (first : Bundle) (looks : List WatchTurn) (look : WatchTurn) → bundles_of first (looks ++ look ∷ []) ≡ bundles_of first looks ++ published_by look
@@ -107,6 +117,20 @@ length-more (i ∷ items) item = omega (arith, length-more items item)
 abbrev IsTurnOf : Looking → WatchTurn → Type 0
 IsTurnOf answer look = (sweeps : List Sweep) (n : ℕ) → SweptFor sweeps n answer → IsSweptTurn sweeps n look
 
+-- what a look with this answer tells of the stock, its turn does
+abbrev Tells : Around → Terms → Looking → WatchTurn → Type 0
+Tells around terms answer look = (run : Lending) (sweeps : List Sweep) (bundles : List Bundle)
+    → ((gives : Result Bundle GatherFault) → TellsStock terms around gives answer → FindsFor run (SawOpen sweeps) bundles gives answer) → IsStocked run (SawOpen sweeps) bundles look
+
+-- what looks found in the stock, and in one more
+stocked-push : (run : Lending) (Held : ℕ → ℕ → Type 0) (bundles : List Bundle) (looks : List WatchTurn) (look : WatchTurn) → AreStocked run Held bundles looks
+    → IsStocked run Held (bundles ++ flat_map published_by looks) look → AreStocked run Held bundles (looks ++ look ∷ [])
+stocked-push run Held bundles [] look are is = (subst (λ (b : List Bundle). IsStocked run Held b look) (append-nil bundles) is, tt)
+stocked-push run Held bundles (l ∷ looks) look are is =
+    let same : bundles ++ flat_map published_by (l ∷ looks) ≡ (bundles ++ published_by l) ++ flat_map published_by looks =
+    ap (λ (b : List Bundle). bundles ++ b) (flat_map-cons published_by l looks) ∙ sym (append_assoc bundles (published_by l) (flat_map published_by looks)) in
+    (are.0, stocked-push run Held (bundles ++ published_by l) looks look are.1 (subst (λ (b : List Bundle). IsStocked run Held b look) same is))
+
 same_journal : (journal : Option (List WatchMark)) → OnSome journal (journal ≡ watch_added journal [])
 same_journal None = tt
 same_journal (Some marks) = ap Some (sym (append-nil marks))
@@ -133,6 +157,18 @@ module _ {B E : Type 0} {bk : rulebook.Ghosts B} {ex : extra.Ghosts E} where
       → AreFilledBy (plans.bundle ∷ []) (ground_of plans) (earlier ++ chains ∷ [])
   first_filled plans [] chains one all = (of_plans plans plans.bundle (ground_of plans) chains refl refl all, tt)
   first_filled plans (cs ∷ earlier) chains one all = absurd (omega (arith, length-more earlier chains, one))
+
+  plans_extras : (plans : PlansData) (chains : List (Chain B E bk ex)) → All (λ chain. plans_of chain ≡ plans) chains → All (λ chain. chain_extras chain ≡ plans.extras) chains
+  plans_extras plans chains all = All-weaker (λ (chain : (Chain B E bk ex)). plans_of chain ≡ plans) (λ chain. chain_extras chain ≡ plans.extras) (λ chain e. ap (λ (x : PlansData). x.extras) e) chains all
+
+  first_by : (plans : PlansData) (earlier : List (List (Chain B E bk ex))) (chains : List (Chain B E bk ex)) → length (earlier ++ chains ∷ []) ≡ 1 → All (λ chain. plans_of chain ≡ plans) chains
+      → AreAskedBy (plans.extras ∷ []) (earlier ++ chains ∷ [])
+  first_by plans [] chains one all = (plans_extras plans chains all, tt)
+  first_by plans (cs ∷ earlier) chains one all = absurd (omega (arith, length-more earlier chains, one))
+
+  -- by equal numbers of extras
+  counts_same : (serving : Serving (Chain B E bk ex)) (sweeps : List Sweep) (all all' found : List ℕ → ℕ) (answer : Looking) → ((name : List ℕ) → all name ≡ all' name) → CountsFor sweeps serving all found answer → CountsFor sweeps serving all' found answer
+  counts_same serving sweeps all all' found answer same counts = subst (λ (f : List ℕ → ℕ). CountsFor sweeps serving f found answer) (λ i name. (same name) i) counts
 
   -- what a watcher did since its watch stood at old: these looks, behind which this serves
   pub record HasWatched (source : Source) (p : Ground) (first : Bundle) (looks : List WatchTurn) (old new : WatchState) (g : Serving (Chain B E bk ex)) (was starving : ℕ) : Type 0 where
@@ -192,23 +228,41 @@ module _ {B E : Type 0} {bk : rulebook.Ghosts B} {ex : extra.Ghosts E} where
   abbrev pub Waits : Serving (Chain B E bk ex) → WatchState → WatchState → Type 0
   Waits g b mid = AddsWatch b mid (Look (times_of g.plans.blocks).interval (times_of g.plans.blocks).jitter ∷ [])
 
+  -- by serial, what the published bundles and the chains have of extras
+  pub record Asked (terms : Terms) (bundles : List Bundle) (filled : List (List (Chain B E bk ex))) : Type 0 where
+    pub asks : List (List (List Directive))
+    pub asked : AreAsked terms bundles asks
+    pub by : AreAskedBy asks filled
+
+  -- and behind a look
+  abbrev pub Grows : Terms → List Bundle → List Bundle → Serving (Chain B E bk ex) → Serving (Chain B E bk ex) → Type 0
+  Grows terms bundles more g h = Asked terms bundles g.filled → Asked terms (bundles ++ more) h.filled
+
   -- the looks with one more, which came to this answer
-  pub record Again (source : Source) (p : Ground) (first : Bundle) (looks : List WatchTurn) (a c : WatchState) (h : Serving (Chain B E bk ex)) (was has : ℕ) (answer : Looking) : Type 0 where
+  pub record Again (around : Around) (p : Ground) (first : Bundle) (looks : List WatchTurn) (a c : WatchState) (g h : Serving (Chain B E bk ex)) (was has : ℕ) (answer : Looking) : Type 0 where
     pub look : WatchTurn
     pub of : IsTurnOf answer look
-    pub watched : HasWatched source p first (looks ++ look ∷ []) a c h was has
+    pub tells : Tells around (terms_on bk.taken bk.said p) answer look
+    pub grows : Grows (terms_on bk.taken bk.said p) (bundles_of first looks) (published_by look) g h
+    pub watched : HasWatched around.source p first (looks ++ look ∷ []) a c h was has
 
   -- a further look behind which nothing else serves
-  same_serves : {source : Source} {p : Ground} {first : Bundle} {looks : List WatchTurn} {a b c : WatchState} {g h : Serving (Chain B E bk ex)} {was had has : ℕ} (answer : Looking) (look : WatchTurn)
-      → IsTurnOf answer look → HasWatched source p first looks a b g was had → published_by look ≡ [] → h ≡ g → AddsWatch b c (watch_marks look) → IsLook source (terms_on bk.taken bk.said p) (bundles_of first looks) look
+  same_serves : {around : Around} {p : Ground} {first : Bundle} {looks : List WatchTurn} {a b c : WatchState} {g h : Serving (Chain B E bk ex)} {was had has : ℕ} (answer : Looking) (look : WatchTurn)
+      → IsTurnOf answer look → HasWatched around.source p first looks a b g was had → published_by look ≡ [] → h ≡ g → AddsWatch b c (watch_marks look) → IsLook around.source (terms_on bk.taken bk.said p) (bundles_of first looks) look
       → RoseJust (look_starved look) had has → RoseWithin (look_refused look) (look_starved look) b.refusals c.refusals
-      → Again source p first looks a c h was has answer
-  same_serves {source} {p} {first} {looks} {a} {b} {c} {g} {h} {was} {had} {has} answer look of w none same adds is rose refused =
+      → Tells around (terms_on bk.taken bk.said p) answer look → Again around p first looks a c g h was has answer
+  same_serves {around} {p} {first} {looks} {a} {b} {c} {g} {h} {was} {had} {has} answer look of w none same adds is rose refused tells =
       let nothing : bundles_of first looks ++ published_by look ≡ bundles_of first looks =
       ap (λ (l : List Bundle). bundles_of first looks ++ l) none ∙ append-nil (bundles_of first looks) in
       record {
         look = look;
         of = of;
+        tells = tells;
+        grows = λ known. record {
+          asks = known.asks;
+          asked = subst (λ (l : List Bundle). AreAsked (terms_on bk.taken bk.said p) l known.asks) (sym nothing) known.asked;
+          by = subst (λ (x : Serving (Chain B E bk ex)). AreAskedBy known.asks x.filled) (sym same) known.by;
+        };
         watched = extends look w.earlier w adds is
             (ap length nothing ∙ w.count ∙ ap (λ (x : Serving (Chain B E bk ex)). x.published) (sym same))
             (nothing ∙ w.last ∙ ap (λ (x : Serving (Chain B E bk ex)). w.earlier ++ x.plans.bundle ∷ []) (sym same))
@@ -219,21 +273,35 @@ module _ {B E : Type 0} {bk : rulebook.Ghosts B} {ex : extra.Ghosts E} where
       }
 
   -- a look that published nothing
-  kept : {source : Source} {p : Ground} {first : Bundle} {looks : List WatchTurn} {a b : WatchState} {g : Serving (Chain B E bk ex)} {was had : ℕ} (answer : Looking) (mid c : WatchState) (h : Serving (Chain B E bk ex)) (has : ℕ)
-      → HasWatched source p first looks a b g was had → Waits g b mid → (over : LooksOver source g h mid c answer) → published_by (looked (times_of g.plans.blocks) over.reads over.gives answer over.flag) ≡ [] → h ≡ g → has ≡ had
-      → RoseWithin (answer_refused answer) 0 b.refusals c.refusals → Again source p first looks a c h was has answer
-  kept {g = g} answer mid c h has w waits over none same none_starved refused =
+  kept : {around : Around} {p : Ground} {first : Bundle} {looks : List WatchTurn} {a b : WatchState} {g : Serving (Chain B E bk ex)} {was had : ℕ} (answer : Looking) (mid c : WatchState) (h : Serving (Chain B E bk ex)) (has : ℕ)
+      → HasWatched around.source p first looks a b g was had → Waits g b mid → (over : LooksOver around g h mid c answer) → published_by (looked (times_of g.plans.blocks) over.reads over.gives answer over.flag) ≡ [] → h ≡ g → has ≡ had
+      → RoseWithin (answer_refused answer) 0 b.refusals c.refusals → Again around p first looks a c g h was has answer
+  kept {around = around} {g = g} answer mid c h has w waits over none same none_starved refused =
       same_serves answer (looked (times_of g.plans.blocks) over.reads over.gives answer over.flag) (λ sweeps n swept. swept) w none same (watch-adds-then waits over.told)
       (over.gathers, looked_of over.gives answer w over.again over.answers) (record { least = omega (arith, none_starved); most = omega (arith, none_starved) }) refused
+      (λ run sweeps bundles finds. finds over.gives (subst (λ (q : Ground). TellsStock (terms_on bk.taken bk.said q) around over.gives answer) w.port over.stock))
 
   -- a look that published
-  published_look : {source : Source} {p : Ground} {first : Bundle} {looks : List WatchTurn} {a b : WatchState} {g : Serving (Chain B E bk ex)} {was had : ℕ} (serial : ℕ) (mid c : WatchState) (h : Serving (Chain B E bk ex)) (has : ℕ) (reads : List OneRead) (gives : Result Bundle GatherFault) (flag : Bool)
-      → HasWatched source p first looks a b g was had → Waits g b mid → reloads g.plans.blocks ≡ true → GathersFrom source reads gives → AddsWatch mid c (look_marks reads (looking.Published serial) flag)
-      → AnswersLook (standing_of bk.taken bk.said g.plans g.published) gives (looking.Published serial) → ServesGathered g h gives → has ≡ had → c.refusals ≡ b.refusals
-      → Again source p first looks a c h was has (looking.Published serial)
-  published_look {source} {p} {first} {looks} {a} {b} {g} {was} {had} serial mid c h has reads (Ok bundle) flag w waits again gathers told answers replaces none_starved same_refusals = record {
+  published_look : {around : Around} {p : Ground} {first : Bundle} {looks : List WatchTurn} {a b : WatchState} {g : Serving (Chain B E bk ex)} {was had : ℕ} (serial : ℕ) (mid c : WatchState) (h : Serving (Chain B E bk ex)) (has : ℕ) (reads : List OneRead) (gives : Result Bundle GatherFault) (flag : Bool)
+      → HasWatched around.source p first looks a b g was had → Waits g b mid → reloads g.plans.blocks ≡ true → GathersFrom around.source reads gives → AddsWatch mid c (look_marks reads (looking.Published serial) flag)
+      → AnswersLook (standing_of bk.taken bk.said g.plans g.published) gives (looking.Published serial) → ServesGathered g h gives → has ≡ had → c.refusals ≡ b.refusals → TellsStock (terms_on bk.taken bk.said (ground_of g.plans)) around gives (looking.Published serial)
+      → Again around p first looks a c g h was has (looking.Published serial)
+  published_look {around} {p} {first} {looks} {a} {b} {g} {was} {had} serial mid c h has reads (Ok bundle) flag w waits again gathers told answers replaces none_starved same_refusals stock = record {
     look = looked (times_of g.plans.blocks) reads (Ok bundle) (looking.Published serial) flag;
     of = λ sweeps n swept. swept;
+    tells = λ run sweeps bundles finds. finds (Ok bundle) (subst (λ (q : Ground). TellsStock (terms_on bk.taken bk.said q) around (Ok bundle) (looking.Published serial)) w.port stock);
+    grows = λ known. record {
+      asks = known.asks ++ h.plans.extras ∷ [];
+      asked = asked-push (terms_on bk.taken bk.said p) (bundles_of first looks) known.asks bundle h.plans.extras known.asked
+          (record {
+            blocks = h.plans.blocks;
+            accepted = subst (λ (x : Bundle). IsAccepted (terms_on bk.taken bk.said p) x h.plans.blocks) replaces.bundle_is
+                (subst (λ (q : Ground). IsAccepted (terms_on bk.taken bk.said q) h.plans.bundle h.plans.blocks) (replaces.basis ∙ w.port) replaces.are.accepted);
+            are = replaces.are.extras ∙ replaces.are.extras_are;
+          });
+      by = subst (AreAskedBy (known.asks ++ h.plans.extras ∷ [])) (sym replaces.filled)
+          (by-push known.asks g.filled h.plans.extras replaces.chains known.by (plans_extras h.plans replaces.chains replaces.serve));
+    };
     watched = extends (looked (times_of g.plans.blocks) reads (Ok bundle) (looking.Published serial) flag) (bundles_of first looks) w (watch-adds-then waits told)
         (gathers, looked_of (Ok bundle) (looking.Published serial) w again answers)
         (let r = replaces.published in let n = w.count in omega (arith, length-more (bundles_of first looks) bundle, r, n))
@@ -243,13 +311,13 @@ module _ {B E : Type 0} {bk : rulebook.Ghosts B} {ex : extra.Ghosts E} where
         (filled-push (bundles_of first looks) bundle p g.filled replaces.chains w.filled (of_plans h.plans bundle p replaces.chains replaces.bundle_is (replaces.basis ∙ w.port) replaces.serve)))
         (record { least = omega (arith, none_starved); most = omega (arith, none_starved) }) (stays_within 0 b.refusals c.refusals same_refusals);
   }
-  published_look serial mid c h has reads (Err fault) flag w waits again gathers told answers replaces none_starved same_refusals = absurd replaces
+  published_look serial mid c h has reads (Err fault) flag w waits again gathers told answers replaces none_starved same_refusals stock = absurd replaces
 
   -- a look that met want of memory
-  starved_look : {source : Source} {p : Ground} {first : Bundle} {looks : List WatchTurn} {a b : WatchState} {g : Serving (Chain B E bk ex)} {was had : ℕ} (mid c : WatchState) (h : Serving (Chain B E bk ex)) (has : ℕ)
-      → HasWatched source p first looks a b g was had → Waits g b mid → Starves source g h mid c → has ≡ raised had → CountsRefusals looking.NoMemory b.refusals c.refusals
-      → Again source p first looks a c h was has looking.NoMemory
-  starved_look {source} {p} {first} {looks} {a} {b} {g} {was} {had} mid c h has w waits starves want refused =
+  starved_look : {around : Around} {p : Ground} {first : Bundle} {looks : List WatchTurn} {a b : WatchState} {g : Serving (Chain B E bk ex)} {was had : ℕ} (mid c : WatchState) (h : Serving (Chain B E bk ex)) (has : ℕ)
+      → HasWatched around.source p first looks a b g was had → Waits g b mid → Starves around g h mid c → has ≡ raised had → CountsRefusals looking.NoMemory b.refusals c.refusals
+      → Again around p first looks a c g h was has looking.NoMemory
+  starved_look {around} {p} {first} {looks} {a} {b} {g} {was} {had} mid c h has w waits starves want refused =
       same_serves looking.NoMemory (starved (times_of g.plans.blocks) starves.gathered.tells.reads starves.gathered.gives) (λ sweeps n swept. swept) w refl starves.same (watch-adds-then waits starves.gathered.tells.told) (
         starves.gathered.tells.gathers,
         record {
@@ -262,11 +330,11 @@ module _ {B E : Type 0} {bk : rulebook.Ghosts B} {ex : extra.Ghosts E} where
           at = refl;
           is = tt;
         },
-      ) (record { least = omega (arith, want); most = omega (arith, want) }) (starved_within b.refusals c.refusals refused)
+      ) (record { least = omega (arith, want); most = omega (arith, want) }) (starved_within b.refusals c.refusals refused) (λ run sweeps bundles finds. tt)
 
-  by_answer : {source : Source} {p : Ground} {first : Bundle} {looks : List WatchTurn} {a b : WatchState} {g : Serving (Chain B E bk ex)} {was had : ℕ} (answer : Looking) (mid c : WatchState) (h : Serving (Chain B E bk ex)) (has : ℕ)
-      → HasWatched source p first looks a b g was had → Waits g b mid → LooksOnce source g h mid c answer → answer ≢ looking.NoReload
-      → has ≡ starved_by answer had → CountsRefusals answer b.refusals c.refusals → Again source p first looks a c h was has answer
+  by_answer : {around : Around} {p : Ground} {first : Bundle} {looks : List WatchTurn} {a b : WatchState} {g : Serving (Chain B E bk ex)} {was had : ℕ} (answer : Looking) (mid c : WatchState) (h : Serving (Chain B E bk ex)) (has : ℕ)
+      → HasWatched around.source p first looks a b g was had → Waits g b mid → LooksOnce around g h mid c answer → answer ≢ looking.NoReload
+      → has ≡ starved_by answer had → CountsRefusals answer b.refusals c.refusals → Again around p first looks a c g h was has answer
   by_answer {b = b} looking.NoReload mid c h has w waits looks made rose refused = absurd (made refl)
   by_answer {b = b} (looking.ReadFailed name) mid c h has w waits looks made rose refused = kept (looking.ReadFailed name) mid c h has w waits looks refl looks.behind rose (stays_within 0 b.refusals c.refusals refused)
   by_answer {b = b} looking.Same mid c h has w waits looks made rose refused = kept looking.Same mid c h has w waits looks refl looks.behind rose (stays_within 0 b.refusals c.refusals refused)
@@ -276,7 +344,7 @@ module _ {B E : Type 0} {bk : rulebook.Ghosts B} {ex : extra.Ghosts E} where
   by_answer {b = b} (looking.AllPinned one two three) mid c h has w waits looks made rose refused = kept (looking.AllPinned one two three) mid c h has w waits looks refl looks.behind rose (stays_within 0 b.refusals c.refusals refused)
   by_answer {b = b} (looking.StockShort name asked had) mid c h has w waits looks made rose refused = kept (looking.StockShort name asked had) mid c h has w waits looks refl looks.behind rose (stays_within 0 b.refusals c.refusals refused)
   by_answer {b = b} (looking.Published serial) mid c h has w waits looks made rose refused =
-      published_look serial mid c h has looks.reads looks.gives looks.flag w waits looks.again looks.gathers looks.told looks.answers looks.behind rose refused
+      published_look serial mid c h has looks.reads looks.gives looks.flag w waits looks.again looks.gathers looks.told looks.answers looks.behind rose refused looks.stock
   by_answer {b = b} looking.NoMemory mid c h has w waits looks made rose refused = starved_look mid c h has w waits looks rose refused
 
   -- what a watcher did since the start
@@ -284,11 +352,17 @@ module _ {B E : Type 0} {bk : rulebook.Ghosts B} {ex : extra.Ghosts E} where
     pub looks : List WatchTurn
     pub so : HasWatched source (ground_of start.serving.plans) start.serving.plans.bundle looks start.watch now.watch now.serving start.starved now.starved
     pub swept : AreSwept now.sweeps (start.serving.plans.bundle ∷ []) looks
+    pub asked : Asked (lending_of start).terms (bundles_of start.serving.plans.bundle looks) now.serving.filled
+    pub full : All (λ chains. length chains ≡ now.workers) now.serving.filled
+    pub workers : now.workers ≡ start.workers
+    pub extras : (name : List ℕ) → now.extras name ≡ start.extras name
+    pub stocked : AreStocked (lending_of start) (SawOpen now.sweeps) (start.serving.plans.bundle ∷ []) looks
 
   -- a further look, by what the watcher's step came to
   pub looks_on : (source : Source) (start before after : WatcherState (Chain B E bk ex)) → Watched source start before → TakesLook source before after None → Watched source start after
   looks_on source start before after w again =
-      let more = by_answer again.answer again.waited after.watch after.serving after.starved w.so again.looked again.looks again.made again.starved_is again.refused in
+      let around : Around = record { source = source; workers = before.workers; found = again.found } in
+      let more = by_answer {around = around} again.answer again.waited after.watch after.serving after.starved w.so again.looked again.looks again.made again.starved_is again.refused in
       let first = start.serving.plans.bundle in
       let here : IsSweptTurn after.sweeps (length (bundles_of first w.looks)) more.look =
       subst (λ (n : ℕ). IsSweptTurn after.sweeps n more.look) (sym w.so.count) (more.of after.sweeps before.serving.published again.swept) in
@@ -296,14 +370,40 @@ module _ {B E : Type 0} {bk : rulebook.Ghosts B} {ex : extra.Ghosts E} where
         looks = w.looks ++ more.look ∷ [];
         so = more.watched;
         swept = swept-push after.sweeps (first ∷ []) w.looks more.look (swept_more before.sweeps after.sweeps (first ∷ []) w.looks again.sweeps w.swept) here;
+        asked =
+            let grown = more.grows w.asked in
+            record { asks = grown.asks; asked = subst (λ (l : List Bundle). AreAsked (lending_of start).terms l grown.asks) (sym (bundles-push first w.looks more.look)) grown.asked; by = grown.by };
+        full = again.full;
+        workers = again.workers ∙ w.workers;
+        extras = λ name. again.extras name ∙ w.extras name;
+        stocked = stocked-push (lending_of start) (SawOpen after.sweeps) (first ∷ []) w.looks more.look
+            (stocked_more (lending_of start) before.sweeps after.sweeps (first ∷ []) w.looks again.sweeps w.stocked)
+            (more.tells (lending_of start) after.sweeps (bundles_of first w.looks)
+            (λ gives told. finds_by (lending_of start) after.sweeps (bundles_of first w.looks) before.serving w.asked.asks around gives again.answer w.workers
+            (record {
+              some = omega arith;
+              count = w.so.count;
+              asked = w.asked.asked;
+              by = w.asked.by;
+              full = subst (λ (n : ℕ). All (λ chains. length chains ≡ n) before.serving.filled) w.workers w.full;
+            }) told (counts_same before.serving after.sweeps before.extras start.extras again.found again.answer w.extras again.counts)));
       }
 
   -- nothing was looked at yet
   pub starts : (source : Source) (start : WatcherState (Chain B E bk ex)) → ArePlans bk.taken bk.said start.serving.plans → start.serving.published ≡ 1 → length start.serving.filled ≡ 1 → EndsWith start.serving.filled start.serving.plans
-      → Watched source start start
-  starts source start is one long ends = record {
+      → All (λ chains. length chains ≡ start.workers) start.serving.filled → Watched source start start
+  starts source start is one long ends full = record {
     looks = [];
     swept = tt;
+    asked = record {
+      asks = start.serving.plans.extras ∷ [];
+      asked = (record { blocks = start.serving.plans.blocks; accepted = is.accepted; are = is.extras ∙ is.extras_are }, tt);
+      by = subst (AreAskedBy (start.serving.plans.extras ∷ [])) (sym ends.last_is) (first_by start.serving.plans ends.earlier ends.chains (sym (ap length ends.last_is) ∙ long) ends.serve);
+    };
+    full = full;
+    workers = refl;
+    extras = λ name. refl;
+    stocked = tt;
     so = record {
       told = watch-adds-nothing start.watch;
       are = tt;
@@ -318,3 +418,38 @@ module _ {B E : Type 0} {bk : rulebook.Ghosts B} {ex : extra.Ghosts E} where
       refused = stays_within 0 start.watch.refusals start.watch.refusals refl;
     };
   }
+
+  -- behind the last look
+  ended : (source : Source) (start before after : WatcherState (Chain B E bk ex)) (end : WatchEnd) → (w : Watched source start before) → AddsWatch before.watch after.watch (end_marks end) → MakesNoLook before after
+      → EndsWatch (lending_of start).terms (bundles_of start.serving.plans.bundle w.looks) (end_marks end) → Watches source start after end
+  ended source start before after end w told stays ends = record {
+    looks = w.looks;
+    bundles = bundles_of start.serving.plans.bundle w.looks;
+    bundles_are = refl;
+    ending = end_marks end;
+    ending_is = refl;
+    told = watch-adds-then w.so.told told;
+    are = w.so.are;
+    swept = subst (λ (s : List Sweep). AreSwept s (start.serving.plans.bundle ∷ []) w.looks) (sym stays.sweeps) w.swept;
+    stocked = subst (λ (s : List Sweep). AreStocked (lending_of start) (SawOpen s) (start.serving.plans.bundle ∷ []) w.looks) (sym stays.sweeps) w.stocked;
+    ends = ends;
+    filled = subst (λ (x : Serving (Chain B E bk ex)). AreFilledBy (bundles_of start.serving.plans.bundle w.looks) (ground_of start.serving.plans) x.filled) (sym stays.serving) w.so.filled;
+    count = w.so.count ∙ ap (λ (x : Serving (Chain B E bk ex)). x.published) (sym stays.serving);
+    starved = subst (λ (n : ℕ). RoseJust (all_starved w.looks) start.starved n) (sym stays.starved) w.so.starved;
+    refused = subst (λ (n : ℕ). RoseWithin (all_refused w.looks) (all_starved w.looks) start.watch.refusals n) (sym stays.refused) w.so.refused;
+  }
+
+  pub watched_all : (source : Source) (start before after : WatcherState (Chain B E bk ex)) (end : WatchEnd) → Watched source start before → TakesLook source before after (Some end) → Watches source start after end
+  watched_all source start before after ends.End w takes = ended source start before after ends.End w takes.told takes.stays (inl refl)
+  watched_all source start before after ends.NoReload w takes = ended source start before after ends.NoReload w takes.told takes.stays
+      (inr (
+        refl,
+        record {
+          before = w.so.earlier;
+          last = before.serving.plans.bundle;
+          last_is = w.so.last;
+          blocks = before.serving.plans.blocks;
+          accepted = subst (λ (q : Ground). IsAccepted (terms_on bk.taken bk.said q) before.serving.plans.bundle before.serving.plans.blocks) w.so.port w.so.is.accepted;
+          no_reload = takes.no_reload;
+        },
+      ))

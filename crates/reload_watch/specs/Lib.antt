@@ -1,3 +1,4 @@
+pub mod Counted
 pub mod Faults
 pub mod Filled
 pub mod Going
@@ -7,7 +8,9 @@ pub mod Looked
 pub mod Opening
 pub mod Placing
 pub mod Publishing
+pub mod Shortage
 pub mod States
+pub mod Standing
 pub mod Stocked
 pub mod Sweeps
 pub mod Watcher
@@ -18,10 +21,12 @@ pub use Rattle.reload_watch.specs.Filled.{AreFilledBy, EndsWith, IsOf}
 pub use Rattle.reload_watch.specs.Going.{CountsRefusals, RoseWithin, WatchGoesOn}
 pub use Rattle.reload_watch.specs.Going.{refusals_by, refusals_first}
 pub use Rattle.reload_watch.specs.Keeping.{IsCleared, IsKeeping}
-pub use Rattle.reload_watch.specs.Look.{LooksOnce, SaysStock, SearchesFirst, starved_by}
+pub use Rattle.reload_watch.specs.Look.{LooksOnce, SearchesFirst, starved_by}
 pub use Rattle.reload_watch.specs.Looked.{HasLooked}
 pub use Rattle.reload_watch.specs.Opening.{GathersThat, ReadsFirst, ReadsPlans}
 pub use Rattle.reload_watch.specs.Placing.{IsPlaced}
+pub use Rattle.reload_watch.specs.Shortage.{Around, SaysStock, TellsStock, around_of, found_in}
+pub use Rattle.reload_watch.specs.Standing.{SawOpen}
 pub use Rattle.reload_watch.specs.States.{Footing, Serving, WatcherState, footing_on, serving_of}
 pub use Rattle.reload_watch.specs.States.{source_data}
 pub use Rattle.reload_watch.specs.States.{terms_of, watcher_state}

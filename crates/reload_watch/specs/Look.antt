@@ -1,7 +1,7 @@
 -- One look for a changed configuration: what it finds, and what serves behind it. This server's own
 -- rule.
 use Rattle.std.specs.Prelude.{◌≡◌, ◌≢◌, ◌<◌, ◌⊎◌, ℕ, ◌+◌, Bool, true, false}
-use Rattle.std.specs.Prelude.{◌*◌, List, [], ◌∷◌, ◌++◌, None, Result, Ok, Err}
+use Rattle.std.specs.Prelude.{List, [], ◌∷◌, ◌++◌, Result, Ok, Err}
 use Rattle.std.specs.List.{All}
 use Rattle.pin_core.specs.declared.slots.TheConstants as pins
 use Rattle.pin_table.specs.declared.free_slots.FreeSlot.{FreeSlot}
@@ -13,15 +13,14 @@ use Rattle.outside.specs.declared.mark.WatchMark.TheVariants.{Published}
 use Rattle.outside.specs.Causes.{raised}
 use Rattle.outside.specs.States.{WatchState}
 use Rattle.outside.specs.WatchMarks.{AddsWatch}
-use Rattle.dns_data.specs.declared.directive.Directive.{Directive}
-use Rattle.extra_stock.specs.{IsShort, asked_by, first_short, is_named}
 use Rattle.corefile_blocks.specs.declared.bundle.Bundle.{Bundle}
 use Rattle.corefile_bundle.specs.declared.fault.GatherFault.{GatherFault}
-use Rattle.corefile_bundle.specs.Gathering.{GathersFrom, OneRead, Source}
+use Rattle.corefile_bundle.specs.Gathering.{GathersFrom, OneRead}
 use Rattle.chain_build.specs.declared.chain.Chain.{Chain}
 use Rattle.plugin_api.specs.declared.extra.Extra as extra
 use Rattle.plugin_api.specs.declared.rulebook.Rulebook as rulebook
-use Rattle.chain_build.specs.{ArePlans, PlansData, ground_of, plans_of, terms_in}
+use Rattle.chain_build.specs.{ArePlans, PlansData, chain_extras, ground_of, plans_of, terms_in}
+use Rattle.extra_stock.specs.{in_chains}
 use Rattle.plugin_api.specs.{Sayings, Takings}
 use Rattle.reload_watch.specs.declared.found.Found.{Found}
 use Rattle.reload_watch.specs.declared.found.Found.TheVariants.{Kept, Next}
@@ -29,8 +28,11 @@ use Rattle.run_meaning.specs.declared.looking.Looking.{Looking}
 use Rattle.run_meaning.specs.declared.looking.Looking.TheVariants as looking
 use Rattle.run_meaning.specs.Messages.{look_text}
 use Rattle.reload_watch.specs.Opening.{GathersThat}
+use Rattle.reload_watch.specs.Publishing.{AddsGeneration}
 use Rattle.run_meaning.specs.Reloads.{reloads}
+use Rattle.reload_watch.specs.Shortage.{Around, TellsStock}
 use Rattle.reload_watch.specs.States.{Serving}
+use Rattle.reload_watch.specs.Stocked.{out_weighs}
 use Rattle.run_meaning.specs.Answers.{AnswersLook, SamePorts, Standing, look_marks, note_marks}
 
 abbrev pub standing_of : Takings → Sayings → PlansData → ℕ → Standing
@@ -90,30 +92,40 @@ abbrev pub Finds : {B : Type 0} → Takings → Sayings → PlansData → Result
 Finds taken said current gives (Kept answer) = AnswersKept taken said current gives answer
 Finds taken said current gives (Next plans) = IsNext taken said current gives plans
 
--- what a look says of the stock that it leaves, where the bundle that was read has these directives
--- of extras: it is short of a name, or it was enough
-abbrev pub SaysStock : ℕ → List (List Directive) → (List ℕ → ℕ) → Looking → Type 0
-SaysStock workers blocks had (looking.StockShort name asked was) =
-    IsShort workers blocks had name asked was
-SaysStock workers blocks had (looking.Published serial) =
-    first_short workers blocks (λ name. had name + workers * asked_by (is_named name) blocks)
-    ≡ None
-SaysStock workers blocks had answer = Unit {0}
-
 -- a search for a free slot came to this, whatever came home
 abbrev pub Frees : {C : Type 0} → Plan C → FreeSlot → Plan C → Type 0
 Frees {C} before answer after = (home : List C) × IsFreed before [] answer home after
 
--- where no slot was free, that is what a search for one came to in this call
-abbrev pub SearchesFirst : {C : Type 0} → Plan C → Plan C → Looking → Type 0
-SearchesFirst before after (looking.AllPinned first second third) =
-    Frees before (found.AllPinned first second third) after
-SearchesFirst before after answer = Unit {0}
+module _ {B E : Type 0} {b : rulebook.Ghosts B} {e : extra.Ghosts E} where
+  -- a search found this slot, and these chains were published behind it
+  pub record FreesNext (before after : Plan (Chain B E b e)) : Type 0 where
+    pub slot : ℕ
+    pub mid : Plan (Chain B E b e)
+    pub frees : Frees before (found.Free slot) mid
+    pub chains : List (Chain B E b e)
+    pub adds : AddsGeneration mid chains after
+    pub weighs : (w : List ℕ → ℕ) → out_weighs w after
+        ≡ out_weighs w mid + in_chains chain_extras w chains
 
--- no answer of a look that found a free slot
-abbrev pub HasSlot : Looking → Type 0
-HasSlot (looking.AllPinned first second third) = ⊥
-HasSlot answer = Unit {0}
+  -- where no slot was free, that is what a search for one came to in this call. Where a slot was,
+  -- and the stock was looked at, each other slot but the current one was swept before that.
+  abbrev pub SearchesFirst : Plan (Chain B E b e) → Plan (Chain B E b e) → Looking → Type 0
+  SearchesFirst before after (looking.AllPinned first second third) =
+      Frees before (found.AllPinned first second third) after
+  SearchesFirst before after (looking.StockShort name asked had) =
+      (slot : ℕ) × Frees before (found.Free slot) after
+  SearchesFirst before after (looking.Published serial) = FreesNext before after
+  SearchesFirst before after answer = Unit {0}
+
+  -- what a look that found a free slot leaves of what stands in the table, by its answer
+  abbrev pub LeavesSlot : Plan (Chain B E b e) → Plan (Chain B E b e) → Looking → Type 0
+  LeavesSlot before after (looking.AllPinned first second third) = ⊥
+  LeavesSlot before after (looking.StockShort name asked had) = after ≡ before
+  LeavesSlot before after (looking.Published serial) =
+      (chains : List (Chain B E b e)) × AddsGeneration before chains after
+      × ((w : List ℕ → ℕ)
+      → out_weighs w after ≡ out_weighs w before + in_chains chain_extras w chains)
+  LeavesSlot before after answer = Unit {0}
 
 -- how the count of looks that met want of memory goes on
 abbrev pub starved_by : Looking → ℕ → ℕ
@@ -145,23 +157,24 @@ module _ {B E : Type 0} {b : rulebook.Ghosts B} {e : extra.Ghosts E} where
   ServesBehind old new gives other = new ≡ old
 
   -- a look by its answer, over what serves
-  pub record LooksOver (source : Source) (old new : Serving (Chain B E b e))
+  pub record LooksOver (around : Around) (old new : Serving (Chain B E b e))
       (before after : WatchState)
       (answer : Looking) : Type 0 where
     pub reads : List OneRead
     pub gives : Result Bundle GatherFault
-    pub gathers : GathersFrom source reads gives
+    pub gathers : GathersFrom around.source reads gives
     pub flag : Bool
     pub told : AddsWatch before after (look_marks reads answer flag)
     pub answers : AnswersLook (standing_of b.taken b.said old.plans old.published) gives answer
     pub behind : ServesBehind old new gives answer
+    pub stock : TellsStock (terms_in b.taken b.said old.plans) around gives answer
     pub again : reloads old.plans.blocks ≡ true
 
   -- a look that met want of memory
-  pub record Starves (source : Source) (old new : Serving (Chain B E b e))
+  pub record Starves (around : Around) (old new : Serving (Chain B E b e))
       (before after : WatchState)
       : Type 0 where
-    pub gathered : GathersThat source before after (λ gives. Unit {0})
+    pub gathered : GathersThat around.source before after (λ gives. Unit {0})
     pub same : new ≡ old
     pub again : reloads old.plans.blocks ≡ true
 
@@ -222,24 +235,24 @@ module _ {B E : Type 0} {b : rulebook.Ghosts B} {e : extra.Ghosts E} where
     pub no_reload : reloads old.plans.blocks ≡ false
 
   -- what a look answers and leaves
-  abbrev pub LooksOnce : Source → Serving (Chain B E b e) → Serving (Chain B E b e) → WatchState
+  abbrev pub LooksOnce : Around → Serving (Chain B E b e) → Serving (Chain B E b e) → WatchState
       → WatchState
       → Looking → Type 0
-  LooksOnce source old new before after looking.NoReload = LooksNoMore old new before after
-  LooksOnce source old new before after (looking.ReadFailed name) =
-      LooksOver source old new before after (looking.ReadFailed name)
-  LooksOnce source old new before after looking.Same =
-      LooksOver source old new before after looking.Same
-  LooksOnce source old new before after (looking.Refused why) =
-      LooksOver source old new before after (looking.Refused why)
-  LooksOnce source old new before after (looking.PortsDiffer kept read) =
-      LooksOver source old new before after (looking.PortsDiffer kept read)
-  LooksOnce source old new before after looking.SerialsSpent =
-      LooksOver source old new before after looking.SerialsSpent
-  LooksOnce source old new before after (looking.AllPinned first second third) =
-      LooksOver source old new before after (looking.AllPinned first second third)
-  LooksOnce source old new before after (looking.StockShort name asked had) =
-      LooksOver source old new before after (looking.StockShort name asked had)
-  LooksOnce source old new before after (looking.Published serial) =
-      LooksOver source old new before after (looking.Published serial)
-  LooksOnce source old new before after looking.NoMemory = Starves source old new before after
+  LooksOnce around old new before after looking.NoReload = LooksNoMore old new before after
+  LooksOnce around old new before after (looking.ReadFailed name) =
+      LooksOver around old new before after (looking.ReadFailed name)
+  LooksOnce around old new before after looking.Same =
+      LooksOver around old new before after looking.Same
+  LooksOnce around old new before after (looking.Refused why) =
+      LooksOver around old new before after (looking.Refused why)
+  LooksOnce around old new before after (looking.PortsDiffer kept read) =
+      LooksOver around old new before after (looking.PortsDiffer kept read)
+  LooksOnce around old new before after looking.SerialsSpent =
+      LooksOver around old new before after looking.SerialsSpent
+  LooksOnce around old new before after (looking.AllPinned first second third) =
+      LooksOver around old new before after (looking.AllPinned first second third)
+  LooksOnce around old new before after (looking.StockShort name asked had) =
+      LooksOver around old new before after (looking.StockShort name asked had)
+  LooksOnce around old new before after (looking.Published serial) =
+      LooksOver around old new before after (looking.Published serial)
+  LooksOnce around old new before after looking.NoMemory = Starves around old new before after

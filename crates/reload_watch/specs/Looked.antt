@@ -11,6 +11,7 @@ use Rattle.plugin_api.specs.declared.extra.Extra as extra
 use Rattle.plugin_api.specs.declared.rulebook.Rulebook as rulebook
 use Rattle.reload_watch.specs.Going.{CountsRefusals, WatchGoesOn}
 use Rattle.reload_watch.specs.Look.{LooksOnce, SearchesFirst}
+use Rattle.reload_watch.specs.Shortage.{around_of}
 use Rattle.reload_watch.specs.States.{serving_of}
 use Rattle.reload_watch.specs.Stocked.{KeepsStock}
 use Rattle.reload_watch.specs.Sweeps.{KeepsSweeps}
@@ -22,8 +23,8 @@ pub record HasLooked {W B E : Type 0} {b : rulebook.Ghosts B} {e : extra.Ghosts 
     (old new : Watcher W B E b e) (answer : Looking) : Type 0 where
   pub own : SamePublisher old.publisher new.publisher
   pub workers : new.workers ≡ old.workers
-  pub looks : LooksOnce source (serving_of old) (serving_of new) (state old.watch)
-      (state new.watch) answer
+  pub looks : LooksOnce (around_of source old new) (serving_of old) (serving_of new)
+      (state old.watch) (state new.watch) answer
   pub searches : SearchesFirst (plan_of old.publisher) (plan_of new.publisher) answer
   pub extras : KeepsStock old new
   pub sweeps : KeepsSweeps (plan_of old.publisher).sweeps (plan_of new.publisher).sweeps

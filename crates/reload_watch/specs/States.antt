@@ -14,6 +14,8 @@ use Rattle.pin_table.specs.declared.views.Sweep.{Sweep}
 use Rattle.pin_table.specs.{count_of, plan_of}
 use Rattle.reload_watch.specs.declared.source.Source as declared
 use Rattle.reload_watch.specs.declared.watcher.Watcher.{Watcher}
+use Rattle.extra_stock.specs.{is_named}
+use Rattle.reload_watch.specs.Stocked.{all_weigh}
 
 -- what a program brings, as far as reading depends on it: what its rulebook says, and the ground of
 -- its runs
@@ -48,12 +50,15 @@ serving_of watcher = record {
 }
 
 -- a watcher: its watch, what it has published, the sweeps of its table's slots, the last one first,
--- and how many looks met want of memory
+-- how many looks met want of memory, how many workers there are, and how many extras of each name,
+-- spare and in chains
 pub record WatcherState (C : Type 0) : Type 0 where
   pub watch : WatchState
   pub serving : Serving C
   pub sweeps : List Sweep
   pub starved : ℕ
+  pub workers : ℕ
+  pub extras : List ℕ → ℕ
 
 abbrev pub watcher_state : {W B E : Type 0} {b : rulebook.Ghosts B} {e : extra.Ghosts E}
     → (W → WatchState) → Watcher W B E b e → WatcherState (Chain B E b e)
@@ -62,4 +67,6 @@ watcher_state state watcher = record {
   serving = serving_of watcher;
   sweeps = (plan_of watcher.publisher).sweeps;
   starved = watcher.starved;
+  workers = watcher.workers;
+  extras = λ name. all_weigh (is_named name) watcher;
 }

@@ -1,6 +1,7 @@
 -- One step of the watcher: it waits for a look and makes it, or says why there is none. This
 -- server's own rule.
-use Rattle.std.specs.Prelude.{◌≡◌, ◌≢◌, true, false, [], ◌∷◌, Option, Some, None}
+use Rattle.std.specs.Prelude.{◌≡◌, ◌≢◌, ℕ, true, false, List, [], ◌∷◌, Option, Some, None, length}
+use Rattle.std.specs.List.{All}
 use Rattle.outside.specs.declared.mark.WatchMark.TheVariants.{Look, End}
 use Rattle.outside.specs.States.{WatchState}
 use Rattle.outside.specs.WatchMarks.{AddsWatch}
@@ -9,6 +10,7 @@ use Rattle.run_meaning.specs.declared.looking.Looking.{Looking}
 use Rattle.run_meaning.specs.declared.looking.Looking.TheVariants as looking
 use Rattle.run_meaning.specs.declared.watch_end.WatchEnd.{WatchEnd}
 use Rattle.run_meaning.specs.declared.watch_end.WatchEnd.TheVariants as ends
+use Rattle.reload_watch.specs.Counted.{CountsFor}
 use Rattle.reload_watch.specs.Look.{LooksOnce, starved_by}
 use Rattle.reload_watch.specs.Going.{CountsRefusals}
 use Rattle.run_meaning.specs.Reloads.{reloads, times_of}
@@ -19,20 +21,29 @@ use Rattle.plugin_api.specs.declared.rulebook.Rulebook as rulebook
 use Rattle.reload_watch.specs.Sweeps.{KeepsSweeps, SweptFor}
 
 module _ {B E : Type 0} {b : rulebook.Ghosts B} {e : extra.Ghosts E} where
-  -- a look was made, with the sweeps by which it found no free slot, and counted where it met want
-  -- of memory
+  -- a look was made, with the sweeps by which it found no free slot or came to the stock, and
+  -- counted where it met want of memory
   pub record LooksAgain (source : Source)
       (before after : WatcherState (Chain B E b e)) : Type 0 where
     pub waited : WatchState
     pub looked : AddsWatch before.watch waited (Look (times_of before.serving.plans.blocks).interval
         (times_of before.serving.plans.blocks).jitter ∷ [])
     pub answer : Looking
-    pub looks : LooksOnce source before.serving after.serving waited after.watch answer
+    pub found : List ℕ → ℕ
+    pub looks : LooksOnce (record {
+      source = source;
+      workers = before.workers;
+      found = found;
+    }) before.serving after.serving waited after.watch answer
     pub made : answer ≢ looking.NoReload
     pub starved_is : after.starved ≡ starved_by answer before.starved
     pub refused : CountsRefusals answer before.watch.refusals after.watch.refusals
     pub swept : SweptFor after.sweeps before.serving.published answer
     pub sweeps : KeepsSweeps before.sweeps after.sweeps
+    pub counts : CountsFor after.sweeps before.serving before.extras found answer
+    pub workers : after.workers ≡ before.workers
+    pub extras : (name : List ℕ) → after.extras name ≡ before.extras name
+    pub full : All (λ chains. length chains ≡ after.workers) after.serving.filled
 
   -- no look was made: what serves, what was swept and what was counted and refused stay
   pub record MakesNoLook (before after : WatcherState (Chain B E b e)) : Type 0 where

@@ -5,16 +5,17 @@ ghost use Rattle.outside.specs.declared.mark.WatchMark.TheVariants as mark;
 ghost use Rattle.outside.specs.States.{WatchStays};
 ghost use Rattle.outside.specs.WatchMarks.{AddsWatch};
 ghost use Rattle.chain_build.specs.{ArePlans, chain_extras, chain_identity, chain_log, ground_of};
-ghost use Rattle.extra_stock.specs.{in_chains, is_named, names_weigh, seats_of_chains};
+ghost use Rattle.extra_stock.specs.{in_chains, names_weigh, seats_of_chains};
 ghost use Rattle.plugin_api.specs.{Obey};
 ghost use Rattle.pin_table.specs.{AreFilled, AreNew, IsFound, IsFreeSlot, IsStanding};
 ghost use Rattle.pin_table.specs.{IsPublisherOf, SamePublisher, count_of, plan_of};
 ghost use Rattle.std.specs.Arc.{arc_value};
 ghost use Rattle.reload_watch.specs.Keeping.{IsKeeping};
-ghost use Rattle.reload_watch.specs.Look.{Frees, HasSlot, NotesLine, NotesLook, PublishesNext};
-ghost use Rattle.reload_watch.specs.Look.{SaysStock, SearchesFirst};
+ghost use Rattle.reload_watch.specs.Look.{Frees, LeavesSlot, NotesLine, NotesLook};
+ghost use Rattle.reload_watch.specs.Look.{PublishesNext, SearchesFirst};
 ghost use Rattle.reload_watch.specs.Placing.{IsPlaced};
 ghost use Rattle.reload_watch.specs.Publishing.{AddsGeneration, KeepsPast};
+ghost use Rattle.reload_watch.specs.Shortage.{SaysStock, found_in};
 ghost use Rattle.reload_watch.specs.States.{serving_of};
 ghost use Rattle.reload_watch.specs.Stocked.{HasPlaces, KeepsStock, out_weighs, seats_out};
 ghost use Rattle.reload_watch.specs.Sweeps.{KeepsSweeps};
@@ -68,8 +69,8 @@ pub(crate) fn publish_next<W: Watch, B: Rulebook, E: Extra>(
     ensures workers { watcher.new.workers ≡ watcher.old.workers }
     ensures publishes { PublishesNext (serving_of watcher.old) (serving_of watcher.new)
         (W.state watcher.old.watch) (W.state watcher.new.watch) plans result }
-    ensures stock { SaysStock watcher.old.workers plans.extras
-        (λ n. names_weigh E.title (is_named n) watcher.new.stock.spare.items) result }
+    ensures stock { SaysStock watcher.old.workers plans.extras (found_in watcher.old watcher.new)
+        result }
     ensures searches { SearchesFirst (plan_of watcher.old.publisher)
         (plan_of watcher.new.publisher) result }
     ensures sweeps { KeepsSweeps (plan_of watcher.old.publisher).sweeps
@@ -115,9 +116,10 @@ fn publish_in<W: Watch, B: Rulebook, E: Extra>(
     ensures workers { watcher.new.workers ≡ watcher.old.workers }
     ensures publishes { PublishesNext (serving_of watcher.old) (serving_of watcher.new)
         (W.state watcher.old.watch) (W.state watcher.new.watch) plans result }
-    ensures stock { SaysStock watcher.old.workers plans.extras
-        (λ n. names_weigh E.title (is_named n) watcher.new.stock.spare.items) result }
-    ensures slot { HasSlot result }
+    ensures stock { SaysStock watcher.old.workers plans.extras (found_in watcher.old watcher.new)
+        result }
+    ensures slot { LeavesSlot (plan_of watcher.old.publisher)
+        (plan_of watcher.new.publisher) result }
     ensures same { (plan_of watcher.new.publisher).sweeps
         ≡ (plan_of watcher.old.publisher).sweeps }
     ensures extras { KeepsStock watcher.old watcher.new }

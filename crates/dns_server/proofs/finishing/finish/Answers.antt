@@ -1,4 +1,4 @@
-use Rattle.std.proofs.Common.{◌≡◌, ◌∙◌, List, ◌++◌, length, map, Some, refl, sym, ap, subst, arith}
+use Rattle.std.proofs.Common.{◌≡◌, ◌∙◌, ℕ, List, ◌++◌, length, map, Some, refl, sym, ap, subst, arith}
 use Rattle.std.specs.Option.{option_to_list}
 use Rattle.std.specs.List.{All, sum_by}
 use Rattle.std.proofs.lemmas.List.{length_push}
@@ -8,8 +8,9 @@ use Rattle.dns_server.specs.declared.roles.Role.TheVariants.{Watch}
 use Rattle.dns_server.specs.Roles.{Becomes, IsPart, IsReady, Task}
 use Rattle.dns_server.specs.States.{run_setup}
 use Rattle.dns_server.proofs.Stocked.{names_map, of_extras}
-use Rattle.extra_stock.specs.{asked_by, names_weigh, seats_in}
-use Rattle.reload_watch.specs.{chain_seats, chain_weighs}
+use Rattle.extra_stock.specs.{asked_by, is_named, names_weigh, seats_in}
+use Rattle.reload_watch.specs.{all_weigh, chain_seats, chain_weighs}
+use Rattle.dns_server.specs.Stocking.{count_name, stock_data}
 use Rattle.dns_server.proofs.Leaving.{finishes, idle_all, part_count, parted, zip_count}
 use Rattle.dns_server.proofs.Joining.{all_worked, leave}
 use Rattle.dns_server.proofs.Starting.{all_ready, start_count}
@@ -165,7 +166,16 @@ returns-clause-finishes g c =
     let both = parted (Becomes side watch task) starts others c.push_reserved.new.self.items c.act_all.new.roles.items (Watch o.watcher) (Watch c.in-Some-Watch.watcher) c.push_reserved.ensures.items last c.act_all.ensures in
     let leaves = leave side watch task 0 o.sides.items starts others c.part.new.dones.items c.part.new.passes.items c.push_workers.ensures.start both.0 c.part.ensures in
     let end = c.close-totals.ensures in
-    finishes side watch (run_setup c.args.setup g.B.Rulebook.taken g.B.Rulebook.said (map g.E.Extra.title o.watcher.stock.judges.items)) o c.in-Some-Watch.watcher c.part.new.dones.items c.part.new.passes.items others c.close-totals.result.published refl c.requires.opened both.1 leaves end.published end.closed end.traced
+    let title = g.E.Extra.title in
+    let keeps = both.1.keeps in
+    let spare_is : (name : List ℕ) → count_name name (map title c.take_back.new.stock.spare.items) ≡ all_weigh (is_named name) o.watcher = λ name.
+    let w = is_named name in
+    let moved = c.close-totals.ensures.sum (λ x. chain_weighs w x) (of_extras (asked_by w)) keeps.stands in
+    let none = ap (λ (l : List _). sum_by (λ x. chain_weighs w x) l) keeps.home.none in
+    let more = c.take_back.ensures.weighs w in
+    let all = both.1.extras.weighs w in
+    names_map title w c.take_back.new.stock.spare.items ∙ omega (arith, moved, none, more, all) in
+    finishes side watch (run_setup c.args.setup g.B.Rulebook.taken g.B.Rulebook.said (map g.E.Extra.title o.watcher.stock.judges.items)) o c.in-Some-Watch.watcher c.part.new.dones.items c.part.new.passes.items others c.close-totals.result.published (stock_data g.E.Extra.title c.take_back.new.stock) spare_is refl c.requires.opened both.1 leaves end.published end.closed end.traced
 
 pub take_back-requires-clause-obey : goal.take_back-requires-clause-obey
 take_back-requires-clause-obey g c =

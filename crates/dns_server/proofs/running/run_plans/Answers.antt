@@ -138,7 +138,7 @@ returns-clause-runs g c = λ fresh is script reads.
     let same = ap (λ (l : List Place). map place_of l) c.deref.ensures.value ∙ c.in-Ok.ensures.places in
     let opens = subst (λ (l : List OpenedSide). OpensAll before after l sides) same c.in_default.ensures.opens in
     let published = c.saw_published.ensures in
-    let left : Left = record { sides = side_runs side c.finish-finished.result.dones.items; watch = watch c.finish-finished.result.watch; published = c.finish-finished.result.published; starved = c.finish-finished.result.starved } in
+    let left : Left = record { sides = side_runs side c.finish-finished.result.dones.items; watch = watch c.finish-finished.result.watch; published = c.finish-finished.result.published; stock = stock_data g.E.Extra.title c.finish-finished.result.stock; starved = c.finish-finished.result.starved } in
     let titles : map g.E.Extra.title c.new.new.stock.judges.items ≡ map g.E.Extra.title c.args.begun.stock.judges.items = λ k. map g.E.Extra.title (c.in-Ok.ensures.judges k).items in
     let by : Finishes setup c.args.plans.bundle sides (watch c.saw_published.new.self) left =
     subst (λ (x : List (List ℕ) × PlansData). Finishes (run_setup c.args.setup g.B.Rulebook.taken g.B.Rulebook.said x.0) x.1.bundle sides (watch c.saw_published.new.self) left) (λ k. (titles k, c.in-Ok.ensures.plans k)) c.finish-finished.ensures.finishes in

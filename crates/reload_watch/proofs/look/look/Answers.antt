@@ -4,9 +4,11 @@ use Rattle.chain_build.specs.{PlansData}
 use Rattle.reload_watch.specs.Going.{CountsRefusals}
 use Rattle.reload_watch.specs.Look.{AnswersKept, IsNext}
 use Rattle.run_meaning.specs.Reloads.{reloads}
-use Rattle.reload_watch.specs.States.{serving_of, source_data}
+use Rattle.reload_watch.specs.States.{serving_of}
 use Rattle.reload_watch.proofs.Going.{goes_same, goes_then, kept_goes, next_counts, noted_counts, stays_goes, tells_kept, tells_same}
 use Rattle.reload_watch.proofs.Looks.{kept_looks, next_looks}
+use Rattle.pin_table.specs.{plan_of}
+use Rattle.reload_watch.proofs.Stocked.{kept_searched}
 use Rattle.reload_watch.proofs.look.look.Goals as goal
 
 pub returns-in-Kept-clause-look : goal.returns-in-Kept-clause-look
@@ -22,9 +24,9 @@ returns-in-Kept-clause-look g c =
     record {
       own = search rules;
       workers = search rules;
-      looks = kept_looks (source_data c.args.source) old before found after c.gather-gathered.result c.in-Kept.looking c.note_look.result again
+      looks = kept_looks _ old before found after c.gather-gathered.result c.in-Kept.looking c.note_look.result again
           (tells_kept c.in-Kept.looking c.in-Kept.ensures.watch c.gather-gathered.ensures.told) kept c.note_look.ensures.notes;
-      searches = search rules;
+      searches = kept_searched (plan_of c.args.watcher.now.publisher) (plan_of c.args.watcher.now.publisher) g.B.Rulebook.taken g.B.Rulebook.said old.plans c.gather-gathered.result found after c.in-Kept.looking c.note_look.result kept c.note_look.ensures.notes;
       extras = search rules;
       sweeps = search rules;
       goes = goes_then (stays_goes c.gather-gathered.ensures.stays)
@@ -48,8 +50,8 @@ returns-in-Next-clause-look g c =
     record {
       own = search rules;
       workers = search rules;
-      looks = next_looks (source_data c.args.source) old new before found after c.gather-gathered.result c.in-Next.plans c.publish_next.result again
-          (tells_same c.in-Next.ensures.watch c.gather-gathered.ensures.told) next c.publish_next.ensures.publishes;
+      looks = next_looks _ old new before found after c.gather-gathered.result c.in-Next.plans c.publish_next.result again
+          (tells_same c.in-Next.ensures.watch c.gather-gathered.ensures.told) next c.publish_next.ensures.publishes c.publish_next.ensures.stock;
       searches = search rules;
       extras = search rules;
       sweeps = search rules;

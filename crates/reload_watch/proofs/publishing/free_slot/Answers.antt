@@ -1,9 +1,8 @@
-use Rattle.std.proofs.Common.{◌≡◌, ◌+◌, ◌≤◌, ℕ, List, ap, ◌∙◌, arith}
+use Rattle.std.proofs.Common.{List, ap, arith}
 use Rattle.std.specs.List.{sum_by}
-use Rattle.std.specs.Vec.{vec_len}
-use Rattle.extra_stock.specs.{asked_by, names_weigh, seats_in}
+use Rattle.extra_stock.specs.{asked_by, seats_in}
 use Rattle.pin_table.specs.{plan_of}
-use Rattle.reload_watch.specs.Stocked.{chain_seats, chain_weighs, out_weighs, seats_out}
+use Rattle.reload_watch.specs.Stocked.{chain_seats, chain_weighs}
 use Rattle.reload_watch.proofs.Placed.{placed_freed}
 use Rattle.reload_watch.proofs.Stocked.{of_extras}
 use Rattle.reload_watch.proofs.publishing.free_slot.Goals as goal

@@ -1,6 +1,9 @@
-use Rattle.std.proofs.Common.{◌≡◌, ℕ, List, ◌∷◌, inl, inr, rules, refl, sym, subst, ◌∙◌}
+use Rattle.std.proofs.Common.{◌≡◌, ◌+◌, ℕ, List, ◌∷◌, None, inl, inr, rules, refl, sym, ap, subst, ◌∙◌, arith}
 use Rattle.std.specs.Arc.{arc_value}
-use Rattle.extra_stock.specs.{IsShort, is_named, names_weigh}
+use Rattle.extra_stock.specs.{IsShort, first_short, is_named, names_weigh}
+use Rattle.pin_table.specs.{count_of, plan_of}
+use Rattle.reload_watch.specs.Shortage.{extras_at}
+use Rattle.reload_watch.proofs.Counting.{last_at, none_at}
 use Rattle.chain_build.specs.{PlansData}
 use Rattle.reload_watch.proofs.Stocked.{short_less}
 use Rattle.outside.specs.declared.mark.WatchMark.TheVariants.{Published}
@@ -48,9 +51,10 @@ returns-in-Err-StockShort-clause-stock g c =
     let e = c.in-Err-StockShort in
     let title = g.E.Extra.title in
     let workers = c.args.watcher.now.workers in
+    let plan = plan_of c.args.watcher.now.publisher in
     let old : List ℕ → ℕ = λ n. names_weigh title (is_named n) c.args.watcher.now.stock.spare.items in
-    let new : List ℕ → ℕ = λ n. names_weigh title (is_named n) c.build.new.stock.spare.items in
-    let same : (n : List ℕ) → new n ≡ old n = λ n. e.ensures.err (is_named n) in
+    let new : List ℕ → ℕ = λ n. names_weigh title (is_named n) c.build.new.stock.spare.items + extras_at plan.past.filled n (count_of plan) in
+    let same : (n : List ℕ) → new n ≡ old n = λ n. let less = e.ensures.err (is_named n) in let none = none_at plan.past.filled n (count_of plan) c.requires.keeping.count in omega (arith, less, none) in
     let short = rw e.field-0-is at e.ensures.short in
     let plans_are : arc_value c.in-Ok-new.next ≡ c.args.plans = search rules in
     let now = subst (λ (h : List ℕ → ℕ). IsShort workers c.args.plans.extras h e.name e.asked e.had) (λ i n. (sym (same n)) i)
@@ -59,3 +63,31 @@ returns-in-Err-StockShort-clause-stock g c =
       | inl w ↦ rw w.0 now
       | inr w ↦ rw w.0 tt
     ]
+
+-- the chains that were built have what is gone of the stock
+pub returns-in-Ok-build-clause-stock : goal.returns-in-Ok-build-clause-stock
+returns-in-Ok-build-clause-stock g c =
+    let title = g.E.Extra.title in
+    let workers = c.args.watcher.now.workers in
+    let plan = plan_of c.args.watcher.now.publisher in
+    let filled = (plan_of c.publish.new.publisher).past.filled in
+    let chains = c.in-Ok-build.chains.items in
+    let plans_are : arc_value c.in-Ok-new.next ≡ c.args.plans = search rules in
+    let old : List ℕ → ℕ = λ n. names_weigh title (is_named n) c.args.watcher.now.stock.spare.items in
+    let new : List ℕ → ℕ = λ n. names_weigh title (is_named n) c.build.new.stock.spare.items + extras_at filled n (count_of plan) in
+    let same : (n : List ℕ) → new n ≡ old n = λ n.
+    let gone = c.in-Ok-build.ensures.ok (is_named n) in
+    let built = c.in-Ok-build.ensures.made.weigh (is_named n) in
+    let here = ap (λ (l : List (List _)). extras_at l n (count_of plan)) c.publish.ensures.published.filled ∙ last_at plan.past.filled chains n (count_of plan) c.requires.keeping.count in
+    omega (arith, gone, built, here) in
+    subst (λ (h : List ℕ → ℕ). first_short workers c.args.plans.extras h ≡ None) (λ i n. (sym (same n)) i)
+    (subst (λ (p : PlansData). first_short workers p.extras old ≡ None) plans_are c.in-Ok-build.ensures.short)
+
+pub returns-in-Ok-build-clause-slot : goal.returns-in-Ok-build-clause-slot
+returns-in-Ok-build-clause-slot g c = (c.in-Ok-build.chains.items, c.publish.ensures.published, c.publish.ensures.weighs)
+
+pub returns-in-Err-StockShort-clause-slot : goal.returns-in-Err-StockShort-clause-slot
+returns-in-Err-StockShort-clause-slot g c = elim c.note_look.ensures.notes.either [
+  | inl w ↦ rw w.0 refl
+  | inr w ↦ rw w.0 tt
+]

@@ -1,7 +1,19 @@
+use Rattle.std.proofs.Common.{ℕ, ◌+◌, length, ap, subst}
+use Rattle.extra_stock.specs.{is_named, names_weigh}
+use Rattle.pin_table.specs.declared.views.Past.{Past}
 use Rattle.pin_table.specs.{plan_of}
-use Rattle.reload_watch.proofs.Stocked.{none_searched}
+use Rattle.reload_watch.specs.Shortage.{SaysStock, extras_at}
+use Rattle.reload_watch.proofs.Stocked.{searched_free}
 use Rattle.reload_watch.proofs.publishing.publish_next.Goals as goal
 
 pub returns-in-Free-clause-searches : goal.returns-in-Free-clause-searches
 returns-in-Free-clause-searches g c =
-    none_searched (plan_of c.args.watcher.now.publisher) (plan_of c.publish_in.new.watcher.publisher) c.publish_in.result c.publish_in.ensures.slot
+    searched_free (plan_of c.args.watcher.now.publisher) (plan_of c.free_slot-found.new.publisher) (plan_of c.publish_in.new.watcher.publisher) c.in-Free.slot c.publish_in.result c.in-Free.ensures.freed c.publish_in.ensures.slot
+
+-- what was published before is as it was
+pub returns-in-Free-clause-stock : goal.returns-in-Free-clause-stock
+returns-in-Free-clause-stock g c =
+    let title = g.E.Extra.title in
+    let new = c.publish_in.new.watcher in
+    subst (λ (n : ℕ). SaysStock c.args.watcher.now.workers c.args.plans.extras (λ name. names_weigh title (is_named name) new.stock.spare.items + extras_at (plan_of new.publisher).past.filled name n) c.publish_in.result)
+    (ap (λ (q : Past _). length q.published) c.in-Free.ensures.keeps.past) c.publish_in.ensures.stock

@@ -1,6 +1,8 @@
-use Rattle.std.proofs.Common.{rules, refl, ◌∙◌}
+use Rattle.std.proofs.Common.{◌≡◌, ℕ, length, rules, refl, subst, ◌∙◌}
+use Rattle.std.specs.List.{All}
+use Rattle.pin_table.specs.{plan_of}
 use Rattle.reload_watch.specs.States.{source_data, watcher_state}
-use Rattle.reload_watch.proofs.Watching.{looks_on, starts}
+use Rattle.reload_watch.proofs.Watching.{looks_on, starts, watched_all}
 use Rattle.reload_watch.proofs.Stocked.{keeps_both}
 use Rattle.reload_watch.proofs.turns.watch.Goals as goal
 
@@ -12,7 +14,8 @@ loop-init g c = record {
   own = search rules;
   workers = refl;
   extras = record { judges = refl; weighs = λ _. refl };
-  watched = let k = c.requires.keeping in starts (source_data c.args.source) (watcher_state g.W.PatternMaker.state c.args.watcher.now) k.are c.requires.first (k.count ∙ c.requires.first) k.current;
+  watched = let k = c.requires.keeping in starts (source_data c.args.source) (watcher_state g.W.PatternMaker.state c.args.watcher.now) k.are c.requires.first (k.count ∙ c.requires.first) k.current
+      (subst (λ (n : ℕ). All (λ chains. length chains ≡ n) (plan_of c.args.watcher.now.publisher).past.filled) k.workers k.stands.full);
   goes = search rules;
 }
 
@@ -28,3 +31,8 @@ loop-preserved g c = record {
       (watcher_state g.W.PatternMaker.state c.take_look.new.watcher) c.loop.invariant.watched c.in_default.ensures.takes;
   goes = search rules;
 }
+
+pub returns-in-Some-take_look-clause-watches : goal.returns-in-Some-take_look-clause-watches
+returns-in-Some-take_look-clause-watches g c =
+    watched_all (source_data c.args.source) (watcher_state g.W.PatternMaker.state c.args.watcher.now) (watcher_state g.W.PatternMaker.state c.loop.watcher) (watcher_state g.W.PatternMaker.state c.take_look.new.watcher)
+    c.in-Some-take_look.end c.loop.invariant.watched c.in-Some-take_look.ensures.takes

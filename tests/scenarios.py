@@ -21,6 +21,7 @@ from upstream import Upstream  # noqa: E402
 
 FOLDER = os.path.join(TOP, "tests", "scenarios")
 PROBE = query_bytes(["probe.invalid", "A"])
+LATER_SECONDS = 30
 
 
 def steps_of(text):
@@ -44,7 +45,7 @@ class Run:
 
     def __init__(self, room):
         self.room, self.process, self.words, self.env, self.client = room, None, [], dict(os.environ), 0
-        self.upstreams = {}
+        self.upstreams, self.later = {}, {}
         self.ports = {"port": free_port(), "port2": free_port()}
         self.noted, self.read = [], 0
         self.errors = os.path.join(room, ".stderr")
@@ -76,19 +77,39 @@ class Run:
             while time.monotonic() < end and self.process.poll() is None and self.ask(PROBE, 0.2)[0] is None:
                 time.sleep(0.01)
 
+    def udp_client(self, address, port):
+        """A socket of a client of its own."""
+        family = socket.AF_INET6 if ":" in address else socket.AF_INET
+        client = socket.socket(family, socket.SOCK_DGRAM)
+        if family == socket.AF_INET:
+            client.bind((address, 0))
+        client.connect(("::1" if family == socket.AF_INET6 else "127.0.0.1", self.ports[port]))
+        return client
+
     def ask(self, message, seconds=2.0, address="127.0.0.1", port="port"):
         """The reply to a message, or None, and the port of the client."""
-        family = socket.AF_INET6 if ":" in address else socket.AF_INET
-        with socket.socket(family, socket.SOCK_DGRAM) as client:
-            if family == socket.AF_INET:
-                client.bind((address, 0))
-            client.connect(("::1" if family == socket.AF_INET6 else "127.0.0.1", self.ports[port]))
+        with self.udp_client(address, port) as client:
             client.settimeout(seconds)
             try:
                 client.send(message)
                 return client.recv(65535), client.getsockname()[1]
             except (TimeoutError, ConnectionRefusedError):
                 return None, client.getsockname()[1]
+
+    def ask_later(self, label, message, address, port):
+        """Asks over UDP, and leaves the reply for a later step."""
+        self.later[label] = client = self.udp_client(address, port)
+        client.send(message)
+
+    def take_later(self, label):
+        """The reply to what was asked so, or None, and the address and port of the client."""
+        with self.later.pop(label) as client:
+            client.settimeout(LATER_SECONDS)
+            address, own = client.getsockname()[:2]
+            try:
+                return client.recv(65535), address, own
+            except (TimeoutError, ConnectionRefusedError):
+                return None, address, own
 
     def ask_tcp(self, message, seconds=2.0, address="127.0.0.1", port="port"):
         """The same over a connection of its own."""
@@ -133,6 +154,8 @@ class Run:
             self.process.kill()
         if self.process is not None:
             self.process.wait(SECONDS)
+        for it in self.later.values():
+            it.close()
         for upstream in self.upstreams.values():
             upstream.end()
 
@@ -147,12 +170,13 @@ def has_ipv6():
 
 
 def query_words(words):
-    """The words of a query without those that say how it is asked, and these: the transport, from which address and to which port."""
-    how = {"over": "udp", "from": "127.0.0.1", "to": "port"}
+    """The words of a query without those that say how it is asked, and these: the transport, from which address, to which port, and its label
+    where a later step compares the reply."""
+    how = {"over": "udp", "from": "127.0.0.1", "to": "port", "later": None}
     left, words = [], list(words)
     while words:
         word = words.pop(0)
-        if word in ("from", "to"):
+        if word in ("from", "to", "later"):
             how[word] = words.pop(0)
         elif word == "port2":
             how["to"] = word
@@ -173,10 +197,18 @@ def take_query(run, rows, line, words, body):
     message = bytes.fromhex("".join(words[2:])) if words[1] == "hex" else query_bytes(words[1:])
     if how["to"] not in run.upstreams:
         run.started()
+    if how["later"]:
+        run.ask_later(how["later"], message, address, how["to"])
+        return
     asks = run.ask_tcp if how["over"] == "tcp" else run.ask
     got, client = asks(message, seconds, address, how["to"])
-    run.client = client
-    want = [run.filled(text, client=address, **{"client-port": client}) for text in body]
+    compare(run, rows, line, got, (address, client), body)
+
+
+def compare(run, rows, line, got, client, body):
+    """A row: whether a reply to a client of this address and port says these lines."""
+    address, run.client = client
+    want = [run.filled(text, client=address, **{"client-port": run.client}) for text in body]
     if got is None:
         lines = ["silence"]
     elif want and want[0].startswith("hex "):
@@ -205,6 +237,9 @@ def take_step(run, rows, title, line, body):
         run.env[name] = value
     elif verb == "query":
         take_query(run, rows, text, words, body)
+    elif verb == "later":
+        got, *client = run.take_later(rest)
+        compare(run, rows, text, got, client, body)
     elif verb == "wait":
         time.sleep(min(float(rest), SECONDS))
     elif verb == "upstream":

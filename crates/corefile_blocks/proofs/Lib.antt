@@ -5,3 +5,5 @@ pub mod ReadLemmas
 pub mod PortLemmas
 pub mod WantedLemmas
 pub mod IndexLemmas
+pub mod SeekLemmas
+pub mod SnippetLemmas

@@ -15,7 +15,7 @@ at_zero : (bundle : Bundle) (port : ℕ) (reading : Reading) (line : PlacedLine)
 unfolding read
 at_zero bundle port reading line lines = refl
 
-at_line : (left : ℕ) (bundle : Bundle) (port : ℕ) (reading : Reading) (line : PlacedLine) (lines : List PlacedLine)
+pub at_line : (left : ℕ) (bundle : Bundle) (port : ℕ) (reading : Reading) (line : PlacedLine) (lines : List PlacedLine)
     → read (suc left) bundle port reading (line ∷ lines)
     ≡ step_then (step bundle port reading line) (λ reading put. read left bundle port reading (put ++ lines)) (step bundle port reading line).fault
 unfolding read

@@ -150,7 +150,7 @@ form_keeps bundle port reading line form.DirectiveHeader =
     (directive line.number (unwrap_or (opened line.line.words) []))
 form_keeps bundle port reading line other = begins-same reading.named
 
-step_keeps : (bundle : Bundle) (port : ℕ) (reading : Reading) (line : PlacedLine)
+pub step_keeps : (bundle : Bundle) (port : ℕ) (reading : Reading) (line : PlacedLine)
     → Begins reading.named (step bundle port reading line).reading.named
 unfolding step
 step_keeps bundle port reading line =
@@ -164,7 +164,7 @@ then_keeps : (done : Step) (behind : Reading → List PlacedLine → EndedData)
 then_keeps done behind None on = on done.reading done.put
 then_keeps done behind (Some fault) on = begins-same done.reading.named
 
-read_keeps : (left : ℕ) (bundle : Bundle) (port : ℕ) (reading : Reading)
+pub read_keeps : (left : ℕ) (bundle : Bundle) (port : ℕ) (reading : Reading)
     (lines : List PlacedLine) → Begins reading.named (read left bundle port reading lines).named
 unfolding read
 read_keeps zero bundle port reading [] = begins-same reading.named
@@ -199,7 +199,7 @@ alike_if false one short long h = h
 abbrev bytes_in : Option FileText → Option (List ℕ)
 bytes_in found = option_and_then (λ file. file.bytes) found
 
-found_more : (name : List ℕ) (files : List FileText) (file : FileText)
+pub found_more : (name : List ℕ) (files : List FileText) (file : FileText)
     → (file_of name (files ++ file ∷ []) ≡ file_of name files) ⊎ (file_of name files ≡ None)
 found_more name [] file = inr refl
 found_more name (one ∷ files) file = here (same_text name one.name) (found_more name files file)

@@ -7,7 +7,7 @@ use dns_data::{Block, NoMemory};
 use std::alloc::Global;
 
 /// The index of more keys than so many is slower, and no larger at the start.
-const MOST: usize = 65_536;
+const MOST: usize = 4_194_304;
 
 /// The line of the first key whose zone and port stood before, in its block or in an earlier one.
 pub(crate) fn double_key(alloc: Global, blocks: &[Block]) -> Result<Option<u32>, NoMemory>

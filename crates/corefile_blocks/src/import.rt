@@ -37,7 +37,7 @@ impl Reader {
             return Ok(Some(CorefileFault::ImportLoop { line }));
         }
         let name = import_name(taken.line.words.as_slice());
-        if let Some(snippet) = snippet_of(self.snippets.as_slice(), name.as_bytes()) {
+        if let Some(snippet) = self.snippets.find(name.as_bytes()) {
             let lines = snippet.lines.share()?;
             put(&mut self.frames, lines, line, taken.depth + 1)?;
             return Ok(None);

@@ -1,31 +1,30 @@
-//! Keys by their zones, so that each is held against those of its own zone alone.
-ghost use Rattle.std.specs.Prelude.{◌≡◌, ◌++◌, [], ◌∷◌, List, IfOk};
+//! Keys at their places, so that each is held against few others.
+ghost use Rattle.std.specs.Prelude.{◌≡◌, ◌<◌, ◌++◌, [], ◌∷◌, List, length, IfOk};
 ghost use Rattle.std.specs.List.{list_any};
 ghost use Rattle.dns_data.specs.declared.block.BlockKey.{BlockKey};
-ghost use Rattle.corefile_blocks.specs.KeyIndex.{IsKeyIndexOf};
+ghost use Rattle.corefile_blocks.specs.KeyIndex.{IsKeyIndexOf, key_place};
 ghost use Rattle.corefile_blocks.specs.Keys.{same_key};
 
+use crate::places::{free_places, place_from};
 use dns_data::{BlockKey, Copies, NoMemory, Seq};
-use name_table::NameTable;
 use std::alloc::Global;
 use std::marker::Model;
 
-/// Keys by the numbers of their zones.
+/// Keys by their places.
 #[derive(Debug, Drop)]
 pub(crate) struct KeyIndex {
-    zones: NameTable,
-    keys: Vec<Seq<BlockKey>>,
+    places: Vec<Seq<BlockKey>>,
 }
 
 impl Model for KeyIndex {
-    ghost use Rattle.std.specs.Prelude.{◌≡◌, length};
-    ghost use Rattle.corefile_blocks.specs.KeyIndex.{KeyIndexData};
+    ghost use Rattle.std.specs.Prelude.{◌<◌, ◌≤◌, ◌^◌, List, length};
+    ghost use Rattle.dns_data.specs.declared.block.BlockKey.{BlockKey};
 
-    ghost Value = { KeyIndexData };
+    ghost Value = { List (List BlockKey) };
 
-    ghost view = { λ x. record { zones = x.zones; keys = x.keys.items } };
+    ghost view = { λ x. x.places.items };
 
-    ghost invariant = { λ x. length x.zones ≡ length x.keys.items };
+    ghost invariant = { λ x. (0 < length x.places.items) × (length x.places.items ≤ 2 ^ 32) };
 }
 
 impl KeyIndex {
@@ -34,8 +33,7 @@ impl KeyIndex {
         ensures { IfOk result (λ index. IsKeyIndexOf index []) }
     {
         Ok(KeyIndex {
-            zones: NameTable::new(alloc, keys)?,
-            keys: Vec::new(alloc),
+            places: free_places(alloc, keys as usize + 1)?,
         })
     }
 
@@ -44,10 +42,7 @@ impl KeyIndex {
         ensures { (keys : List BlockKey) → IsKeyIndexOf self.now keys
             → result ≡ list_any (same_key key.now) keys }
     {
-        match self.zones.find(&key.zone.labels()) {
-            Some(number) => stands_among(key, self.keys[number].as_slice()),
-            None => false,
-        }
+        stands_among(key, self.places[self.place_of(key)].as_slice())
     }
 
     /// Adds a key.
@@ -55,26 +50,20 @@ impl KeyIndex {
         ensures { IfOk result (λ index. (keys : List BlockKey) → IsKeyIndexOf self keys
             → IsKeyIndexOf index (keys ++ key.now ∷ [])) }
     {
-        let KeyIndex {
-            mut zones,
-            mut keys,
-        } = self;
-        let Some(number) = zones.find(&key.zone.labels()) else {
-            keys.push(one_key(alloc, key)?)?;
-            zones.push(key.zone.copy(alloc)?)?;
-            return Ok(KeyIndex { zones, keys });
-        };
-        keys[number].push(key.copy(alloc)?)?;
-        Ok(KeyIndex { zones, keys })
+        let place = self.place_of(key);
+        let KeyIndex { mut places } = self;
+        places[place].push(key.copy(alloc)?)?;
+        Ok(KeyIndex { places })
     }
-}
 
-fn one_key(alloc: Global, key: &BlockKey) -> Result<Seq<BlockKey>, NoMemory>
-    ensures { IfOk result (λ keys. keys ≡ key.now ∷ []) }
-{
-    let mut keys = Seq::with_capacity(alloc, 1)?;
-    keys.push(key.copy(alloc)?)?;
-    Ok(keys)
+    // The place of a key.
+    fn place_of(&self, key: &BlockKey) -> usize
+        ensures place { result ≡ key_place (length self.now) key.now }
+        ensures inside { result < length self.now }
+    {
+        let count = self.places.len();
+        place_from(count, key.port as usize % count, key.zone.as_wire())
+    }
 }
 
 // Whether a key of this zone and port is among others.
@@ -92,5 +81,6 @@ fn stands_among(key: &BlockKey, others: &[BlockKey]) -> bool
 fn same_key(a: &BlockKey, b: &BlockKey) -> bool
     ensures { result ≡ same_key a.now b.now }
 {
-    a.zone.equals(&b.zone) && a.port == b.port
+    let same_port = a.port == b.port;
+    same_port && a.zone.equals(&b.zone)
 }

@@ -12,7 +12,8 @@ use crate::forms::{form_at, opened, snippet_name};
 use crate::keys::header_keys;
 use crate::parts::{directive, directive_count, push_body_line, push_directive, texts};
 use crate::place::{LineForm, Place};
-use crate::shared::{LineList, SharedLines, Snippet, snippet_of};
+use crate::shared::{LineList, SharedLines, Snippet};
+use crate::snippets::Snippets;
 use crate::stack::{Frame, Taken};
 use crate::wanted::add_files;
 use crate::{BlockWhy, Bundle, CorefileFault};
@@ -34,7 +35,7 @@ pub(crate) struct Kept {
 pub(crate) struct Reader {
     pub place: Place,
     pub blocks: Blocks,
-    pub snippets: Seq<Snippet>,
+    pub snippets: Snippets,
     pub kept: Kept,
     pub named: Texts,
     /// The files that were imported.
@@ -107,7 +108,7 @@ impl Reader {
         if name.len() == 0 {
             return Ok(Some(refused));
         }
-        if snippet_of(self.snippets.as_slice(), name).is_some() {
+        if self.snippets.find(name).is_some() {
             return Ok(Some(refused));
         }
         self.kept = Kept {
@@ -139,7 +140,7 @@ impl Reader {
         let kept = mem::replace(&mut self.kept, Kept::none(alloc));
         let Kept { name, lines } = kept;
         let lines = SharedLines::of(alloc, lines)?;
-        self.snippets.push(Snippet { name, lines })?;
+        self.snippets.push(alloc, Snippet { name, lines })?;
         self.place = Place::Top;
         Ok(None)
     }

@@ -10,6 +10,7 @@ use crate::double::double_key;
 use crate::place::Place;
 use crate::reader::{Kept, Reader};
 use crate::shared::{LineList, SharedLines};
+use crate::snippets::Snippets;
 use crate::stack::{Frame, next_line};
 use crate::wanted::each_once;
 use crate::{BlockWhy, Bundle, CorefileFault, WordsFault};
@@ -112,8 +113,8 @@ fn read_lines(
     Ok(all_of(reader, fault))
 }
 
-// Nothing was read yet of these lines.
-fn beginning(alloc: Global, lines: WordLines) -> Result<Reader, NoMemory>
+/// Nothing was read yet of these lines.
+pub(crate) fn beginning(alloc: Global, lines: WordLines) -> Result<Reader, NoMemory>
     ensures reading { IfOk result (λ reader. read_by reader ≡ beginning) }
     ensures lines { IfOk result (λ reader. stream_of reader.frames ≡ own_lines lines) }
     ensures texts { IfOk result (λ reader. reader.texts ≡ []) }
@@ -129,7 +130,7 @@ fn beginning(alloc: Global, lines: WordLines) -> Result<Reader, NoMemory>
     Ok(Reader {
         place: Place::Top,
         blocks: Seq::new(alloc),
-        snippets: Seq::new(alloc),
+        snippets: Snippets::new(alloc)?,
         kept: Kept::none(alloc),
         named: Seq::new(alloc),
         texts: Seq::new(alloc),

@@ -2,4 +2,4 @@ use Rattle.std.proofs.Common.{◌≤◌}
 use Rattle.corefile_blocks.proofs.double.key_count.Given as goal
 
 abbrev pub invariant-loop-block : goal.invariant-loop-block
-invariant-loop-block l = l.count ≤ 65536
+invariant-loop-block l = l.count ≤ 4194304

@@ -1,5 +1,5 @@
 -- How a gathering goes on, read by read.
-use Rattle.std.proofs.Common.{Bool, true, false, nat_lt, length-append, ◌≡◌, ◌≢◌, ◌≤◌, ◌<◌, ◌⊎◌, ◌^◌, ℕ, ◌+◌, List, [], ◌∷◌, ◌++◌, length, map, Option, Some, None, Result, Ok, Err, refl, sym, ap, subst, ◌∙◌, inl, inr, arith, append_assoc, append-nil}
+use Rattle.std.proofs.Common.{Bool, true, false, nat_lt, length-append, ◌≡◌, ◌≤◌, ◌<◌, ◌^◌, ℕ, ◌+◌, List, [], ◌∷◌, ◌++◌, length, Option, Some, None, Result, Ok, Err, refl, sym, ap, subst, ◌∙◌, inl, inr, arith, append_assoc, append-nil}
 use Rattle.std.specs.Prelude.{IfSome, if◌then◌else◌}
 use Rattle.dns_data.specs.declared.file.FileText.{FileText}
 use Rattle.dns_data.specs.declared.limit.Limit.TheVariants as limit
@@ -7,7 +7,6 @@ use Rattle.corefile_words.specs.declared.word.Pair.{Pair}
 use Rattle.std.proofs.lemmas.Bool.{ltb-false}
 use Rattle.std.proofs.lemmas.List.Elements.{All-push}
 use Rattle.std.proofs.lemmas.List.Sums.{sum_by-append}
-use Rattle.std.specs.List.{All}
 use Rattle.dns_data.specs.declared.limit.TheConstants as limits
 use Rattle.outside.specs.declared.mark.WatchMark.TheVariants.{Read}
 use Rattle.outside.specs.declared.watch.ReadOut.{ReadOut}
@@ -15,11 +14,13 @@ use Rattle.outside.specs.declared.watch.ReadOut.TheVariants as readout
 use Rattle.outside.specs.{AddsWatch, WatchState}
 use Rattle.outside.specs.Journals.{watch-adds-then}
 use Rattle.corefile_blocks.specs.declared.bundle.Bundle.{Bundle}
-use Rattle.corefile_blocks.specs.{IsReadable}
+use Rattle.corefile_blocks.specs.{IsReadable, Seeks}
+use Rattle.corefile_blocks.specs.SeekingLaws.{seeks-more}
+use Rattle.corefile_blocks.specs.declared.seeking.Seeker.{Seeker}
 use Rattle.corefile_bundle.specs.declared.fault.GatherFault.{GatherFault}
 use Rattle.corefile_bundle.specs.declared.fault.GatherFault.TheVariants as fault
-use Rattle.corefile_bundle.specs.Gathering.{Source, OneRead, AsksFor, EndsBy, Gathers, GathersFrom, GoesOn, IsWhole, TellsGathering, WantsTooMany, after_corefile, after_read, bare, bundle_bytes, unless_over, marks_of, next_file, over, size_of, with_file}
-use Rattle.corefile_bundle.specs.Steps.{Starved, TakesOne, ToldOne, TookOne}
+use Rattle.corefile_bundle.specs.Gathering.{Source, OneRead, Gathers, GathersFrom, GoesOn, TellsGathering, after_corefile, after_read, bare, bundle_bytes, unless_over, marks_of, next_file, over, size_of, with_file}
+use Rattle.corefile_bundle.specs.Steps.{Starved, TakesOne, TookOne}
 
 -- a bundle within the limits of bytes
 pub record IsSmall (bundle : Bundle) : Type 0 where
@@ -73,6 +74,20 @@ behind_read bundle behind name readout.Missing small is =
     subst (IsBehind bundle) same (with_small bundle name None small tt (let b = small.bytes in omega (arith, b)))
 behind_read bundle behind name readout.Failed small is = absurd cc
 behind_read bundle behind name readout.NoMemory small is = absurd cc
+
+-- the seeker goes on with what a read leaves
+seeks_read : (bundle behind : Bundle) (seeker : Seeker) (name : List ℕ) (out : ReadOut) → Seeks bundle seeker → after_read bundle name out ≡ Ok behind → Seeks behind seeker
+seeks_read bundle behind seeker name (readout.Got bytes) seeks is =
+    let met = unless_by (with_file bundle name (Some bytes)) behind (over (length bytes) (bundle_bytes bundle + length bytes)) is in
+    subst (λ b. Seeks b seeker) met.1 (seeks-more bundle (record { name = name; bytes = Some bytes }) seeker seeks)
+seeks_read bundle behind seeker name readout.Missing seeks is =
+    let same : with_file bundle name None ≡ behind = cc in
+    subst (λ b. Seeks b seeker) same (seeks-more bundle (record { name = name; bytes = None }) seeker seeks)
+seeks_read bundle behind seeker name readout.Failed seeks is = absurd cc
+seeks_read bundle behind seeker name readout.NoMemory seeks is = absurd cc
+
+pub seeks_behind : (bundle behind : Bundle) (seeker : Seeker) (name : List ℕ) (mid now : WatchState) → Seeks bundle seeker → TookOne name (after_read bundle name) mid now (Ok behind) → Seeks behind seeker
+seeks_behind bundle behind seeker name mid now seeks took = seeks_read bundle behind seeker name took.out seeks took.is
 
 bare_small : (env : List Pair) (conf : List ℕ) → IsWithinLimits (length conf) (length conf) → IsSmall (bare env conf)
 bare_small env conf within = record {

@@ -1,17 +1,16 @@
 -- The reads that give a bundle: that of the Corefile, and then one of each file that is wanted.
 -- This server's own rule.
-use Rattle.std.specs.Prelude.{◌≡◌, ◌≢◌, ◌<◌, ◌≤◌, ◌⊎◌, ℕ, ◌+◌, nat_eq, nat_lt, Bool, not}
+use Rattle.std.specs.Prelude.{◌≡◌, ◌≢◌, ◌<◌, ◌≤◌, ◌⊎◌, ℕ, ◌+◌, nat_lt}
 use Rattle.std.specs.Prelude.{List, [], ◌∷◌, ◌++◌, length, map}
 use Rattle.std.specs.Prelude.{Option, Some, None, Result, Ok, Err, if◌then◌else◌}
-use Rattle.std.specs.List.{find, list_any, sum_by}
-use Rattle.std.specs.Cmp.Lexicographic.{pointwise}
-use Rattle.dns_data.specs.declared.file.FileText.{FileText}
+use Rattle.std.specs.List.{sum_by}
 use Rattle.dns_data.specs.declared.limit.TheConstants as limits
 use Rattle.dns_data.specs.declared.limit.Limit.{Limit}
 use Rattle.dns_data.specs.declared.limit.Limit.TheVariants as limit
 use Rattle.corefile_words.specs.declared.word.Pair.{Pair}
 use Rattle.corefile_blocks.specs.declared.bundle.Bundle.{Bundle}
 use Rattle.corefile_blocks.specs.{wants_of}
+use Rattle.corefile_blocks.specs.Seeking.{first_missing}
 use Rattle.outside.specs.declared.mark.WatchMark.{WatchMark}
 use Rattle.outside.specs.declared.mark.WatchMark.TheVariants.{Read}
 use Rattle.outside.specs.declared.watch.ReadOut.{ReadOut}
@@ -42,14 +41,6 @@ size_of (Some bytes) = length bytes
 -- how many bytes a bundle has: those of the Corefile, and of the files
 abbrev pub bundle_bytes : Bundle → ℕ
 bundle_bytes bundle = length bundle.conf + sum_by (λ file. size_of file.bytes) bundle.files
-
--- whether a bundle has a file of this name, be it a missing one
-abbrev pub has_file : Bundle → List ℕ → Bool
-has_file bundle name = list_any (λ file. pointwise nat_eq file.name name) bundle.files
-
--- the first of these names under which a bundle has no file
-abbrev pub first_missing : Bundle → List (List ℕ) → Option (List ℕ)
-first_missing bundle names = find (λ name. not (has_file bundle name)) names
 
 -- the first file that a bundle wants and doesn't have
 unfoldable pub next_file : Bundle → Option (List ℕ)

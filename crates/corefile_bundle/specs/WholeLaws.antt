@@ -15,10 +15,11 @@ use Rattle.outside.specs.declared.watch.ReadOut.TheVariants as readout
 use Rattle.corefile_blocks.specs.declared.bundle.Bundle.{Bundle}
 use Rattle.corefile_blocks.specs.{wants_of}
 use Rattle.corefile_blocks.specs.GrowingLaws.{Begins, Fresh, wants_fresh, wants_grow, with_one}
+use Rattle.corefile_blocks.specs.Seeking.{first_missing}
 use Rattle.corefile_bundle.specs.declared.fault.GatherFault.{GatherFault}
 use Rattle.corefile_bundle.specs.Gathering.{AreWanted, Gathers, GathersFrom, GoesOn, OneRead}
 use Rattle.corefile_bundle.specs.Gathering.{Source, after_corefile, after_read, bare, bundle_bytes}
-use Rattle.corefile_bundle.specs.Gathering.{file_names, first_missing, has_file, next_file, over}
+use Rattle.corefile_bundle.specs.Gathering.{file_names, next_file, over}
 use Rattle.corefile_bundle.specs.Gathering.{unless_over, with_file}
 
 -- the files so far are the first that the bundle wants
@@ -29,25 +30,12 @@ record Tracks (bundle : Bundle) : Type 0 where
 decides : (a b : List ℕ) → Decides (pointwise nat_eq a b) (a ≡ b)
 decides a b = slice_eq-Decides unsigned_Decides a b (pointwise nat_eq a b) refl
 
--- two texts are the same in either order
-either_way : (a b : List ℕ) → pointwise nat_eq a b ≡ pointwise nat_eq b a
-either_way a b = by (pointwise nat_eq a b) (pointwise nat_eq b a) refl refl
-  where
-    by : (r s : Bool) → pointwise nat_eq a b ≡ r → pointwise nat_eq b a ≡ s → r ≡ s
-    by true true e f = refl
-    by false false e f = refl
-    by true false e f =
-        absurd (let t : true ≡ false = sym ((decides b a).1 (sym ((decides a b).0 e))) ∙ f in cc)
-    by false true e f =
-        absurd (let t : true ≡ false = sym ((decides a b).1 (sym ((decides b a).0 f))) ∙ e in cc)
-
 -- a file of this name stands among files just where the name stands among theirs
 among : (files : List FileText) (name : List ℕ)
-    → list_any (λ file. pointwise nat_eq file.name name) files
+    → list_any (λ file. pointwise nat_eq name file.name) files
     ≡ list_any (pointwise nat_eq name) (map (λ file. file.name) files)
 among [] name = refl
-among (file ∷ files) name =
-    (λ i. either_way file.name name i || among files name i)
+among (file ∷ files) name = ap (λ b. pointwise nat_eq name file.name || b) (among files name)
 
 -- a name in the middle stands nowhere in front of itself
 fresh_at : (seen front rest : List (List ℕ)) (name : List ℕ)
@@ -60,11 +48,11 @@ fresh_at seen (one ∷ front) rest name fresh =
 
 -- whether these files have one of a name
 abbrev has : List FileText → List ℕ → Bool
-has files name = list_any (λ file. pointwise nat_eq file.name name) files
+has files name = list_any (λ file. pointwise nat_eq name file.name) files
 
 has_own : (done todo : List FileText) (file : FileText) → has (done ++ file ∷ todo) file.name ≡ true
 has_own done todo file =
-    list_any-append (λ (f : FileText). pointwise nat_eq f.name file.name) done (file ∷ todo)
+    list_any-append (λ (f : FileText). pointwise nat_eq file.name f.name) done (file ∷ todo)
     ∙ ap (λ b. has done file.name || (b || has todo file.name))
     ((decides file.name file.name).1 refl)
     ∙ or_true (has done file.name)

@@ -1,15 +1,14 @@
-ghost use Rattle.std.specs.Prelude.{◌≡◌, ◌≤◌, ◌<◌, ◌+◌, ℕ, List, Err, IfOk, IsTrue, ◌↔◌, true};
-ghost use Rattle.std.specs.Prelude.{option_map};
+ghost use Rattle.std.specs.Prelude.{◌≡◌, ◌≤◌, ℕ, List, Err, IfOk, OnOk};
 ghost use Rattle.dns_data.specs.declared.limit.TheConstants as limits;
 ghost use Rattle.outside.specs.{Rose, WatchStays};
-ghost use Rattle.corefile_blocks.specs.{IsReadable};
+ghost use Rattle.corefile_blocks.specs.{IsReadable, Seeks};
 ghost use Rattle.corefile_bundle.specs.Gathering.{AreWanted, TellsGathering, after_corefile};
-ghost use Rattle.corefile_bundle.specs.Gathering.{after_read, bundle_bytes, first_missing};
-ghost use Rattle.corefile_bundle.specs.Gathering.{has_file, next_file, over, size_of, source_of};
+ghost use Rattle.corefile_bundle.specs.Gathering.{after_read, bundle_bytes, next_file, over};
+ghost use Rattle.corefile_bundle.specs.Gathering.{size_of, source_of};
 ghost use Rattle.corefile_bundle.specs.Steps.{TakesOne};
 
 use crate::fault::GatherFault;
-use corefile_blocks::{Bundle, wants};
+use corefile_blocks::{Bundle, Seeker};
 use corefile_words::{Pair, Pairs};
 use dns_data::{Bytes, Copies, FileText, Limit, NoMemory, Seq, Text, limit};
 use outside::{ReadOut, Watch};
@@ -35,8 +34,12 @@ pub fn gather<W: Watch>(
         Ok(bundle) => bundle,
         Err(fault) => return Err(fault),
     };
+    let mut seeker = match Seeker::new(alloc, &bundle) {
+        Ok(seeker) => seeker,
+        Err(NoMemory) => return Err(GatherFault::NoMemory),
+    };
     loop {
-        let name = match next_file(alloc, &bundle) {
+        let name = match next_file(alloc, &mut seeker, &bundle) {
             Ok(Some(name)) => name,
             Ok(None) => return Ok(bundle),
             Err(NoMemory) => return Err(GatherFault::NoMemory),
@@ -100,39 +103,13 @@ fn copied(alloc: Global, env: &[Pair]) -> Result<Pairs, NoMemory>
 
 // The first file that a bundle wants and doesn't have.
 #[tactic(auto, unfolding(crate::specs::Gathering::next_file))]
-fn next_file(alloc: Global, bundle: &Bundle) -> Result<Option<Text>, NoMemory>
-    requires { IsReadable bundle.now }
-    ensures { IfOk result (λ name. name ≡ next_file bundle.now) }
+fn next_file(alloc: Global, seeker: &mut Seeker, bundle: &Bundle) -> Result<Option<Text>, NoMemory>
+    requires readable { IsReadable bundle.now }
+    requires seeks { Seeks bundle.now seeker.old }
+    ensures name { IfOk result (λ name. name ≡ next_file bundle.now) }
+    ensures seeks { OnOk result (Seeks bundle.now seeker.new) }
 {
-    let wanted = wants(alloc, bundle)?;
-    match first_missing(bundle, wanted.as_slice()) {
-        Some(name) => Ok(Some(name.copy(alloc)?)),
-        None => Ok(None),
-    }
-}
-
-// The first of these names under which a bundle has no file.
-fn first_missing<'a>(bundle: &Bundle, names: &'a [Text]) -> Option<&'a Text>
-    ensures { option_map (λ name. name.now) result ≡ first_missing bundle.now names.now }
-{
-    let mut rest = names;
-    while let Some((name, behind)) = rest.split_first() {
-        if !has_file(bundle, name) {
-            return Some(name);
-        }
-        rest = behind;
-    }
-    None
-}
-
-fn has_file(bundle: &Bundle, name: &Text) -> bool
-    ensures { result ≡ has_file bundle.now name.now }
-{
-    bundle
-        .files
-        .as_slice()
-        .iter()
-        .any(|file| file.name.as_str() == name.as_str())
+    seeker.next(alloc, bundle)
 }
 
 // Reads a file of a bundle.

@@ -1,6 +1,7 @@
 use Rattle.std.proofs.Common.{◌-◌, ◌+◌, length}
 use Rattle.dns_data.specs.declared.limit.TheConstants as limits
 use Rattle.outside.specs.{WatchStays}
+use Rattle.corefile_blocks.specs.{Seeks}
 use Rattle.corefile_bundle.specs.Gathering.{source_of}
 use Rattle.corefile_bundle.proofs.Gathered.{HasGathered, IsSmall}
 use Rattle.corefile_bundle.proofs.gathering.gather.Given as goal
@@ -9,6 +10,7 @@ abbrev pub invariant-loop-name : goal.invariant-loop-name
 invariant-loop-name g l = record {
   gathered : HasGathered (source_of l.fn.conf l.fn.env) (g.W.PatternMaker.state l.fn.watch) (g.W.PatternMaker.state l.watch) l.bundle;
   small : IsSmall l.bundle;
+  seeks : Seeks l.bundle l.seeker;
   stays : WatchStays (g.W.PatternMaker.state l.fn.watch) (g.W.PatternMaker.state l.watch);
 }
 

@@ -4,10 +4,13 @@ ghost use Rattle.plugin_api.specs.Index.{AddsKeys, IsIndexOf, block_in};
 ghost use Rattle.plugin_api.specs.Picking.{picked};
 
 use crate::services::{Service, one_service, service_on};
-use dns_data::{BlockKey, Blocks, Copies, Labels, Name, NoMemory, Seq};
+use dns_data::{Block, BlockKey, Blocks, Copies, Labels, Name, NoMemory, Seq};
 use name_table::NameTable;
 use std::alloc::Global;
 use std::marker::Model;
+
+/// The index of more keys than so many is slower, and no larger at the start.
+const MOST: usize = 4_194_304;
 
 /// The blocks of a Corefile by zone and port, for `find`.
 #[derive(Debug, Drop)]
@@ -38,7 +41,7 @@ impl BlockIndex {
         ensures { IfOk result (λ index. IsIndexOf index blocks.now) }
     {
         let mut index = BlockIndex {
-            zones: NameTable::new(alloc, blocks.len() as u32)?,
+            zones: NameTable::new(alloc, key_count(blocks.as_slice()))?,
             services: Vec::new(alloc),
             is_root: false,
         };
@@ -134,6 +137,15 @@ impl BlockIndex {
         let number = self.zones.find(zone)?;
         service_on(self.services[number].as_slice(), port)
     }
+}
+
+// How many keys the blocks have, or so many as an index is made for.
+fn key_count(blocks: &[Block]) -> u32 {
+    let mut count = 0;
+    for block in blocks {
+        count = (count + block.keys.len().min(MOST)).min(MOST);
+    }
+    count as u32
 }
 
 // Whether a table has the root, and no other name.

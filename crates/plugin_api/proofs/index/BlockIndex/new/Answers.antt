@@ -17,5 +17,5 @@ loop-number-preserved c =
     let inside = c.loop-number-test.true in
     let more = take_more blocks n block (omega (arith, inside, c.len-number-end.ensures)) ∙ ap (λ (b : Block). take n blocks ++ b ∷ []) (get_or_from_slice_get blocks n block block c.at.ensures) in
     let long : length (take n blocks) ≡ n = omega (arith, length-take n blocks, inside, c.len-number-end.ensures) in
-    let added = rw c.as_slice.ensures at c.in_ok-index.ensures in
+    let added = rw c.as_slice-in-loop-number.ensures at c.in_ok-index.ensures in
     subst (λ (bs : List Block). IsIndexOf c.in_ok-index.index bs) (sym more) (index_more c.loop-number.index c.in_ok-index.index (take n blocks) block n c.loop-number.invariant added long)

@@ -3,14 +3,14 @@ ghost use Rattle.std.specs.List.{flat_map};
 ghost use Rattle.dns_data.specs.Message.{no_answer};
 ghost use Rattle.file_plugin.specs.Choosing.{Picks};
 ghost use Rattle.file_plugin.specs.Zones.{Says, file_say, longer_for, longer_of, longest};
-ghost use Rattle.file_plugin.specs.Zones.{file_zones, longest_of};
+ghost use Rattle.file_plugin.specs.Zones.{longest_of, served_of};
 
 use crate::plan::FilePlan;
+use crate::served::ServedZone;
 use dns_data::{Name, NoMemory, Query, Slot};
 use dns_write::Tail;
 use std::alloc::Global;
-use zone_lookup::{ZoneStore, answer};
-use zone_tree::TreeZone;
+use zone_lookup::answer;
 
 /// What `file` says of a query: it is answered by what stands in the slot, or by that with the
 /// records of a tail in place of its authority and additional; or it goes on.
@@ -23,7 +23,8 @@ pub enum FileSay<'a> {
 
 /// What the plans of a block say of a query: the zone with the longest origin that has the name
 /// fills the slot with its answer, and may lend the two sections behind it instead. Where none has,
-/// the query goes on.
+/// the query goes on, and so it does where that zone doesn't have the name and the `fallthrough` of
+/// its directive covers it.
 #[tactic(auto, unfolding(crate::specs::Zones::file_say))]
 pub fn decide<'a>(
     alloc: Global,
@@ -37,16 +38,21 @@ pub fn decide<'a>(
     let Some(zone) = zone_for(plans, &query.name) else {
         return Ok(FileSay::Next);
     };
-    match answer(alloc, zone, &query.name, query.kind, slot)? {
-        Some(tail) => Ok(FileSay::Lent(tail)),
-        None => Ok(FileSay::Reply),
+    let tail = answer(alloc, zone.tree(), &query.name, query.kind, slot)?;
+    if !zone.goes_on(&query.name, slot) {
+        return match tail {
+            Some(tail) => Ok(FileSay::Lent(tail)),
+            None => Ok(FileSay::Reply),
+        };
     }
+    slot.clear();
+    Ok(FileSay::Next)
 }
 
 /// The zone with the longest origin that has the name, over all zones of these plans.
-pub fn zone_for<'a>(plans: &'a [FilePlan], name: &Name) -> Option<&'a TreeZone>
+pub fn zone_for<'a>(plans: &'a [FilePlan], name: &Name) -> Option<&'a ServedZone>
     ensures value { option_map (λ zone. zone.now) result ≡ longest_of name.now None plans.now }
-    ensures picks { Picks name.now (flat_map file_zones plans.now)
+    ensures picks { Picks name.now (flat_map served_of plans.now)
         (option_map (λ zone. zone.now) result) }
 {
     let mut best = None;
@@ -58,10 +64,10 @@ pub fn zone_for<'a>(plans: &'a [FilePlan], name: &Name) -> Option<&'a TreeZone>
 
 // The same of one that stands before and of these zones.
 fn longest<'a>(
-    zones: &'a [TreeZone],
+    zones: &'a [ServedZone],
     name: &Name,
-    before: Option<&'a TreeZone>,
-) -> Option<&'a TreeZone>
+    before: Option<&'a ServedZone>,
+) -> Option<&'a ServedZone>
     ensures { option_map (λ zone. zone.now) result
         ≡ longest name.now (option_map (λ zone. zone.now) before.entry) zones.now }
 {
@@ -75,9 +81,9 @@ fn longest<'a>(
 // The zone with the longer origin, where the name is within it.
 fn longer_for<'a>(
     name: &Name,
-    before: Option<&'a TreeZone>,
-    zone: &'a TreeZone,
-) -> Option<&'a TreeZone>
+    before: Option<&'a ServedZone>,
+    zone: &'a ServedZone,
+) -> Option<&'a ServedZone>
     ensures { option_map (λ zone. zone.now) result
         ≡ longer_for name.now (option_map (λ zone. zone.now) before.entry) zone.now }
 {
@@ -87,7 +93,7 @@ fn longer_for<'a>(
     before
 }
 
-fn longer_of<'a>(before: Option<&'a TreeZone>, zone: &'a TreeZone) -> &'a TreeZone
+fn longer_of<'a>(before: Option<&'a ServedZone>, zone: &'a ServedZone) -> &'a ServedZone
     ensures { result.now ≡ longer_of (option_map (λ zone. zone.now) before.entry) zone.now }
 {
     let Some(before) = before else {

@@ -3,9 +3,12 @@
 
 mod choice;
 mod fault;
+mod loading;
 mod plan;
 mod reading;
+mod served;
 
 pub use choice::{FileSay, decide, zone_for};
 pub use fault::FileFault;
 pub use plan::FilePlan;
+pub use served::ServedZone;

@@ -10,4 +10,4 @@ mod scan;
 mod state;
 
 pub use fault::{ZoneFault, ZoneWhy};
-pub use read::read_zone;
+pub use read::{ZoneText, read_zone};

@@ -1,22 +1,58 @@
-ghost use Rattle.std.specs.Prelude.{◌<◌, ◌^◌, length, OnOk};
+ghost use Rattle.std.specs.Prelude.{◌≡◌, ◌<◌, ◌^◌, length, IfOk, OnOk};
 ghost use Rattle.zone_file.specs.Zones.{Agrees, HasTtls, ReadsZone, Steps, as_zone};
 ghost use Rattle.zone_file.specs.Zones.{finished, kept_by, step, zone_in};
 
-use crate::entry::{End, Entry, read_entries};
+use crate::entry::{End, Entries, Entry, read_entries};
 use crate::kept::Kept;
 use crate::state::{Reading, Statement};
 use crate::{ZoneFault, ZoneWhy};
-use dns_data::{Copies, Name, Zone};
+use dns_data::{Copies, Name, NoMemory, Zone};
 use std::alloc::Global;
+use std::marker::Model;
+
+/// The words of a zone file, read once for zones of any origins. Contracts see the bytes.
+#[derive(Drop)]
+pub struct ZoneText<'a> {
+    bytes: &'a [u8],
+    read: Entries<'a>,
+}
+
+impl<'a> Model for ZoneText<'a> {
+    ghost use Rattle.std.specs.Prelude.{◌≡◌, ℕ, List};
+    ghost use Rattle.zone_file.specs.Entries.{entries_of};
+
+    ghost Value = { List ℕ };
+
+    ghost view = { λ t. t.bytes.now };
+
+    ghost invariant = { λ t. t.read ≡ entries_of t.bytes.now };
+}
+
+impl<'a> ZoneText<'a> {
+    /// Reads the words of a text.
+    pub fn read(alloc: Global, bytes: &'a [u8]) -> Result<ZoneText<'a>, NoMemory>
+        requires { length bytes.now < 2 ^ 32 }
+        ensures { IfOk result (λ text. text ≡ bytes.now) }
+    {
+        let read = read_entries(alloc, bytes)?;
+        Ok(ZoneText { bytes, read })
+    }
+
+    /// The zone of this origin that the text spells.
+    #[tactic(auto, unfolding(crate::specs::Zones::zone_of))]
+    pub fn zone(&self, alloc: Global, origin: &Name) -> Result<Zone, ZoneFault>
+        ensures { ReadsZone self.now origin.now result }
+    {
+        records_in(alloc, self.read.entries.as_slice(), self.read.end, origin)
+    }
+}
 
 /// The zone of this origin that a text spells.
-#[tactic(auto, unfolding(crate::specs::Zones::zone_of))]
 pub fn read_zone(alloc: Global, text: &[u8], origin: &Name) -> Result<Zone, ZoneFault>
     requires { length text.now < 2 ^ 32 }
     ensures { ReadsZone text.now origin.now result }
 {
-    let read = read_entries(alloc, text)?;
-    records_in(alloc, read.entries.as_slice(), read.end, origin)
+    ZoneText::read(alloc, text)?.zone(alloc, origin)
 }
 
 // The zone of these entries.

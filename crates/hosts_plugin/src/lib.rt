@@ -8,7 +8,9 @@ mod listing;
 mod options;
 mod plan;
 mod reading;
+mod same;
 mod say;
+mod table;
 mod words;
 
 pub use plan::HostsPlan;

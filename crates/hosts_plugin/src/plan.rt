@@ -1,18 +1,19 @@
-ghost use Rattle.std.specs.Prelude.{◌≡◌, Some, IfOk};
+ghost use Rattle.std.specs.Prelude.{◌≡◌, Some, IfOk, IfSome};
+ghost use Rattle.std.specs.Arc.{arc_value};
 ghost use Rattle.std.specs.Option.{option_map};
-ghost use Rattle.hosts_plugin.specs.Hosts.{listings_in, plan_zones};
+ghost use Rattle.hosts_plugin.specs.Hosts.{listings_in, plan_listings, plan_zones};
+ghost use Rattle.hosts_plugin.specs.Made.{IsTable};
 ghost use Rattle.hosts_plugin.specs.Reading.{ReadsHosts, data_of};
 
-use crate::answering::pointers_of;
-use crate::file::add_file;
-use crate::index::{Index, by_address, by_name};
-use crate::listing::{Listing, add_inline};
 use crate::options::{has_no_reverse, ttl_of};
 use crate::reading::{lines_fault, zones_behind};
-use dns_data::{Bytes, Copies, Directive, Line, Names, NoMemory, Record, Seq};
+use crate::same::same_words;
+use crate::table::{HostsTable, table_of};
+use dns_data::{Bytes, Copies, Directive, Line, Names, NoMemory, are_equal};
 use plugin_api::{DirectiveFault, DirectiveWhy, fallthrough_of};
 use std::alloc::Global;
 use std::marker::Model;
+use std::sync::Arc;
 
 /// A directive `hosts`, with what was made of its words and its file once. Contracts see the
 /// directive, the zones of its block, and the bytes of its file.
@@ -25,13 +26,12 @@ pub struct HostsPlan {
     pub(crate) fallthrough: Names,
     pub(crate) ttl: u32,
     pub(crate) no_reverse: bool,
-    pub(crate) listings: Seq<Listing>,
-    pub(crate) pointers: Seq<Record>,
-    pub(crate) names: Index,
-    pub(crate) addresses: Index,
+    /// It may be that of an earlier plan too.
+    table: Arc<HostsTable>,
 }
 
 impl Model for HostsPlan {
+    ghost use Rattle.std.specs.Arc.{arc_value};
     ghost use Rattle.hosts_plugin.specs.Hosts.{HostsData};
     ghost use Rattle.hosts_plugin.specs.Made.{IsMade};
 
@@ -46,19 +46,31 @@ impl Model for HostsPlan {
           fallthrough = p.fallthrough;
           ttl = p.ttl;
           no_reverse = p.no_reverse;
-          listings = p.listings;
-          pointers = p.pointers;
-          names = p.names;
-          addresses = p.addresses;
+          table = arc_value p.table;
         }) };
 }
 
 impl HostsPlan {
     /// Reads a directive of a block with these zones, or says what is wrong with it. `file` is what
     /// its file has; one that is missing counts as empty.
-    #[tactic(auto, unfolding(crate::specs::Reading::hosts_fault))]
     pub fn read(
         alloc: Global,
+        directive: &Directive,
+        zones: &Names,
+        file: Option<&[u8]>,
+    ) -> Result<HostsPlan, DirectiveFault>
+        ensures { ReadsHosts directive.now zones.now (option_map (λ text. text.now) file.entry)
+            result }
+    {
+        HostsPlan::reread(alloc, &[], directive, zones, file)
+    }
+
+    /// The same behind other plans. What one of them has made of an equal file and equal lines is
+    /// taken over, and not made anew.
+    #[tactic(auto, unfolding(crate::specs::Reading::hosts_fault))]
+    pub fn reread(
+        alloc: Global,
+        last: &[&HostsPlan],
         directive: &Directive,
         zones: &Names,
         file: Option<&[u8]>,
@@ -76,12 +88,13 @@ impl HostsPlan {
             return Err(fault);
         }
         let text = file.unwrap_or(&[]);
-        Ok(HostsPlan::make(alloc, directive, zones, text, own)?)
+        Ok(HostsPlan::make(alloc, last, directive, zones, text, own)?)
     }
 
     // The plan of a directive that has no fault.
     fn make(
         alloc: Global,
+        last: &[&HostsPlan],
         directive: &Directive,
         zones: &Names,
         text: &[u8],
@@ -91,16 +104,12 @@ impl HostsPlan {
         ensures { IfOk result (λ plan. plan ≡ data_of directive.now zones.now (Some text.now)) }
     {
         let lines = directive.body.as_slice();
-        let listings = listings_of(alloc, text, lines)?;
         let ttl = ttl_of(lines);
         Ok(HostsPlan {
             fallthrough: fallthrough_of(alloc, lines)?,
             ttl,
             no_reverse: has_no_reverse(lines),
-            pointers: pointers_of(alloc, listings.as_slice())?,
-            names: by_name(alloc, listings.as_slice())?,
-            addresses: by_address(alloc, listings.as_slice())?,
-            listings,
+            table: table_in(alloc, last, text, lines)?,
             directive: directive.copy(alloc)?,
             default: zones.copy(alloc)?,
             text: Bytes::from_slice(alloc, text)?,
@@ -114,14 +123,45 @@ impl HostsPlan {
     {
         &self.zones
     }
+
+    /// What is listed.
+    #[inline]
+    pub(crate) fn table(&self) -> &HostsTable
+        ensures { IsTable (plan_listings self.now) result.now }
+    {
+        &self.table
+    }
+
+    // Its table, where it is that of this file and these lines.
+    fn table_for(&self, text: &[u8], lines: &[Line]) -> Result<Option<Arc<HostsTable>>, NoMemory>
+        ensures { IfOk result
+            (λ found. IfSome found (λ table. IsTable (listings_in text.now lines.now)
+            (arc_value table))) }
+    {
+        if !are_equal(self.text.as_slice(), text) {
+            return Ok(None);
+        }
+        if !same_words(self.directive.body.as_slice(), lines) {
+            return Ok(None);
+        }
+        Ok(Some(Arc::try_clone(&self.table)?))
+    }
 }
 
-// What a file and lines list.
-fn listings_of(alloc: Global, text: &[u8], lines: &[Line]) -> Result<Seq<Listing>, NoMemory>
-    ensures { IfOk result (λ listings. listings ≡ listings_in text.now lines.now) }
+// The table of a file and lines, which one of these plans may have.
+fn table_in(
+    alloc: Global,
+    last: &[&HostsPlan],
+    text: &[u8],
+    lines: &[Line],
+) -> Result<Arc<HostsTable>, NoMemory>
+    ensures { IfOk result
+        (λ table. IsTable (listings_in text.now lines.now) (arc_value table)) }
 {
-    let mut listings = Seq::new(alloc);
-    add_file(alloc, &mut listings, text)?;
-    add_inline(alloc, &mut listings, lines)?;
-    Ok(listings)
+    for plan in last {
+        if let Some(table) = plan.table_for(text, lines)? {
+            return Ok(table);
+        }
+    }
+    Ok(Arc::new(alloc, table_of(alloc, text, lines)?)?)
 }

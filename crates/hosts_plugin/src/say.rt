@@ -48,10 +48,11 @@ impl HostsPlan {
         requires clear { slot.old ≡ no_answer }
         ensures { IfOk result (λ say. Says say (name_say self.now query.now) slot.new) }
     {
-        let Some(set) = self.names.find(&query.name) else {
+        let table = self.table();
+        let Some(set) = table.names.find(&query.name) else {
             return Ok(self.unlisted(&query.name));
         };
-        let listings = self.listings.as_slice();
+        let listings = table.listings.as_slice();
         push_addresses(alloc, listings, set, query, self.ttl, &mut slot.answer)?;
         slot.aa = true;
         Ok(HostsSay::Reply)
@@ -80,10 +81,11 @@ impl HostsPlan {
         if self.no_reverse {
             return Ok(HostsSay::Next);
         }
-        let Some(set) = self.addresses.find(&query.name) else {
+        let table = self.table();
+        let Some(set) = table.addresses.find(&query.name) else {
             return Ok(HostsSay::Next);
         };
-        let pointers = self.pointers.as_slice();
+        let pointers = table.pointers.as_slice();
         push_pointers(
             alloc,
             pointers,

@@ -10,9 +10,10 @@ ghost use Rattle.rewrite_plugin.specs.Words.{end_map};
 use crate::text::append_filled;
 use crate::words::PatternAt;
 use dns_data::{Buffer, Copies, Limit, NoMemory, Text, are_bytes, limit};
-use outside::{Made, PatternMaker};
-use pattern::{Pattern, Scratch};
+use outside::PatternMaker;
+use pattern::Scratch;
 use plugin_api::{DirectiveFault, DirectiveWhy};
+use shared_patterns::{MadeShared, SharedPattern, make_shared};
 use std::alloc::Global;
 use std::collections::VecDeque;
 use std::marker::Model;
@@ -21,7 +22,7 @@ use std::marker::Model;
 #[derive(Debug, Drop)]
 pub struct Finder {
     text: Text,
-    pattern: Pattern,
+    pattern: SharedPattern,
 }
 
 impl Model for Finder {
@@ -36,6 +37,11 @@ impl Model for Finder {
 }
 
 impl Finder {
+    /// The pattern.
+    pub(crate) fn pattern(&self) -> &SharedPattern {
+        &self.pattern
+    }
+
     /// Whether the pattern is found in a text. The scratch keeps its groups.
     pub(crate) fn search(&self, scratch: &mut Scratch, text: &str) -> Result<bool, NoMemory>
         ensures found { IfOk result (λ found. found ≡ is_some (finding_of self.now text.now)) }
@@ -69,9 +75,11 @@ impl Finder {
     }
 }
 
-/// Makes patterns behind so many of the configuration, or tells the first fault.
+/// Makes patterns behind so many of the configuration, or shares those that are there, or tells the
+/// first fault.
 pub(crate) fn make_all<M: PatternMaker>(
     alloc: Global,
+    there: &[&SharedPattern],
     before: usize,
     patterns: &[PatternAt],
     maker: &mut M,
@@ -90,7 +98,7 @@ pub(crate) fn make_all<M: PatternMaker>(
                 number: limit::PATTERNS as u64 + 1,
             });
         }
-        match make_finder(alloc, pattern, maker) {
+        match make_finder(alloc, there, pattern, maker) {
             Err(fault) => return Err(fault),
             Ok(finder) => {
                 let Ok(()) = made.push_back(finder) else {
@@ -104,9 +112,10 @@ pub(crate) fn make_all<M: PatternMaker>(
     Ok(made)
 }
 
-// Makes a pattern.
+// What finds a pattern.
 fn make_finder<M: PatternMaker>(
     alloc: Global,
+    there: &[&SharedPattern],
     found: &PatternAt,
     maker: &mut M,
 ) -> Result<Finder, DirectiveFault>
@@ -114,16 +123,16 @@ fn make_finder<M: PatternMaker>(
     ensures maker { M.state maker.new ≡ maker_behind result (M.state maker.old) }
 {
     let text = found.text.copy(alloc)?;
-    match maker.make(alloc, &found.text) {
-        Made::Pattern(pattern) => Ok(Finder { text, pattern }),
-        Made::NotPattern => Err(DirectiveFault::Why {
+    match make_shared(alloc, there, &found.text, maker) {
+        MadeShared::Pattern(pattern) => Ok(Finder { text, pattern }),
+        MadeShared::NotPattern => Err(DirectiveFault::Why {
             line: found.line,
             why: DirectiveWhy::Pattern,
         }),
-        Made::Refused => Err(DirectiveFault::Why {
+        MadeShared::Refused => Err(DirectiveFault::Why {
             line: found.line,
             why: DirectiveWhy::PatternSize,
         }),
-        Made::NoMemory => Err(DirectiveFault::NoMemory),
+        MadeShared::NoMemory => Err(DirectiveFault::NoMemory),
     }
 }

@@ -1,5 +1,5 @@
 -- The record of a text that begins with the name of the query and is that of an address.
-use Rattle.std.proofs.Common.{◌≡◌, ◌∙◌, ◌≤◌, ◌<◌, ℕ, List, [], ◌++◌, length, drop, Bool, true, Option, option_map, sym, ap, arith, length-append}
+use Rattle.std.proofs.Common.{◌≡◌, ◌∙◌, ◌≤◌, ℕ, List, [], ◌++◌, length, drop, Bool, true, Option, option_map, sym, ap, arith}
 use Rattle.dns_data.specs.Addresses.{Addr}
 use Rattle.dns_names.specs.Name.{IsName}
 use Rattle.dns_names.specs.NameText.{name_text}

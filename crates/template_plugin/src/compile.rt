@@ -14,12 +14,13 @@ use crate::record_parts::{RecordParts, Sections};
 use crate::words::words_after;
 use dns_data::{Bytes, Line, NoMemory, Seq, Text};
 use pattern::Pattern;
+use shared_patterns::SharedPattern;
 use std::alloc::Global;
 
 /// The texts of the sections, for each pattern.
 pub(crate) fn all_sections(
     alloc: Global,
-    patterns: &[Pattern],
+    patterns: &[SharedPattern],
     lines: &[Line],
 ) -> Result<Seq<Sections>, NoMemory>
     ensures { IfOk result
@@ -28,7 +29,7 @@ pub(crate) fn all_sections(
     let mut sections = Seq::with_capacity(alloc, patterns.len())?;
     let mut rest = patterns;
     while let Some((pattern, behind)) = rest.split_first() {
-        sections.push(sections_of(alloc, Some(pattern), lines)?)?;
+        sections.push(sections_of(alloc, Some(pattern.pattern()), lines)?)?;
         rest = behind;
     }
     Ok(sections)

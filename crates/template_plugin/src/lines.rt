@@ -7,18 +7,26 @@ ghost use Rattle.template_plugin.specs.Reading.{behind_line, option_why};
 use crate::options::{Earlier, Opens, Seen, is_match, opened, seen_with};
 use crate::reading::{rcode_why, text_why};
 use dns_data::{Limit, Line, NoMemory, Seq, Text, limit};
-use outside::{Made, PatternMaker};
-use pattern::Pattern;
+use outside::PatternMaker;
 use plugin_api::{DirectiveFault, DirectiveWhy, fallthrough_why, once};
+use shared_patterns::{MadeShared, SharedPattern, make_shared};
 use std::alloc::Global;
 
-/// Makes the patterns of lines, or tells the first fault.
+/// Where patterns stand: in a line, and behind so many of the configuration.
+#[derive(Clone, Copy, Debug, PartialEq, Eq)]
+pub struct PatternPlace {
+    pub line: u32,
+    pub number: usize,
+}
+
+/// Makes the patterns of lines, or shares those that are there, or tells the first fault.
 pub(crate) fn read_lines<M: PatternMaker>(
     alloc: Global,
+    there: &[&SharedPattern],
     first: Earlier,
     lines: &[Line],
     maker: &mut M,
-    out: &mut Seq<Pattern>,
+    out: &mut Seq<SharedPattern>,
 ) -> Result<(), DirectiveFault>
     ensures value { Makes (lines_task first lines.now) out.old out.new
         (M.last maker.new) result }
@@ -27,7 +35,7 @@ pub(crate) fn read_lines<M: PatternMaker>(
     let mut before = first;
     let mut rest = lines;
     while let Some((line, behind)) = rest.split_first() {
-        before = read_line(alloc, before, line, maker, out)?;
+        before = read_line(alloc, there, before, line, maker, out)?;
         rest = behind;
     }
     Ok(())
@@ -36,10 +44,11 @@ pub(crate) fn read_lines<M: PatternMaker>(
 // Makes the patterns of a line. What stood before the next line is told.
 fn read_line<M: PatternMaker>(
     alloc: Global,
+    there: &[&SharedPattern],
     before: Earlier,
     line: &Line,
     maker: &mut M,
-    out: &mut Seq<Pattern>,
+    out: &mut Seq<SharedPattern>,
 ) -> Result<Earlier, DirectiveFault>
     ensures value { Makes (line_task before line.now.number line.now.words) out.old out.new
         (M.last maker.new) result }
@@ -54,7 +63,15 @@ fn read_line<M: PatternMaker>(
         });
     };
     if is_match(word) {
-        return read_match(alloc, before, number, rest, maker, out);
+        let place = PatternPlace {
+            line: number,
+            number: before.patterns,
+        };
+        let patterns = read_match(alloc, there, place, rest, maker, out)?;
+        return Ok(Earlier {
+            seen: before.seen,
+            patterns,
+        });
     }
     let opens = opened(word);
     if let Some(why) = option_why(alloc, before.seen, opens, rest)? {
@@ -86,49 +103,45 @@ fn option_why(
     }
 }
 
-// Makes the patterns behind `match`, of which there is one at least.
+// Makes the patterns behind `match`, of which there is one at least, and counts them.
 fn read_match<M: PatternMaker>(
     alloc: Global,
-    before: Earlier,
-    line: u32,
+    there: &[&SharedPattern],
+    place: PatternPlace,
     words: &[Text],
     maker: &mut M,
-    out: &mut Seq<Pattern>,
-) -> Result<Earlier, DirectiveFault>
-    ensures value { Makes (match_task line before.patterns words.now) out.old out.new
+    out: &mut Seq<SharedPattern>,
+) -> Result<usize, DirectiveFault>
+    ensures value { Makes (match_task place.line place.number words.now) out.old out.new
         (M.last maker.new) result }
-    ensures behind { IfOk result (λ after. after
-        ≡ record { seen = before.seen; patterns = before.patterns + length words.now }) }
+    ensures behind { IfOk result (λ number. number ≡ place.number + length words.now) }
     ensures maker { M.state maker.new ≡ maker_behind result (M.state maker.old) }
 {
     if words.is_empty() {
         return Err(DirectiveFault::Why {
-            line,
+            line: place.line,
             why: DirectiveWhy::Args,
         });
     }
-    let patterns = read_words(alloc, before.patterns, line, words, maker, out)?;
-    Ok(Earlier {
-        seen: before.seen,
-        patterns,
-    })
+    let patterns = read_words(alloc, there, place, words, maker, out)?;
+    Ok(patterns)
 }
 
 // Makes patterns behind so many of the configuration, and counts them.
 fn read_words<M: PatternMaker>(
     alloc: Global,
-    first: usize,
-    line: u32,
+    there: &[&SharedPattern],
+    place: PatternPlace,
     words: &[Text],
     maker: &mut M,
-    out: &mut Seq<Pattern>,
+    out: &mut Seq<SharedPattern>,
 ) -> Result<usize, DirectiveFault>
-    ensures value { Makes (words_task line first words.now) out.old out.new
+    ensures value { Makes (words_task place.line place.number words.now) out.old out.new
         (M.last maker.new) result }
-    ensures behind { IfOk result (λ number. number ≡ first + length words.now) }
+    ensures behind { IfOk result (λ number. number ≡ place.number + length words.now) }
     ensures maker { M.state maker.new ≡ maker_behind result (M.state maker.old) }
 {
-    let mut number = first;
+    let mut number = place.number;
     let mut rest = words;
     while let Some((word, behind)) = rest.split_first() {
         if limit::PATTERNS <= number {
@@ -137,7 +150,7 @@ fn read_words<M: PatternMaker>(
                 number: limit::PATTERNS as u64 + 1,
             });
         }
-        let pattern = make_pattern(alloc, line, word, maker)?;
+        let pattern = make_pattern(alloc, there, place.line, word, maker)?;
         out.push(pattern)?;
         number += 1;
         rest = behind;
@@ -145,26 +158,27 @@ fn read_words<M: PatternMaker>(
     Ok(number)
 }
 
-// Makes the pattern of a word of a line.
+// The pattern of a word of a line.
 fn make_pattern<M: PatternMaker>(
     alloc: Global,
+    there: &[&SharedPattern],
     line: u32,
     word: &Text,
     maker: &mut M,
-) -> Result<Pattern, DirectiveFault>
+) -> Result<SharedPattern, DirectiveFault>
     ensures value { IsMadeOf line word.now (M.last maker.new) result }
     ensures maker { M.state maker.new ≡ maker_behind result (M.state maker.old) }
 {
-    match maker.make(alloc, word) {
-        Made::Pattern(pattern) => Ok(pattern),
-        Made::NotPattern => Err(DirectiveFault::Why {
+    match make_shared(alloc, there, word, maker) {
+        MadeShared::Pattern(pattern) => Ok(pattern),
+        MadeShared::NotPattern => Err(DirectiveFault::Why {
             line,
             why: DirectiveWhy::Pattern,
         }),
-        Made::Refused => Err(DirectiveFault::Why {
+        MadeShared::Refused => Err(DirectiveFault::Why {
             line,
             why: DirectiveWhy::PatternSize,
         }),
-        Made::NoMemory => Err(DirectiveFault::NoMemory),
+        MadeShared::NoMemory => Err(DirectiveFault::NoMemory),
     }
 }

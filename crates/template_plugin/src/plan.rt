@@ -12,8 +12,8 @@ use crate::record_parts::Sections;
 use crate::words::rcode_of;
 use dns_data::{Copies, Directive, Names, NoMemory, Query, Seq, Text, kind};
 use outside::PatternMaker;
-use pattern::Pattern;
 use plugin_api::{DirectiveFault, fallthrough_of};
+use shared_patterns::SharedPattern;
 use std::alloc::Global;
 use std::marker::Model;
 use type_names::read_kind;
@@ -29,7 +29,7 @@ pub struct TemplatePlan {
     pub(crate) zones: Names,
     pub(crate) fallthrough: Names,
     pub(crate) rcode: u8,
-    pub(crate) patterns: Seq<Pattern>,
+    pub(crate) patterns: Seq<SharedPattern>,
     /// The texts, for each pattern.
     pub(crate) sections: Seq<Sections>,
     /// The texts of a template without patterns.
@@ -60,9 +60,27 @@ impl Model for TemplatePlan {
 impl TemplatePlan {
     /// Reads a directive of a block with these zones, behind so many patterns of the configuration,
     /// or says what is wrong with it.
-    #[tactic(auto, unfolding(crate::specs::Reading::template_fault))]
     pub fn read<M: PatternMaker>(
         alloc: Global,
+        directive: &Directive,
+        zones: &Names,
+        patterns: usize,
+        maker: &mut M,
+    ) -> Result<TemplatePlan, DirectiveFault>
+        ensures value { ReadsTemplate patterns
+            (record { directive = directive.now; zones = zones.now })
+            (M.last maker.new) result }
+        ensures maker { M.state maker.new ≡ maker_behind result (M.state maker.old) }
+    {
+        TemplatePlan::reread(alloc, &[], directive, zones, patterns, maker)
+    }
+
+    /// The same where patterns are there that were made before. One of these is shared for its
+    /// text, and not made again.
+    #[tactic(auto, unfolding(crate::specs::Reading::template_fault))]
+    pub fn reread<M: PatternMaker>(
+        alloc: Global,
+        there: &[&SharedPattern],
         directive: &Directive,
         zones: &Names,
         patterns: usize,
@@ -87,7 +105,14 @@ impl TemplatePlan {
             patterns,
         };
         let mut made = Seq::new(alloc);
-        read_lines(alloc, before, directive.body.as_slice(), maker, &mut made)?;
+        read_lines(
+            alloc,
+            there,
+            before,
+            directive.body.as_slice(),
+            maker,
+            &mut made,
+        )?;
         Ok(TemplatePlan::make(alloc, directive, zones, made)?)
     }
 
@@ -96,7 +121,7 @@ impl TemplatePlan {
         alloc: Global,
         directive: &Directive,
         zones: &Names,
-        patterns: Seq<Pattern>,
+        patterns: Seq<SharedPattern>,
     ) -> Result<TemplatePlan, NoMemory>
         requires patterns { AreOf (patterns_of directive.now.body) patterns }
         ensures { IfOk result (λ plan. plan
@@ -115,6 +140,13 @@ impl TemplatePlan {
             directive: directive.copy(alloc)?,
             default: zones.copy(alloc)?,
         })
+    }
+
+    /// Its patterns, in the order of the text.
+    pub fn patterns(&self) -> &[SharedPattern]
+        ensures { AreOf (patterns_of self.now.directive.body) result.now }
+    {
+        self.patterns.as_slice()
     }
 
     /// How many patterns it has.

@@ -3,11 +3,12 @@ ghost use Rattle.template_plugin.specs.Judging.{AreOf};
 ghost use Rattle.template_plugin.specs.Made.{Finds};
 
 use dns_data::NoMemory;
-use pattern::{Pattern, Scratch};
+use pattern::Scratch;
+use shared_patterns::SharedPattern;
 
 /// The number of the first of patterns that is found in a text. The scratch keeps its groups.
 pub(crate) fn find_first(
-    patterns: &[Pattern],
+    patterns: &[SharedPattern],
     text: &str,
     scratch: &mut Scratch,
 ) -> Result<Option<usize>, NoMemory>

@@ -1,6 +1,6 @@
 -- An answer as a hit gives it: its TTLs are what is left of the entry's lifetime. This server's own
 -- rule (RFC 1035, section 3.2.1, for TTLs).
-use Rattle.std.specs.Prelude.{ℕ, ◌-◌, ◌/◌, List, [], ◌∷◌, map, if◌then◌else◌}
+use Rattle.std.specs.Prelude.{ℕ, ◌-◌, ◌/◌, List, map, if◌then◌else◌}
 use Rattle.dns_data.specs.Record.{RecordData, owned_by}
 use Rattle.dns_data.specs.Message.{AnswerData}
 use Rattle.outside.specs.{EntryData}

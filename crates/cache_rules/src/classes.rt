@@ -1,4 +1,4 @@
-ghost use Rattle.std.specs.Prelude.{◌≡◌};
+ghost use Rattle.std.specs.Prelude.{◌≡◌, ◌<◌, ◌^◌, IfSome};
 ghost use Rattle.cache_rules.specs.Class.{bounded, class_by, class_of, denied, is_denial};
 ghost use Rattle.cache_rules.specs.Class.{is_empty, least_ttl, kept_for, soa_life, success_of};
 
@@ -16,13 +16,15 @@ pub struct Lived {
 
 /// The class and the lifetime of an answer, where a cache keeps it.
 pub fn class_of(plan: &CachePlan, answer: &Answer) -> Option<Lived>
-    ensures { result ≡ class_of plan.now answer.now }
+    ensures class { result ≡ class_of plan.now answer.now }
+    ensures small { IfSome result (λ lived. lived.life < 2 ^ 31) }
 {
     class_by(plan.settings(), answer)
 }
 
 fn class_by(settings: &Settings, answer: &Answer) -> Option<Lived>
-    ensures { result ≡ class_by settings.now answer.now }
+    ensures class { result ≡ class_by settings.now answer.now }
+    ensures small { IfSome result (λ lived. lived.life < 2 ^ 31) }
 {
     if answer.tc {
         return None;
@@ -57,7 +59,8 @@ fn is_empty(records: &[Record]) -> bool
 
 #[tactic(auto, using(crate::proofs::Least::least_append))]
 fn success_of(settings: &Settings, answer: &Answer) -> Option<Lived>
-    ensures { result ≡ success_of settings.now answer.now }
+    ensures class { result ≡ success_of settings.now answer.now }
+    ensures small { IfSome result (λ lived. lived.life < 2 ^ 31) }
 {
     let mut least = least_ttl(0x7fff_ffff, answer.answer.as_slice());
     least = least_ttl(least, answer.authority.as_slice());
@@ -70,7 +73,8 @@ fn success_of(settings: &Settings, answer: &Answer) -> Option<Lived>
 }
 
 fn denied(settings: &Settings, life: Option<u32>) -> Option<Lived>
-    ensures { result ≡ denied settings.now life }
+    ensures class { result ≡ denied settings.now life }
+    ensures small { IfSome result (λ lived. lived.life < 2 ^ 31) }
 {
     match life {
         Some(life) => kept_for(
@@ -83,7 +87,9 @@ fn denied(settings: &Settings, life: Option<u32>) -> Option<Lived>
 }
 
 fn kept_for(enabled: bool, class: Class, life: u32) -> Option<Lived>
-    ensures { result ≡ kept_for enabled class life }
+    requires { life < 2 ^ 31 }
+    ensures class { result ≡ kept_for enabled class life }
+    ensures small { IfSome result (λ lived. lived.life < 2 ^ 31) }
 {
     if enabled && life != 0 {
         return Some(Lived { class, life });
@@ -92,7 +98,8 @@ fn kept_for(enabled: bool, class: Class, life: u32) -> Option<Lived>
 }
 
 fn bounded(rules: &ClassRules, life: u32) -> u32
-    ensures { result ≡ bounded rules.now life }
+    ensures value { result ≡ bounded rules.now life }
+    ensures small { result < 2 ^ 31 }
 {
     rules.most.min(rules.least.max(life))
 }

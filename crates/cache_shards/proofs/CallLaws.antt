@@ -9,7 +9,7 @@ use Rattle.outside.specs.Keys.{shard_of}
 use Rattle.outside.specs.declared.entry.Key.{Key}
 use Rattle.outside.specs.declared.mark.Mark.{Mark}
 use Rattle.outside.specs.declared.mark.Mark.TheVariants as mark
-use Rattle.ruled_lock.specs.Histories.{Begins, Leads}
+use Rattle.ruled_lock.specs.Histories.{Leads}
 use Rattle.ruled_lock.specs.Steps.{CanBe, OwnsApart}
 use Rattle.ruled_lock.specs.Calls.{IsCall, IsMeeting, called_view, own_calls, met_calls}
 use Rattle.cache_shards.specs.declared.calls.ShardCall.{ShardCall}
@@ -17,11 +17,11 @@ use Rattle.cache_shards.specs.declared.calls.ShardCall.TheVariants.{Get, Put}
 use Rattle.cache_shards.specs.declared.calls.ShardReply.{ShardReply}
 use Rattle.cache_shards.specs.declared.shard.Shard.{Shard}
 use Rattle.cache_shards.specs.Answers.{Capacities, Room, IsLegal}
-use Rattle.cache_shards.specs.Steps.{Steps, IsAllowed, IsEmpty}
+use Rattle.cache_shards.specs.Steps.{Steps, IsAllowed}
 use Rattle.cache_shards.specs.Marks.{marks_of, all_marks}
 use Rattle.cache_shards.specs.Hits.{PutsAreJust, WasPut}
 use Rattle.cache_shards.specs.Calls.{IsJustCall}
-use Rattle.cache_shards.specs.Seats.{told, ShardView, ShardSeat, view_of, own_marks, met_marks, IsSeat, Adds, AddsAt, IsHit, Meets}
+use Rattle.cache_shards.specs.Seats.{told, ShardView, ShardSeat, view_of, IsSeat, Adds, AddsAt, IsHit, Meets}
 use Rattle.cache_shards.proofs.ShardLaws.{legal, answered_rest}
 use Rattle.cache_shards.proofs.Hits.{just_along, judge_along, hit_stands, hit_lives, put_further, put_just, just_first}
 use Rattle.cache_shards.proofs.SeatLists.{get_set}

@@ -2,8 +2,7 @@
 use Rattle.std.proofs.Common.{◌≡◌, ℕ, Bool, true, false, cond, ◌&&◌, List, [], ◌∷◌, ◌++◌, Option, Some, None, refl}
 use Rattle.std.proofs.Common.{sym, ap, ◌∙◌, subst, append_assoc, IsTrue}
 use Rattle.std.specs.Option.{option_or}
-use Rattle.std.specs.Arc.{arc_value}
-use Rattle.std.proofs.lemmas.Bool.{and_parts, false≢true}
+use Rattle.std.proofs.lemmas.Bool.{and_parts}
 use Rattle.outside.specs.{EntryData, same_key}
 use Rattle.outside.specs.declared.entry.Key.{Key}
 use Rattle.outside.specs.declared.entry.Class.{Class}
@@ -19,9 +18,8 @@ use Rattle.cache_shards.specs.declared.shard.Shard.{Shard}
 use Rattle.cache_shards.specs.Answers.{is_denial, is_success, is_live, live_at, uses, put_of, last_put, found}
 use Rattle.cache_shards.specs.Answers.{Capacities, IsAnswered}
 use Rattle.cache_shards.specs.Steps.{Steps, IsAllowed, same_judge}
-use Rattle.cache_shards.specs.Stores.{Held}
 use Rattle.cache_shards.specs.Marks.{marks_of, all_marks}
-use Rattle.cache_shards.specs.Hits.{WasPut, IsJustPut, PutsAreJust}
+use Rattle.cache_shards.specs.Hits.{WasPut, PutsAreJust}
 use Rattle.cache_shards.proofs.StoreLaws.{exact}
 
 live_some : (now : ℕ) (o : Option EntryData) (e : EntryData) → live_at now o ≡ Some e → o ≡ Some e

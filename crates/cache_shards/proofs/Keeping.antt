@@ -1,27 +1,27 @@
 -- A store stays one, and shows what it should.
-use Rattle.std.proofs.Common.{◌≡◌, ◌≢◌, ℕ, zero, suc, ◌+◌, ◌-◌, ◌<◌, ◌≤◌, Bool, true, false, cond, List, [], ◌∷◌, ◌++◌, length, take, set, refl, inl, inr, sym, ap, subst, ◌∙◌, arith, Option, Some, None, append-nil, append_assoc, length-append}
-use Rattle.std.specs.Prelude.{◌⊎◌, slice_index, slice_get, slice_set, option_to_list, option_map, flat_map, replicate}
-use Rattle.std.specs.Option.{option_map_or, option_or}
+use Rattle.std.proofs.Common.{◌≡◌, ◌≢◌, ℕ, zero, suc, ◌+◌, ◌-◌, ◌<◌, ◌≤◌, Bool, true, false, cond, List, [], ◌∷◌, ◌++◌, length, take, refl, inl, inr, sym, ap, subst, ◌∙◌, arith, Option, Some, None, append-nil, append_assoc, length-append}
+use Rattle.std.specs.Prelude.{◌⊎◌, slice_index, slice_get, slice_set, option_to_list, option_map, replicate}
+use Rattle.std.specs.Option.{option_map_or}
 use Rattle.std.specs.Map.{lookup, lookup_entry, remove_entry}
 use Rattle.std.specs.Arc.{arc_value}
 use Rattle.std.proofs.lemmas.Bool.{cases_eq, false≢true}
 use Rattle.std.proofs.lemmas.List.{get_or-replicate, length-replicate, length-set}
-use Rattle.std.proofs.lemmas.Option.{slice_get_past, slice_get_within, slice_get_cases}
+use Rattle.std.proofs.lemmas.Option.{slice_get_within, slice_get_cases}
 use Rattle.lru.specs.LruCache.{lru_cache, promoted, put_entries}
-use Rattle.outside.specs.{EntryData, same_key}
+use Rattle.outside.specs.{same_key}
 use Rattle.outside.specs.SameLaws.{exact_key, key_itself}
 use Rattle.outside.specs.declared.entry.Key.{Key}
 use Rattle.seeded_hash.specs.declared.hasher.Seed.{Seed}
-use Rattle.last_used.proofs.Latest.{looked_entry, entry_append, none_removed}
-use Rattle.slot_lists.specs.Links.{Leads, IsIn, Once, walked}
+use Rattle.last_used.proofs.Latest.{looked_entry, entry_append}
+use Rattle.slot_lists.specs.Links.{IsIn, Once, walked}
 use Rattle.slot_lists.specs.Rings.{OrderData, order_data}
-use Rattle.slot_lists.specs.Chained.{IsLinked, AreChained, IsCut, IsChainWith}
+use Rattle.slot_lists.specs.Chained.{IsLinked, AreChained, IsCut}
 use Rattle.slot_lists.specs.declared.chains.Chains.{Chains}
 use Rattle.slot_lists.proofs.Links.{in_middle, in_more, in_less, once_less, once_gone, split_at}
-use Rattle.slot_lists.proofs.Chained.{told, linked, cut, relinked, chain_some, chain_with, changed}
-use Rattle.cache_shards.specs.Answers.{live_at, is_live}
-use Rattle.cache_shards.specs.Steps.{live_in, promoted_in, put_in}
-use Rattle.cache_shards.specs.Stores.{Held, StoreData}
+use Rattle.slot_lists.proofs.Chained.{told, linked, cut, relinked, chain_some, changed}
+use Rattle.cache_shards.specs.Answers.{live_at}
+use Rattle.cache_shards.specs.Steps.{live_in, put_in}
+use Rattle.cache_shards.specs.Stores.{Held}
 use Rattle.cache_shards.specs.Slots.{Pair, shown, place_of, place_at, IsPairOf, AreOthers, IsChainOf, IsStore}
 use Rattle.cache_shards.proofs.Walks.{chain_low}
 

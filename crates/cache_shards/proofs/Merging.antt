@@ -1,18 +1,17 @@
 -- A history merges the calls at lists of places that have each place once.
-use Rattle.std.proofs.Common.{◌≡◌, ◌≢◌, ℕ, zero, suc, ◌+◌, ◌<◌, ◌≤◌, ◌⊎◌, inl, inr, Bool, true, false, cond, eqb, leb}
-use Rattle.std.proofs.Common.{ltb, List, [], ◌∷◌, ◌++◌, map, set, length, length-append, slice_get, Option, Some}
-use Rattle.std.proofs.Common.{None, flat_map, option_to_list, refl, sym, ap, ◌∙◌, subst, arith, append_assoc}
-use Rattle.std.proofs.Common.{append-nil, ne_eqb, eq-eqb, eqb-true, le-leb, lt-ltb}
+use Rattle.std.proofs.Common.{◌≡◌, ℕ, zero, suc, ◌+◌, ◌<◌, ◌≤◌, ◌⊎◌, inl, inr, Bool, true, false, cond, eqb, leb}
+use Rattle.std.proofs.Common.{List, [], ◌∷◌, ◌++◌, map, set, length, length-append, slice_get, Option, Some}
+use Rattle.std.proofs.Common.{flat_map, option_to_list, refl, sym, ap, ◌∙◌, subst, arith, append_assoc}
+use Rattle.std.proofs.Common.{append-nil, ne_eqb, eq-eqb, le-leb, lt-ltb}
 use Rattle.std.specs.List.{AllByRecursion}
 use Rattle.std.proofs.lemmas.Bool.{and_parts, and_from, leb-true, cases_eq}
 use Rattle.std.proofs.lemmas.Option.{same_Some}
 use Rattle.ruled_lock.specs.Places.{times, times_in, once_below, is_rising, each_rising}
 use Rattle.ruled_lock.specs.Histories.{calls_at}
-use Rattle.ruled_lock.proofs.Places.{rising_ends, none_past}
-use Rattle.std.specs.Arc.{arc_value}
+use Rattle.ruled_lock.proofs.Places.{rising_ends}
 use Rattle.outside.specs.declared.mark.Mark.{Mark}
 use Rattle.ruled_lock.specs.Held.{owned}
-use Rattle.ruled_lock.specs.Calls.{InOrder, own_calls, met_calls}
+use Rattle.ruled_lock.specs.Calls.{InOrder}
 use Rattle.cache_shards.specs.declared.calls.ShardCall.{ShardCall}
 use Rattle.cache_shards.specs.declared.calls.ShardCall.TheVariants.{Get, Put}
 use Rattle.cache_shards.specs.declared.calls.ShardReply.{ShardReply}

@@ -1,6 +1,6 @@
 -- The seats of a cache as a list.
 use Rattle.std.proofs.Common.{◌≡◌, ℕ, zero, suc, ◌<◌, ◌≤◌, List, [], ◌∷◌, ◌++◌, map, set, length, slice_get, get_or}
-use Rattle.std.proofs.Common.{take, drop, ◌+◌, ◌⊎◌, inl, inr, length-append, length-set, arith, Option, Some, None}
+use Rattle.std.proofs.Common.{take, drop, ◌+◌, ◌⊎◌, inl, inr, length-append, length-set, arith, Some}
 use Rattle.std.proofs.Common.{refl, sym, ap, ◌∙◌, subst}
 use Rattle.std.proofs.lemmas.Option.{same_Some, slice_get_read, slice_get_within}
 use Rattle.std.proofs.lemmas.Bool.{cases_eq}

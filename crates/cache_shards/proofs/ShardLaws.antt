@@ -1,9 +1,8 @@
 -- A history from the empty shard is legal.
-use Rattle.std.proofs.Common.{◌≡◌, ℕ, ◌<◌, ◌⊎◌, inl, inr, Bool, true, false, cond, not, ◌&&◌, List, [], ◌∷◌, ◌++◌}
+use Rattle.std.proofs.Common.{◌≡◌, ℕ, inl, inr, Bool, true, false, cond, not, ◌&&◌, List, [], ◌∷◌, ◌++◌}
 use Rattle.std.proofs.Common.{Option, Some, None, MatchBool, refl, sym, ap, ◌∙◌, subst, append-nil, append_assoc}
 use Rattle.std.specs.Option.{option_or}
 use Rattle.std.specs.Arc.{arc_value}
-use Rattle.lru.specs.LruCache.{lru_cache}
 use Rattle.last_used.proofs.Stores.{nothing_used}
 use Rattle.outside.specs.{EntryData}
 use Rattle.outside.specs.declared.entry.Key.{Key}
@@ -18,9 +17,9 @@ use Rattle.cache_shards.specs.declared.shard.Shard.{Shard}
 use Rattle.cache_shards.specs.declared.shard.Stores.{Stores}
 use Rattle.std.proofs.lemmas.Bool.{not-true}
 use Rattle.outside.specs.{same_key}
-use Rattle.cache_shards.specs.Answers.{is_denial, is_success, use_of, put_of, Capacities, Room, IsAnswered}
+use Rattle.cache_shards.specs.Answers.{is_denial, is_success, use_of, put_of, Capacities, Room}
 use Rattle.cache_shards.specs.Answers.{AreAnswered, IsLegal, found}
-use Rattle.cache_shards.specs.Steps.{Steps, Works, Hits, IsEmpty, stores_of, live_in, promoted_in, put_in}
+use Rattle.cache_shards.specs.Steps.{Steps, Works, Hits, IsEmpty, stores_of, put_in}
 use Rattle.cache_shards.specs.Stores.{Held}
 use Rattle.cache_shards.specs.Marks.{marks_of, all_marks}
 use Rattle.cache_shards.proofs.StoreLaws.{exact, StoreShows, looked_shows, found_in, hit_shows, put_shows}

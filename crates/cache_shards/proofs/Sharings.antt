@@ -4,8 +4,11 @@ use mir.Syntax.{Dict}
 use denote.RattleType.{RattleType}
 use denote.Param.Send.{IsSend, IsSync, sendable}
 use denote.Param.SendFields.{declared_send, declared_sync}
-use Rattle.std.proofs.Crossing.{crosses, Box-send, Vec-send, Vec-sync}
-use Rattle.ruled_lock.proofs.Crossings.{seat_send, lock_sync}
+use Rattle.std.proofs.Crossing.{crosses, frees, Box-send, Vec-send, Vec-sync}
+use Rattle.atomic_table.proofs.shared.Shared.TheSendSync as shared
+use Rattle.atomic_table.proofs.send_lease.SendLease.TheSendSync as lease
+use Rattle.ruled_lock.proofs.Crossings.{kept_send, seat_send, lock_sync}
+use Rattle.ruled_lock.specs.contracts.locked.Locked as Locked
 use Rattle.cache_shards.specs.declared.judge.Judge.{Ghosts}
 use Rattle.cache_shards.specs.contracts.calls.ShardCall as ShardCall
 use Rattle.cache_shards.specs.contracts.calls.ShardReply as ShardReply
@@ -46,3 +49,16 @@ module _ (J : RattleType) (g : Ghosts J.Denot) (t : Dict) where
 
   pub cache_sync : IsSync (Cache.the_row J g)
   cache_sync = search (fields_sync, sendable) depth 5
+
+  lock_send : IsSend (Locked.the_row (Shard.the_row J) ShardCall.the_row ShardReply.the_row (object.ghosts J g t))
+  lock_send = declared_send (Locked.the_type (Shard.the_row J) ShardCall.the_row ShardReply.the_row (object.ghosts J g t))
+      (search (sendable, crosses, shared.the_send, lease.the_send, kept_send, shard_send, frees) depth 30, tt)
+
+  fields_send : IsSend (Inside.the_row J g)
+  fields_send = declared_send (Inside.the_type J g) (
+    search (sendable, crosses) depth 20,
+    (search (sendable, crosses) depth 20, (search (sendable, crosses) depth 20, (Vec-send _ lock_send, tt))),
+  )
+
+  pub cache_send : IsSend (Cache.the_row J g)
+  cache_send = search (fields_send, sendable) depth 5

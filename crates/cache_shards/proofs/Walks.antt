@@ -1,13 +1,13 @@
 -- Walks along a chain of slots.
-use Rattle.std.proofs.Common.{◌≡◌, ◌≢◌, ℕ, zero, suc, ◌+◌, ◌-◌, ◌*◌, ◌/◌, ◌%◌, ◌^◌, ◌<◌, ◌≤◌, Bool, true, false, List, [], ◌∷◌, ◌++◌, length, refl, inl, inr, sym, ap, subst, ◌∙◌, arith, Some, append-nil, append_assoc}
+use Rattle.std.proofs.Common.{◌≡◌, ◌≢◌, ℕ, ◌-◌, ◌*◌, ◌/◌, ◌%◌, ◌^◌, ◌<◌, ◌≤◌, false, List, [], ◌∷◌, ◌++◌, length, refl, inl, inr, sym, ap, subst, ◌∙◌, arith, Some, append-nil, append_assoc}
 use Rattle.std.specs.Prelude.{◌⊎◌, slice_index, slice_get}
 use Rattle.std.proofs.Math.Nat.{div-lt_iff_lt-mul, mul-lt-mul_of_pos_right}
 use Rattle.outside.specs.{same_key}
 use Rattle.outside.specs.declared.entry.Key.{Key}
 use Rattle.slot_lists.specs.Links.{Leads, IsIn, Once, walked}
-use Rattle.slot_lists.proofs.Links.{below, in_middle, in_back}
+use Rattle.slot_lists.proofs.Links.{in_middle, in_back}
 use Rattle.slot_lists.proofs.Chained.{told}
-use Rattle.cache_shards.specs.Slots.{Pair, AreOthers, IsChainOf, IsWalk, chain_of, place_of, place_at}
+use Rattle.cache_shards.specs.Slots.{Pair, AreOthers, IsChainOf, IsWalk, chain_of}
 
 -- the chain of a hash is one of so many
 pub chain_low : (hash room : ℕ) → 0 < room → chain_of hash room < room

@@ -8,7 +8,6 @@ use Rattle.outside.specs.{EntryData}
 use Rattle.outside.specs.Keys.{shard_of}
 use Rattle.outside.specs.declared.entry.Key.{Key}
 use Rattle.outside.specs.declared.mark.Mark.{Mark}
-use Rattle.outside.specs.declared.mark.Mark.TheVariants as mark
 use Rattle.ruled_lock.specs.declared.rule.View.{View}
 use Rattle.ruled_lock.specs.declared.seat.SeatOf.{SeatOf}
 use Rattle.ruled_lock.specs.Histories.{Begins}

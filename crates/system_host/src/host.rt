@@ -1,6 +1,7 @@
 ghost use Rattle.std.specs.Prelude.{None};
 
 use crate::endpoint::{Apart, Endpoint, Unopened};
+use crate::random_word::word_of;
 use crate::threads::can_run;
 use crate::watch::FileWatch;
 use dns_data::Transport;
@@ -98,6 +99,10 @@ impl<
         say(&self.rt, self.alloc, &line);
         count(&mut self.open_faults);
         Err(OpenFault::Failed)
+    }
+
+    fn word(&mut self) -> u64 {
+        word_of(&self.rt)
     }
 
     fn tell(&mut self, line: &[u8]) -> Wrote {

@@ -5,6 +5,7 @@
 mod endpoint;
 mod given;
 mod host;
+mod random_word;
 mod reading;
 mod threads;
 mod watch;

@@ -1,5 +1,6 @@
 ghost use Rattle.std.specs.Prelude.{◌≡◌, None};
 
+use crate::random_word::word_of;
 use crate::reading::{Unread, read_regular};
 use dns_data::{Bytes, Copies, Text};
 use edge_net::{Crew, count};
@@ -50,11 +51,10 @@ impl<R: Wait + Files + Clock + RandomSource + Eprint + Drop> FileWatch<R> {
 
     // A number below the limit, of the system's random source; 0 where that fails.
     fn below(&self, limit: u64) -> u64 {
-        let mut bytes = [0u8; 8];
-        if limit == 0 || self.rt.fill_bytes(&mut bytes).is_err() {
+        if limit == 0 {
             return 0;
         }
-        u64::from_ne_bytes(bytes) % limit
+        word_of(&self.rt) % limit
     }
 }
 

@@ -1,7 +1,6 @@
-use Rattle.std.proofs.Common.{◌≡◌, ℕ, ◌-◌, ◌<◌, length, subst, sym, ap, ◌∙◌, arith, Some, true, false}
-use Rattle.std.specs.Prelude.{slice_index, slice_get}
+use Rattle.std.proofs.Common.{◌≡◌, ℕ, ◌-◌, ◌<◌, length, subst, sym, ap, ◌∙◌, arith, Some}
+use Rattle.std.specs.Prelude.{slice_index}
 use Rattle.std.proofs.lemmas.Option.{slice_get-get_or}
-use Rattle.outside.specs.{same_key}
 use Rattle.slot_lists.specs.Links.{walked}
 use Rattle.cache_shards.specs.Slots.{IsWalk}
 use Rattle.cache_shards.proofs.Walks.{here, walk_steps, walk_shrinks, walk_ends}

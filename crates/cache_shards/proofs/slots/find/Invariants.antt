@@ -1,4 +1,4 @@
-use Rattle.std.proofs.Common.{ℕ, length}
+use Rattle.std.proofs.Common.{length}
 use Rattle.slot_lists.specs.Links.{walked}
 use Rattle.cache_shards.specs.Slots.{IsWalk}
 use Rattle.cache_shards.proofs.slots.find.Given as goal

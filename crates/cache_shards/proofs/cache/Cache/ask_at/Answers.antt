@@ -1,4 +1,4 @@
-use Rattle.std.proofs.Common.{◌≡◌, ◌∙◌, ◌<◌, Some, slice_get, length, arith}
+use Rattle.std.proofs.Common.{◌<◌, length, arith}
 use Rattle.std.proofs.lemmas.Option.{slice_get_read}
 use Rattle.cache_shards.proofs.SeatLists.{same_length, seat_at, seats_set, adds_set}
 use Rattle.cache_shards.proofs.cache.Cache.ask_at.Goals as goal

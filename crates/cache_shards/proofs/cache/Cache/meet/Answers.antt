@@ -1,4 +1,4 @@
-use Rattle.std.proofs.Common.{◌≡◌, ◌∙◌, ◌≤◌, ◌<◌, ◌++◌, ◌∷◌, [], take, length, length-append, option_to_list, arith}
+use Rattle.std.proofs.Common.{◌≡◌, ◌∙◌, ◌++◌, ◌∷◌, [], take, length, length-append, option_to_list, arith}
 use Rattle.std.proofs.Common.{sym, subst, ap}
 use Rattle.cache_shards.specs.Seats.{AreSeats, view_of, views_of}
 use Rattle.cache_shards.proofs.SeatLists.{MetBehind, none_met, last_seat, seats_less, met_next, map_snoc, take_whole}

@@ -1,4 +1,4 @@
-use Rattle.std.proofs.Common.{◌≡◌, ◌≤◌, take, length}
+use Rattle.std.proofs.Common.{◌≤◌, take, length}
 use Rattle.cache_shards.specs.Seats.{IsSeatOf, AreSeats, views_of}
 use Rattle.cache_shards.proofs.SeatLists.{MetBehind}
 use Rattle.cache_shards.proofs.cache.Cache.meet.Given as goal

@@ -1,6 +1,5 @@
-use Rattle.std.proofs.Common.{Some, slice_get, arith, subst, sym}
-use Rattle.std.proofs.lemmas.Option.{same_Some}
-use Rattle.cache_shards.specs.Seats.{IsSeat, view_of, views_of}
+use Rattle.std.proofs.Common.{arith}
+use Rattle.cache_shards.specs.Seats.{view_of}
 use Rattle.cache_shards.proofs.SeatLists.{same_length, placed, seat_placed, seat_set, view_at, views_set, one_id}
 use Rattle.cache_shards.proofs.cache.Cache.meet_at.Goals as goal
 

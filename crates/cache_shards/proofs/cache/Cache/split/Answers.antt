@@ -1,7 +1,7 @@
-use Rattle.std.proofs.Common.{◌≡◌, ◌∙◌, ◌≤◌, ◌+◌, map, take, length, arith, sym, subst, ap}
+use Rattle.std.proofs.Common.{◌≡◌, ◌∙◌, ◌≤◌, ◌+◌, map, take, arith, sym, subst, ap}
 use Rattle.ruled_lock.specs.Steps.{right_view}
 use Rattle.cache_shards.specs.Seats.{AreSeats, views_of}
-use Rattle.cache_shards.proofs.SeatLists.{cut_parts, cut_left, cut_right, cut_seats, cut_done, take_whole}
+use Rattle.cache_shards.proofs.SeatLists.{cut_left, cut_right, cut_seats, cut_done, take_whole}
 use Rattle.cache_shards.proofs.SeatLists.{length_views, length_others}
 use Rattle.cache_shards.proofs.cache.Cache.split.Goals as goal
 

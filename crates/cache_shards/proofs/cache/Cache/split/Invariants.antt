@@ -1,4 +1,4 @@
-use Rattle.std.proofs.Common.{◌≡◌, ◌≤◌, map, take, length}
+use Rattle.std.proofs.Common.{◌≡◌, ◌≤◌, map, take}
 use Rattle.std.specs.Vec.{vec_len, vec_capacity}
 use Rattle.ruled_lock.specs.Steps.{left_view, right_view}
 use Rattle.cache_shards.specs.Seats.{IsSeatOf, AreSeats, views_of}

@@ -1,4 +1,4 @@
-use Rattle.std.proofs.Common.{◌≡◌, ◌≤◌, ◌+◌, arith, sym, subst}
+use Rattle.std.proofs.Common.{◌≤◌, arith, sym, subst}
 use Rattle.std.specs.NonZero.{non_zero_usize_get}
 use Rattle.cache_shards.specs.Answers.{capacities_of}
 use Rattle.cache_shards.specs.Seats.{IsSeat}

@@ -1,17 +1,17 @@
-use Rattle.std.proofs.Common.{◌≡◌, ℕ, ◌-◌, ◌<◌, ◌∷◌, ◌++◌, length, subst, sym, ap, ◌∙◌, arith, None, Some, refl, cond, Bool, true, false, List}
-use Rattle.std.specs.Prelude.{slice_get, slice_index}
+use Rattle.std.proofs.Common.{◌≡◌, ◌-◌, ◌<◌, length, subst, sym, ap, ◌∙◌, arith, None, Some, refl, cond, Bool, true, false, List}
+use Rattle.std.specs.Prelude.{slice_index}
 use Rattle.std.specs.Arc.{arc_value}
 use Rattle.std.proofs.lemmas.Option.{slice_get-get_or, slice_get_within}
 use Rattle.lru.specs.LruCache.{lru_cache}
 use Rattle.outside.specs.{EntryData}
 use Rattle.slot_lists.specs.Links.{IsIn, walked}
-use Rattle.slot_lists.specs.Rings.{OrderData, order_data}
+use Rattle.slot_lists.specs.Rings.{OrderData}
 use Rattle.slot_lists.proofs.Links.{in_middle}
 use Rattle.cache_shards.specs.Answers.{is_live}
 use Rattle.cache_shards.specs.Steps.{live_in, promoted_in}
 use Rattle.cache_shards.specs.Stores.{StoreData}
-use Rattle.cache_shards.specs.Slots.{Pair, IsChainOf, IsPairOf, AreOthers, IsStore, shown}
-use Rattle.cache_shards.proofs.Keeping.{Placed, place_low, chain_is, none_live, placed_at, live_is, fronted, promoted_is}
+use Rattle.cache_shards.specs.Slots.{Pair, IsPairOf, AreOthers, IsStore, shown}
+use Rattle.cache_shards.proofs.Keeping.{place_low, chain_is, none_live, placed_at, live_is, fronted, promoted_is}
 use Rattle.cache_shards.proofs.store.Store.look.Goals as goal
 
 pub find-requires-clause-at : goal.find-requires-clause-at

@@ -1,8 +1,7 @@
-use Rattle.std.proofs.Common.{◌≡◌, ℕ, ◌+◌, ◌-◌, ◌<◌, ◌≤◌, ◌∷◌, ◌++◌, [], length, subst, sym, ap, ◌∙◌, arith, Some, refl, List}
+use Rattle.std.proofs.Common.{◌≡◌, ℕ, ◌+◌, ◌-◌, ◌<◌, ◌≤◌, ◌∷◌, ◌++◌, [], length, subst, sym, ap, ◌∙◌, arith, Some, List}
 use Rattle.std.specs.Prelude.{slice_get, slice_index, slice_set}
 use Rattle.std.proofs.lemmas.Option.{slice_get-get_or, slice_get_within}
 use Rattle.lru.specs.LruCache.{lru_cache}
-use Rattle.outside.specs.declared.entry.Key.{Key}
 use Rattle.slot_lists.specs.Links.{IsIn, walked}
 use Rattle.slot_lists.specs.Rings.{OrderData, order_data}
 use Rattle.slot_lists.specs.Chained.{IsChainWith, IsCut}
@@ -10,7 +9,7 @@ use Rattle.slot_lists.proofs.Links.{in_middle}
 use Rattle.slot_lists.proofs.Chained.{chain_with}
 use Rattle.cache_shards.specs.Steps.{put_in}
 use Rattle.cache_shards.specs.Stores.{StoreData}
-use Rattle.cache_shards.specs.Slots.{Pair, IsChainOf, IsPairOf, AreOthers, IsStore, shown, place_at, place_of}
+use Rattle.cache_shards.specs.Slots.{Pair, IsPairOf, AreOthers, IsStore, shown, place_at}
 use Rattle.cache_shards.proofs.Keeping.{place_low, place_is, chain_is, missing, in_use, placed_at, fronted, renewed, again_is, grown, more_is, cut_lengths, replaced, over_is}
 use Rattle.cache_shards.proofs.store.Store.put.Goals as goal
 

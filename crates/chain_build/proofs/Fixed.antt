@@ -1,12 +1,21 @@
 -- A directive without patterns is never refused for one, so reading it leaves the maker as it was.
 use Rattle.std.proofs.Common.{◌≡◌, ℕ, Bool, true, false, List, [], ◌∷◌, Option, None, Some, Result, Ok, Err, refl, subst, if◌then◌else◌}
-use Rattle.std.specs.Prelude.{is_some, nat_le, ◌+◌, ◌++◌, length, ◌||◌}
+use Rattle.std.specs.Prelude.{codes, is_some, nat_le, not, option_map, ◌+◌, ◌++◌, length, ◌||◌, ◌&&◌}
 use Rattle.std.specs.Option.{option_or}
 use Rattle.acl_plugin.specs.Acl.{acl_fault, body_fault, lines_fault as policies_fault}
 use Rattle.acl_plugin.specs.Lines as acl
 use Rattle.acl_plugin.specs.Lines.{line_why as policy_why}
 use Rattle.acl_plugin.specs.declared.part.Part.{Part}
 use Rattle.acl_plugin.specs.declared.part.Part.TheVariants as part
+use Rattle.cache_rules.specs.Reading as cache
+use Rattle.cache_rules.specs.Reading.{cache_fault}
+use Rattle.cache_rules.specs.Options as caching
+use Rattle.cache_rules.specs.Options.{is_digits}
+use Rattle.cache_rules.specs.declared.options.Choice.{Choice}
+use Rattle.cache_rules.specs.declared.options.Choice.TheVariants as choices
+use Rattle.cache_rules.specs.declared.options.Opens.{Opens as CacheOpens}
+use Rattle.cache_rules.specs.declared.options.Opens.TheVariants as words
+use Rattle.cache_rules.specs.declared.options.Seen.{Seen as CacheSeen}
 use Rattle.dns_data.specs.{addr_of, net_of}
 use Rattle.dns_data.specs.declared.directive.Directive.{Directive}
 use Rattle.dns_data.specs.declared.directive.Line.{Line}
@@ -42,7 +51,7 @@ use Rattle.plain_plugins.specs.Plain as plain
 use Rattle.plain_plugins.specs.Plain.{plain_fault}
 use Rattle.plain_plugins.specs.Reload.{duration_why, reload_why}
 use Rattle.numbers.specs.{duration_of}
-use Rattle.plugin_api.specs.{empty_why, fallthrough_why, fault_at, unless}
+use Rattle.plugin_api.specs.{empty_why, fallthrough_why, fault_at, unless, words_behind}
 use Rattle.plugin_api.specs.Options.{every_zone}
 use Rattle.plugin_api.specs.declared.fault.DirectiveFault.{DirectiveFault}
 use Rattle.plugin_api.specs.declared.fault.DirectiveFault.TheVariants as fault
@@ -158,6 +167,62 @@ hosts_no d zones =
     let words = unless (is_some (zones_behind zones d.args)) why.Zone in
     fault_or (fault_at d.line words) (hosts.lines_fault hosts.none_seen d.body) (at d.line words (why_if (is_some (zones_behind zones d.args)) None (Some why.Zone) tt tt)) (lines_no hosts.none_seen d.body)
 
+-- cache
+cache_ttl_no : (words : List (List ℕ)) → NoWhy (cache.ttl_why words)
+cache_ttl_no [] = tt
+cache_ttl_no (word ∷ words) = why_if (is_digits word && not (is_some (caching.ttl_in word))) (Some why.Number) None tt tt
+
+cache_least_no : (words : List (List ℕ)) → NoWhy (cache.least_why words)
+cache_least_no [] = tt
+cache_least_no (word ∷ words) = why_or (unless (is_some (caching.ttl_in word)) why.Number) (empty_why words) (why_if (is_some (caching.ttl_in word)) None (Some why.Number) tt tt) (empty_no words)
+
+cache_times_no : (words : List (List ℕ)) → NoWhy (cache.times_why words)
+cache_times_no [] = tt
+cache_times_no (word ∷ words) = why_or (unless (is_some (caching.ttl_in word)) why.Number) (cache.least_why words) (why_if (is_some (caching.ttl_in word)) None (Some why.Number) tt tt) (cache_least_no words)
+
+cache_class_no : (words : List (List ℕ)) → NoWhy (cache.class_why words)
+cache_class_no [] = tt
+cache_class_no (word ∷ words) = why_or (unless (is_some (caching.capacity_in word)) why.Number) (cache.times_why words) (why_if (is_some (caching.capacity_in word)) None (Some why.Number) tt tt) (cache_times_no words)
+
+cache_servfail_no : (words : List (List ℕ)) → NoWhy (cache.servfail_why words)
+cache_servfail_no [] = tt
+cache_servfail_no (word ∷ words) = why_or (unless (is_some (caching.seconds_in word)) why.Number) (empty_why words) (why_if (is_some (caching.seconds_in word)) None (Some why.Number) tt tt) (empty_no words)
+
+cache_choice_no : (seen : CacheSeen) (choice : Choice) (words : List (List ℕ)) → NoWhy (cache.choice_why seen choice words)
+cache_choice_no seen choices.Success words = why_if seen.no_success (Some why.Args) (empty_why words) tt (empty_no words)
+cache_choice_no seen choices.Denial words = why_if seen.no_denial (Some why.Args) (empty_why words) tt (empty_no words)
+cache_choice_no seen choices.Neither words = tt
+
+cache_disable_no : (seen : CacheSeen) (words : List (List ℕ)) → NoWhy (cache.disable_why seen words)
+cache_disable_no seen [] = tt
+cache_disable_no seen (word ∷ words) = cache_choice_no seen (caching.choice_of word) words
+
+cache_by_no : (seen : CacheSeen) (o : CacheOpens) (rest : List (List ℕ)) → NoWhy (cache.why_by seen o rest)
+cache_by_no seen words.Success rest = why_if seen.success (Some why.Args) (cache.class_why rest) tt (cache_class_no rest)
+cache_by_no seen words.Denial rest = why_if seen.denial (Some why.Args) (cache.class_why rest) tt (cache_class_no rest)
+cache_by_no seen words.Servfail rest = why_if seen.servfail (Some why.Args) (cache.servfail_why rest) tt (cache_servfail_no rest)
+cache_by_no seen words.Disable rest = cache_disable_no seen rest
+cache_by_no seen words.Keepttl rest = why_if seen.keepttl (Some why.Args) (empty_why rest) tt (empty_no rest)
+cache_by_no seen words.Nothing rest = tt
+
+cache_line_no : (seen : CacheSeen) (words : List (List ℕ)) → NoWhy (cache.line_why seen words)
+cache_line_no seen [] = tt
+cache_line_no seen (word ∷ words) = cache_by_no seen (caching.opened word) words
+
+cache_lines_no : (seen : CacheSeen) (lines : List Line) → NoFault (cache.lines_fault seen lines)
+cache_lines_no seen [] = tt
+cache_lines_no seen (line ∷ lines) =
+    fault_or (fault_at line.number (cache.line_why seen line.words)) (cache.lines_fault (cache.seen_behind seen line.words) lines) (at line.number (cache.line_why seen line.words) (cache_line_no seen line.words))
+    (cache_lines_no (cache.seen_behind seen line.words) lines)
+
+cache_no : (d : Directive) (zones : List (List (List ℕ))) → NoFault (cache_fault d zones)
+unfolding cache_fault
+cache_no d zones =
+    let words = cache.words_why zones d.args in
+    fault_or (fault_at d.line words) (cache.lines_fault cache.none_seen d.body)
+    (at d.line words (why_or (cache.ttl_why d.args) (unless (is_some (cache.zones_behind zones d.args)) why.Zone) (cache_ttl_no d.args) (why_if (is_some (cache.zones_behind zones d.args)) None (Some why.Zone) tt tt)))
+    (cache_lines_no cache.none_seen d.body)
+
 -- those without a body
 duration_no : (word : List ℕ) → NoWhy (duration_why word)
 duration_no word = why_if (is_some (duration_of word)) None (Some why.Number) tt tt
@@ -198,9 +263,9 @@ file_or : (a b : Option FileFault) → NoFile a → NoFile b → NoFile (option_
 file_or None b p q = q
 file_or (Some w) b p q = p
 
-file_at : (line : ℕ) (o : Option DirectiveWhy) → NoWhy o → NoFile (file.fault_at line o)
-file_at line None p = tt
-file_at line (Some w) p = p
+file_at : (o : Option DirectiveFault) → NoFault o → NoFile (option_map broken.Directive o)
+file_at None p = tt
+file_at (Some f) p = p
 
 told_no : (line : ℕ) (f : ZoneFault) → NoFile (Some (file.told_at line f))
 told_no line (zone.Bad number w) = tt
@@ -219,18 +284,28 @@ file_words_no : (zones : List (List (List ℕ))) (words : List (List ℕ)) → N
 file_words_no zones [] = tt
 file_words_no zones (word ∷ words) = why_if (is_some (origins_or zones (word ∷ words))) None (Some why.Zone) tt tt
 
-file_body_no : (lines : List Line) → NoWhy (file.body_why lines)
-file_body_no [] = tt
-file_body_no (line ∷ lines) = tt
+file_line_no : (seen : Bool) (words : Option (List (List ℕ))) → NoWhy (file.line_by seen words)
+file_line_no seen None = tt
+file_line_no seen (Some words) = why_if seen (Some why.Args) (fallthrough_why words) tt (why_if (is_some (zones_or every_zone words)) None (Some why.Zone) tt tt)
+
+file_lines_no : (seen : Bool) (lines : List Line) → NoFault (file.lines_fault seen lines)
+file_lines_no seen [] = tt
+file_lines_no seen (line ∷ lines) =
+    fault_or (fault_at line.number (file.line_why seen line.words)) (file.lines_fault true lines)
+    (at line.number (file.line_why seen line.words) (file_line_no seen (words_behind (codes "fallthrough") line.words))) (file_lines_no true lines)
 
 file_no : (before : List FileData) (d : Directive) (zones : List (List (List ℕ))) (text : Option (List ℕ)) → NoFile (file_fault before d zones text)
 unfolding file_fault
 file_no before d zones text =
     let origins = origins_of zones d.args in
-    file_or (file.fault_at d.line (file.directive_why before d zones)) (file.text_fault d.line origins text)
-    (file_at d.line (file.directive_why before d zones)
-    (why_or (option_or (file.words_why zones d.args) (file.body_why d.body)) (file.double_why before origins) (why_or (file.words_why zones d.args) (file.body_why d.body) (file_words_no zones d.args) (file_body_no d.body))
-    (why_if (file.some_has before origins) (Some why.DoubleZone) None tt tt)))
+    let words = fault_at d.line (file.words_why zones d.args) in
+    let lines = file.lines_fault false d.body in
+    let double = file.double_why before origins in
+    file_or (option_map broken.Directive (file.directive_fault before d zones)) (file.text_fault d.line origins text)
+    (file_at (file.directive_fault before d zones)
+    (fault_or (option_or words lines) (fault_at d.line double)
+    (fault_or words lines (at d.line (file.words_why zones d.args) (file_words_no zones d.args)) (file_lines_no false d.body))
+    (at d.line double (why_if (file.some_has before origins) (Some why.DoubleZone) None tt tt))))
     (text_no d.line origins text)
 
 -- forward
@@ -348,7 +423,7 @@ fixed_no rank.Hosts b d = refused_no (hosts_fault d b.context.zones) (hosts_no d
 fixed_no rank.File b d = refused_file_no _ (file_no _ d b.context.zones (file_in b.context.files d))
 fixed_no rank.Dns64 b d = refl
 fixed_no rank.Extra b d = refl
-fixed_no rank.Cache b d = refl
+fixed_no rank.Cache b d = refused_no (cache_fault d b.context.zones) (cache_no d b.context.zones)
 fixed_no rank.Forward b d = refused_no (forward_fault d b.context.files) (forward_no d b.context.files)
 fixed_no other b d = refused_no (plain_fault other d b.context.zones) (plain_fault_no other d b.context.zones)
 

@@ -10,5 +10,6 @@ pub mod OneForward
 pub mod Parts
 pub mod Pooled
 pub mod Logging
-pub mod PlacesOfPools
+pub mod PlacesOfParts
 pub mod LoggedWalks
+pub mod CachedWalks

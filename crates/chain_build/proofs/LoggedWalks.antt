@@ -20,7 +20,7 @@ use Rattle.forward_plugin.specs.{ForwardData, Forwards, SameBut, calls_by, forwa
 use Rattle.forward_plugin.specs.Taking.{said_of}
 use Rattle.forward_plugin.specs.declared.pool_use.PoolUse.{PoolUse}
 use Rattle.forward_plugin.specs.declared.say.ForwardSay.{ForwardSay}
-use Rattle.one_history.specs.Shared.{calls_in}
+use Rattle.one_history.specs.Shared.{Logged, cache_calls_in, pool_calls_in}
 use Rattle.outside.specs.Marks.{noted}
 use Rattle.outside.specs.States.{Stays}
 use Rattle.outside.specs.declared.datagram.Wrote.{Wrote}
@@ -38,14 +38,17 @@ use Rattle.chain_build.specs.declared.ended.Ended.TheVariants as end
 use Rattle.plugin_api.specs.{Sayings}
 use Rattle.rewrite_plugin.specs.{changed_by}
 use Rattle.rewrite_plugin.specs.declared.plan_data.Changed.{Changed}
-use Rattle.chain_meaning.specs.Called.{pool_in}
+use Rattle.chain_meaning.specs.Called.{CallNumbers, numbers_in, pool_in}
+use Rattle.cache_plugin.specs.{UseData}
+use Rattle.chain_build.specs.declared.block_uses.BlockUses.{BlockUses}
+use Rattle.chain_build.specs.declared.judge.CacheJudge.{CacheJudge}
 use Rattle.chain_meaning.specs.declared.decision.Decision.{Decision}
 use Rattle.chain_meaning.specs.Mean.{answer_of, error_noted, forward_answer, forward_answered, mean, or_rest, outcome_of, query_noted, reply_restored, take_note}
 use Rattle.chain_meaning.specs.MeanLaws.{answer_nothing, mean_nothing, or_rest_nothing}
 use Rattle.chain_meaning.specs.Steps.{Answerer, Forward, Step, Others, extra_steps}
-use Rattle.chain_build.specs.Compiled.{back_of, back_steps, front_of, whole_by}
-use Rattle.chain_build.specs.LoggedWalks.{AsksBy, AskState, TakesBy, TakesQuietly, TakeState, asking, taking}
-use Rattle.chain_build.specs.Logs.{Logged, pool_logs}
+use Rattle.chain_build.specs.Compiled.{back_of, back_steps, front_of}
+use Rattle.chain_build.specs.LoggedWalks.{AsksBy, AskState, TakesBy, TakesQuietly, TakeState, UsesLogged, asking, taking}
+use Rattle.chain_build.specs.Logs.{pool_logs, shard_logs}
 use Rattle.chain_build.specs.Pools.{HasLoneForward, HasNoForward}
 use Rattle.chain_build.specs.Walking.{Answered, Restored, answered, decided, decision_of}
 use Rattle.chain_build.specs.declared.block_chain.BackAnswerer.{BackAnswerer}
@@ -54,12 +57,12 @@ use Rattle.chain_build.specs.declared.block_chain.FrontAnswerer.TheVariants as b
 use Rattle.chain_build.specs.declared.block_chain.FrontStep.{FrontStep}
 use Rattle.chain_build.specs.declared.block_chain.FrontStep.TheVariants as front
 use Rattle.chain_build.specs.declared.ended.Ended.{Ended}
-use Rattle.chain_build.proofs.Logging.{calls_then, inners_then, logged_any, logged_as, logged_by, logged_forward, logged_nothing, logged_quiet, logged_then}
+use Rattle.chain_build.proofs.Logging.{calls_then, inners_apart, inners_then, logged_any, logged_as, logged_by, logged_forward, logged_nothing, logged_quiet, logged_then, shards_then}
 use Rattle.chain_build.proofs.Walks.{decided-err, others}
 
 -- the calls that inner marks tell, one after another
-behind_logged : (number : Option ℕ) (a b : List InnerMark) {x y z : List (List Mark)} → Logged number (calls_in (map Inner a)) x y → Logged number (calls_in (map Inner b)) y z
-    → Logged number (calls_in (map Inner (a ++ b))) x z
+behind_logged : (number : Option ℕ) (a b : List InnerMark) {x y z : List (List Mark)} → Logged number (pool_calls_in (map Inner a)) x y → Logged number (pool_calls_in (map Inner b)) y z
+    → Logged number (pool_calls_in (map Inner (a ++ b))) x z
 behind_logged number a b p q = logged_as number (sym (inners_then a b)) (logged_then number p q)
 
 -- the same under other names
@@ -180,19 +183,19 @@ behind_rules_pool [] back q h = absurd (omega (arith, h))
 behind_rules_pool (d ∷ ds) back q h = refl
 
 -- whatever stands in front of them, and extras, take none
-pub front_pool : (front : List FrontStep) (behind : List Step) (q : Query) → pool_in (map front_of front ++ behind) q ≡ pool_in behind q
-front_pool [] behind q = refl
-front_pool (front.Errors ∷ steps) behind q = front_pool steps behind q
-front_pool (front.Log plan ∷ steps) behind q = front_pool steps behind q
-front_pool (front.Answers (before.Acl plans) ∷ steps) behind q = front_pool steps behind q
-front_pool (front.Answers before.Any ∷ steps) behind q = front_pool steps behind q
+front_numbers : (front : List FrontStep) (behind : List Step) (q : Query) → numbers_in (map front_of front ++ behind) q ≡ numbers_in behind q
+front_numbers [] behind q = refl
+front_numbers (front.Errors ∷ steps) behind q = front_numbers steps behind q
+front_numbers (front.Log plan ∷ steps) behind q = front_numbers steps behind q
+front_numbers (front.Answers (before.Acl plans) ∷ steps) behind q = front_numbers steps behind q
+front_numbers (front.Answers before.Any ∷ steps) behind q = front_numbers steps behind q
 
-extras_pool : (said : Sayings) (ds : List Directive) (behind : List Step) (q : Query) → pool_in (extra_steps said ds ++ behind) q ≡ pool_in behind q
-extras_pool said [] behind q = refl
-extras_pool said (d ∷ ds) behind q = extras_pool said ds behind q
+extras_numbers : (said : Sayings) (ds : List Directive) (behind : List Step) (q : Query) → numbers_in (extra_steps said ds ++ behind) q ≡ numbers_in behind q
+extras_numbers said [] behind q = refl
+extras_numbers said (d ∷ ds) behind q = extras_numbers said ds behind q
 
-pub whole_pool : (said : Sayings) (front : List FrontStep) (extras ds : List Directive) (back : List BackAnswerer) (q : Query) → pool_in (back_steps ds back) q ≡ pool_in (whole_by said front extras ds back) q
-whole_pool said front extras ds back q = sym (front_pool front (extra_steps said extras ++ back_steps ds back) q ∙ extras_pool said extras (back_steps ds back) q)
+pub whole_numbers : (said : Sayings) (front : List FrontStep) (extras : List Directive) (inner : List Step) (q : Query) → numbers_in inner q ≡ numbers_in (map front_of front ++ (extra_steps said extras ++ inner)) q
+whole_numbers said front extras inner q = sym (front_numbers front (extra_steps said extras ++ inner) q ∙ extras_numbers said extras inner q)
 
 -- a plugin that takes no marks
 answered_so : (number : Option ℕ) (plugin : Answerer) (q : Query) (old new : AnswerData) (r : Result (Option Ended) NoMemory) {s : SideState} {k : Kept} {uses : List PoolUse}
@@ -259,64 +262,84 @@ pub restored_by : (number : Option ℕ) (ds : List Directive) (changed : Changed
 restored_by number ds changed v slot result {s} {k} {l} {uses} h same =
     subst (λ (x : Kept). AsksBy number (reply_restored ds changed v) (decided result slot) (asking s k uses) (asking s x uses)) (sym same) (restores_by number ds changed v slot result h)
 
--- what asks takes
-pub takes_by : {A : Type 0} {number : Option ℕ} {means : List Mark → Meaning A} {result : Result A NoMemory} {s t : SideState} {k l : Kept} {old new : List PoolUse}
-    → AsksBy number means result (asking s k old) (asking t l new) → TakesBy number means result (taking s old) (taking t new)
-takes_by p = record { takes = record { marks = map Inner p.asks.inners; told = p.asks.told; stays = p.asks.stays; took = p.asks.took }; logged = p.logged }
+-- what is logged of two kinds
+uses_nothing : (numbers : CallNumbers) (uses : BlockUses) → UsesLogged numbers [] uses uses
+uses_nothing numbers uses = record { pools = logged_nothing numbers.pool (pool_logs uses.pools); shards = logged_nothing numbers.shard (shard_logs uses.cache) }
 
-pub tb_as : {A : Type 0} {number other : Option ℕ} (means same : List Mark → Meaning A) {result : Result A NoMemory} {old new : TakeState} → number ≡ other → ((marks : List Mark) → same marks ≡ means marks)
-    → TakesBy number means result old new → TakesBy other same result old new
-tb_as means same {result = result} is so p = record {
-  takes = record { marks = p.takes.marks; told = p.takes.told; stays = p.takes.stays; took = took-as means same result p.takes.marks so p.takes.took };
-  logged = logged_by is p.logged;
+pub uses_then : (numbers : CallNumbers) (a b : List Mark) {x y z : BlockUses} → UsesLogged numbers a x y → UsesLogged numbers b y z → UsesLogged numbers (a ++ b) x z
+uses_then numbers a b p q = record {
+  pools = logged_as numbers.pool (sym (calls_then a b)) (logged_then numbers.pool p.pools q.pools);
+  shards = logged_as numbers.shard (sym (shards_then a b)) (logged_then numbers.shard p.shards q.shards);
 }
 
-pub tb_nothing : {A : Type 0} (number : Option ℕ) (means : List Mark → Meaning A) {v : A} {s : SideState} {uses : List PoolUse} → ((left : List Mark) → means left ≡ Done v left)
-    → TakesBy number means (Ok v) (taking s uses) (taking s uses)
-tb_nothing number means {s = s} {uses = uses} so =
-    record { takes = record { marks = []; told = adds-nothing s; stays = stays-nothing s; took = so }; logged = logged_nothing number (pool_logs uses) }
+uses_quiet : (numbers : CallNumbers) (marks : List Mark) (uses : BlockUses) → pool_calls_in marks ≡ [] → cache_calls_in marks ≡ [] → UsesLogged numbers marks uses uses
+uses_quiet numbers marks uses p c = record {
+  pools = logged_quiet numbers.pool (pool_calls_in marks) (pool_logs uses.pools) p;
+  shards = logged_quiet numbers.shard (cache_calls_in marks) (shard_logs uses.cache) c;
+}
 
-pub tb_starved : {A : Type 0} (number : Option ℕ) (means : List Mark → Meaning A) {result : Result A NoMemory} {s : SideState} {uses : List PoolUse} → IsErr result → Starved (means [])
-    → TakesBy number means result (taking s uses) (taking s uses)
-tb_starved number means {result = Ok v} fails starved = absurd cc
-tb_starved number means {result = Err e} {s = s} {uses = uses} fails starved =
-    record { takes = record { marks = []; told = adds-nothing s; stays = stays-nothing s; took = starved }; logged = logged_nothing number (pool_logs uses) }
+-- what asks takes
+pub takes_by : {A : Type 0} {number : Option ℕ} {means : List Mark → Meaning A} {result : Result A NoMemory} {s t : SideState} {k l : Kept} {old new : List PoolUse} (shard : Option ℕ) (cache : Option (UseData CacheJudge))
+    → AsksBy number means result (asking s k old) (asking t l new)
+    → TakesBy (record { shard = shard; pool = number }) means result (taking s (record { pools = old; cache = cache })) (taking t (record { pools = new; cache = cache }))
+takes_by shard cache p = record {
+  takes = record { marks = map Inner p.asks.inners; told = p.asks.told; stays = p.asks.stays; took = p.asks.took };
+  logged = record { pools = p.logged; shards = logged_quiet shard (cache_calls_in (map Inner p.asks.inners)) (shard_logs cache) (inners_apart p.asks.inners) };
+}
 
-pub tb_noted : {A B : Type 0} {number : Option ℕ} (means : List Mark → Meaning A) (next : A → List Mark → Meaning B) {v : A} {result : Result B NoMemory} {s t u : SideState} {old new : List PoolUse}
-    → TakesBy number means (Ok v) (taking s old) (taking t new) → TakesQuietly (next v) result t u → TakesBy number (λ marks. onward (means marks) next) result (taking s old) (taking u new)
-tb_noted {number = number} means next {v = v} {result = result} {new = new} p q = record {
+pub tb_as : {A : Type 0} {numbers other : CallNumbers} (means same : List Mark → Meaning A) {result : Result A NoMemory} {old new : TakeState} → numbers ≡ other → ((marks : List Mark) → same marks ≡ means marks)
+    → TakesBy numbers means result old new → TakesBy other same result old new
+tb_as means same {result = result} {old = old} {new = new} is so p = record {
+  takes = record { marks = p.takes.marks; told = p.takes.told; stays = p.takes.stays; took = took-as means same result p.takes.marks so p.takes.took };
+  logged = subst (λ (n : CallNumbers). UsesLogged n p.takes.marks old.uses new.uses) is p.logged;
+}
+
+pub tb_nothing : {A : Type 0} (numbers : CallNumbers) (means : List Mark → Meaning A) {v : A} {s : SideState} {uses : BlockUses} → ((left : List Mark) → means left ≡ Done v left)
+    → TakesBy numbers means (Ok v) (taking s uses) (taking s uses)
+tb_nothing numbers means {s = s} {uses = uses} so =
+    record { takes = record { marks = []; told = adds-nothing s; stays = stays-nothing s; took = so }; logged = uses_nothing numbers uses }
+
+pub tb_starved : {A : Type 0} (numbers : CallNumbers) (means : List Mark → Meaning A) {result : Result A NoMemory} {s : SideState} {uses : BlockUses} → IsErr result → Starved (means [])
+    → TakesBy numbers means result (taking s uses) (taking s uses)
+tb_starved numbers means {result = Ok v} fails starved = absurd cc
+tb_starved numbers means {result = Err e} {s = s} {uses = uses} fails starved =
+    record { takes = record { marks = []; told = adds-nothing s; stays = stays-nothing s; took = starved }; logged = uses_nothing numbers uses }
+
+pub tb_noted : {A B : Type 0} {numbers : CallNumbers} (means : List Mark → Meaning A) (next : A → List Mark → Meaning B) {v : A} {result : Result B NoMemory} {s t u : SideState} {old new : BlockUses}
+    → TakesBy numbers means (Ok v) (taking s old) (taking t new) → TakesQuietly (next v) result t u → TakesBy numbers (λ marks. onward (means marks) next) result (taking s old) (taking u new)
+tb_noted {numbers = numbers} means next {v = v} {result = result} {new = new} p q = record {
   takes = record {
     marks = p.takes.marks ++ q.takes.marks;
     told = adds-then p.takes.told q.takes.told;
     stays = stays-then p.takes.stays q.takes.stays;
     took = took-then means next v result p.takes.marks q.takes.marks p.takes.took q.takes.took;
   };
-  logged = logged_as number (sym (calls_then p.takes.marks q.takes.marks)) (logged_then number p.logged (logged_quiet number (calls_in q.takes.marks) (pool_logs new) q.quiet));
+  logged = uses_then numbers p.takes.marks q.takes.marks p.logged (uses_quiet numbers q.takes.marks new q.pools q.shards);
 }
 
-pub tb_fails : {A B : Type 0} {number : Option ℕ} (means : List Mark → Meaning A) (next : A → List Mark → Meaning B) {e : NoMemory} {result : Result B NoMemory} {old new : TakeState}
-    → IsErr result → TakesBy number means (Err e) old new → ((v : A) → Starved (next v [])) → TakesBy number (λ marks. onward (means marks) next) result old new
+pub tb_fails : {A B : Type 0} {numbers : CallNumbers} (means : List Mark → Meaning A) (next : A → List Mark → Meaning B) {e : NoMemory} {result : Result B NoMemory} {old new : TakeState}
+    → IsErr result → TakesBy numbers means (Err e) old new → ((v : A) → Starved (next v [])) → TakesBy numbers (λ marks. onward (means marks) next) result old new
 tb_fails means next {result = Ok v} fails p none = absurd cc
 tb_fails means next {e} {result = Err f} fails p none =
     record { takes = record { marks = p.takes.marks; told = p.takes.told; stays = p.takes.stays; took = took-starved means next e f p.takes.marks p.takes.took none }; logged = p.logged }
 
 -- plugins of others
-pub others_starved_by : (number : Option ℕ) (says : Query → Option Decision) (steps : List Step) (q : Query) (result : Result Ended NoMemory) (answer : AnswerData) (s : SideState) (uses : List PoolUse)
-    → IsErr result → TakesBy number (mean (Others says ∷ steps) q) (decided result answer) (taking s uses) (taking s uses)
-others_starved_by number says steps q result answer s uses fails = tb_starved number (mean (Others says ∷ steps) q) (decided-err result answer fails) (mean_nothing (Others says ∷ steps) q)
+pub others_starved_by : (numbers : CallNumbers) (says : Query → Option Decision) (steps : List Step) (q : Query) (result : Result Ended NoMemory) (answer : AnswerData) (s : SideState) (uses : BlockUses)
+    → IsErr result → TakesBy numbers (mean (Others says ∷ steps) q) (decided result answer) (taking s uses) (taking s uses)
+others_starved_by numbers says steps q result answer s uses fails = tb_starved numbers (mean (Others says ∷ steps) q) (decided-err result answer fails) (mean_nothing (Others says ∷ steps) q)
 
-pub others_say_by : (number : Option ℕ) (says : Query → Option Decision) (steps : List Step) (q : Query) (v : Decision) (s : SideState) (uses : List PoolUse)
-    → says q ≡ Some v → TakesBy number (mean (Others says ∷ steps) q) (Ok v) (taking s uses) (taking s uses)
-others_say_by number says steps q v s uses said = tb_nothing number (mean (Others says ∷ steps) q) (others says steps q said)
+pub others_say_by : (numbers : CallNumbers) (says : Query → Option Decision) (steps : List Step) (q : Query) (v : Decision) (s : SideState) (uses : BlockUses)
+    → says q ≡ Some v → TakesBy numbers (mean (Others says ∷ steps) q) (Ok v) (taking s uses) (taking s uses)
+others_say_by numbers says steps q v s uses said = tb_nothing numbers (mean (Others says ∷ steps) q) (others says steps q said)
 
-pub others_go_by : (number : Option ℕ) (says : Query → Option Decision) (steps : List Step) (q : Query) (result : Result Decision NoMemory) (old new : TakeState)
-    → says q ≡ None → TakesBy number (mean steps q) result old new → TakesBy number (mean (Others says ∷ steps) q) result old new
-others_go_by number says steps q result old new said p = tb_as (mean steps q) (mean (Others says ∷ steps) q) refl (others says steps q said) p
+pub others_go_by : (numbers : CallNumbers) (says : Query → Option Decision) (steps : List Step) (q : Query) (result : Result Decision NoMemory) (old new : TakeState)
+    → says q ≡ None → TakesBy numbers (mean steps q) result old new → TakesBy numbers (mean (Others says ∷ steps) q) result old new
+others_go_by numbers says steps q result old new said p = tb_as (mean steps q) (mean (Others says ∷ steps) q) refl (others says steps q said) p
 
 -- a note
 pub quiet_starved : {A : Type 0} (means : List Mark → Meaning A) {result : Result A NoMemory} {s : SideState} → IsErr result → Starved (means []) → TakesQuietly means result s s
 quiet_starved means {result = Ok v} fails starved = absurd cc
-quiet_starved means {result = Err e} {s = s} fails starved = record { takes = record { marks = []; told = adds-nothing s; stays = stays-nothing s; took = starved }; quiet = refl }
+quiet_starved means {result = Err e} {s = s} fails starved = record { takes = record { marks = []; told = adds-nothing s; stays = stays-nothing s; took = starved }; pools = refl; shards = refl }
 
 -- the line that is asked for was noted
 same_line : (line : List ℕ) → pointwise nat_eq line line ≡ true
@@ -329,7 +352,8 @@ same_line line = by_test (pointwise nat_eq line line) (slice_eq-Decides unsigned
 quiet_note : (line : List ℕ) (v : Decision) (out : Wrote) {s t : SideState} → Adds s t (noted line out) → Stays s t → TakesQuietly (take_note line v) (Ok v) s t
 quiet_note line v out told stays = record {
   takes = record { marks = noted line out; told = told; stays = stays; took = λ left. ap (λ (same : Bool). if same then Done v left else Off) (same_line line) };
-  quiet = refl;
+  pools = refl;
+  shards = refl;
 }
 
 pub quiet_code : (q : Query) (ended : Ended) (code : Code) (cause : Cause) (answer : AnswerData) (line : List ℕ) (out : Wrote) {s t : SideState} → ended ≡ end.Code code cause → line ≡ error_line q code cause
@@ -339,7 +363,7 @@ quiet_code q ended code cause answer line out {s} {t} is same told stays =
     (quiet_note (error_line q code cause) (decision.Code code cause) out (subst (λ (l : List ℕ). Adds s t (noted l out)) same told) stays)
 
 quiet_nothing : {A : Type 0} (means : List Mark → Meaning A) {v : A} {s : SideState} → ((left : List Mark) → means left ≡ Done v left) → TakesQuietly means (Ok v) s s
-quiet_nothing means {s = s} so = record { takes = record { marks = []; told = adds-nothing s; stays = stays-nothing s; took = so }; quiet = refl }
+quiet_nothing means {s = s} so = record { takes = record { marks = []; told = adds-nothing s; stays = stays-nothing s; took = so }; pools = refl; shards = refl }
 
 pub quiet_other : (q : Query) (ended : Ended) (answer : AnswerData) {s : SideState} → ((code : Code) (cause : Cause) → ended ≢ end.Code code cause)
     → TakesQuietly (error_noted q (decision_of ended answer)) (Ok (decision_of ended answer)) s s
@@ -359,7 +383,8 @@ quiet_query plan q v line out {s} {t} inside same told stays =
         stays = noted_it.takes.stays;
         took = λ left. ap (λ (t : Bool). if t then take_note (log_line q (outcome_of v)) v (noted_it.takes.marks ++ left) else Done v (noted_it.takes.marks ++ left)) inside ∙ noted_it.takes.took left;
       };
-      quiet = noted_it.quiet;
+      pools = noted_it.pools;
+      shards = noted_it.shards;
     }
 
 pub quiet_beyond : (plan : PlanData) (q : Query) (v : Decision) {s : SideState} → is_in q.name (plain_zones plan) ≡ false → TakesQuietly (query_noted plan q v) (Ok v) s s

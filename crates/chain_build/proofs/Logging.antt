@@ -13,9 +13,18 @@ use Rattle.forward_plugin.specs.{IsUncalled, SameBut, pool_calls}
 use Rattle.forward_plugin.specs.Taking.{pool_call}
 use Rattle.forward_plugin.specs.PoolUses.{calls_by}
 use Rattle.forward_plugin.specs.declared.pool_use.PoolUse.{PoolUse}
-use Rattle.one_history.specs.Shared.{calls_in, is_call}
+use Rattle.one_history.specs.Shared.{Logged, cache_calls_in, called, is_of_cache, is_of_pool, log_at, pool_calls_in}
 use Rattle.pin_table.specs.{Grows}
-use Rattle.chain_build.specs.Logs.{Logged, called, held_log, log_at, pool_logs, pool_mark, pool_marks, use_log}
+use Rattle.cache_plugin.specs.{UseData}
+use Rattle.cache_plugin.specs.Uses.{IsUncalled as uncalled}
+use Rattle.chain_meaning.specs.Called.{CallNumbers}
+use Rattle.chain_build.specs.LoggedWalks.{UsesLogged}
+use Rattle.chain_build.specs.Shares.{AreUncalled, IfCached}
+use Rattle.cache_shards.specs.Seats.{own_marks}
+use Rattle.chain_build.specs.Uses.{CacheShape, SameCaches, SameUses, UseShape, cache_shape}
+use Rattle.chain_build.specs.declared.block_uses.BlockUses.{BlockUses}
+use Rattle.chain_build.specs.declared.judge.CacheJudge.{CacheJudge}
+use Rattle.chain_build.specs.Logs.{block_log, held_log, pool_logs, pool_mark, pool_marks, shard_logs, use_log}
 
 -- no call, one after another, and none behind or before
 same_if : (b : Bool) (x : List Mark) → (if b then x else x) ≡ x
@@ -68,14 +77,22 @@ pub logged_by : {number other : Option ℕ} {calls : List Mark} {x y : List (Lis
 logged_by {calls = calls} {x = x} {y = y} same p = subst (λ (o : Option ℕ). Logged o calls x y) same p
 
 -- the calls among marks that came one after another
-pub calls_then : (m n : List Mark) → calls_in (m ++ n) ≡ calls_in m ++ calls_in n
-calls_then m n = filter-append is_call m n
+pub calls_then : (m n : List Mark) → pool_calls_in (m ++ n) ≡ pool_calls_in m ++ pool_calls_in n
+calls_then m n = filter-append is_of_pool m n
 
-pub inners_then : (m n : List InnerMark) → calls_in (map Inner (m ++ n)) ≡ calls_in (map Inner m) ++ calls_in (map Inner n)
-inners_then m n = ap calls_in (map-append Inner m n) ∙ calls_then (map Inner m) (map Inner n)
+pub shards_then : (m n : List Mark) → cache_calls_in (m ++ n) ≡ cache_calls_in m ++ cache_calls_in n
+shards_then m n = filter-append is_of_cache m n
+
+-- inner marks tell no call of a cache
+pub inners_apart : (inners : List InnerMark) → cache_calls_in (map Inner inners) ≡ []
+inners_apart [] = refl
+inners_apart (m ∷ inners) = inners_apart inners
+
+pub inners_then : (m n : List InnerMark) → pool_calls_in (map Inner (m ++ n)) ≡ pool_calls_in (map Inner m) ++ pool_calls_in (map Inner n)
+inners_then m n = ap pool_calls_in (map-append Inner m n) ∙ calls_then (map Inner m) (map Inner n)
 
 -- the marks of the calls that inner marks tell
-marks_call : (m : InnerMark) (rest : List Mark) → pool_marks (pool_call m) ++ rest ≡ calls_in (Inner m ∷ []) ++ rest
+marks_call : (m : InnerMark) (rest : List Mark) → pool_marks (pool_call m) ++ rest ≡ pool_calls_in (Inner m ∷ []) ++ rest
 marks_call (inner.Word word) rest = refl
 marks_call (inner.Asked to by message result) rest = refl
 marks_call (inner.More result) rest = refl
@@ -86,11 +103,11 @@ pub marks_then : (xs ys : List PoolCall) → pool_marks (xs ++ ys) ≡ pool_mark
 marks_then [] ys = refl
 marks_then (x ∷ xs) ys = ap (λ rest. pool_mark x ++ rest) (marks_then xs ys) ∙ sym (append_assoc (pool_mark x) (pool_marks xs) (pool_marks ys))
 
-pub marks_told : (inners : List InnerMark) → pool_marks (pool_calls inners) ≡ calls_in (map Inner inners)
+pub marks_told : (inners : List InnerMark) → pool_marks (pool_calls inners) ≡ pool_calls_in (map Inner inners)
 marks_told [] = refl
 marks_told (m ∷ inners) =
-    marks_then (pool_call m) (pool_calls inners) ∙ ap (λ rest. pool_marks (pool_call m) ++ rest) (marks_told inners) ∙ marks_call m (calls_in (map Inner inners))
-    ∙ sym (filter-append is_call (Inner m ∷ []) (map Inner inners))
+    marks_then (pool_call m) (pool_calls inners) ∙ ap (λ rest. pool_marks (pool_call m) ++ rest) (marks_told inners) ∙ marks_call m (pool_calls_in (map Inner inners))
+    ∙ sym (filter-append is_of_pool (Inner m ∷ []) (map Inner inners))
 
 -- the log of a pool by its number
 use_at : (uses : List PoolUse) (pool : ℕ) → log_at (pool_logs uses) pool ≡ pool_marks (calls_by (Some pool) uses)
@@ -114,19 +131,19 @@ differ x y apart same = let found : (x == y) ≡ true = eq-eqb x y same in absur
 -- a query that took the pool with this number called it as its marks tell
 module _ (old new : List PoolUse) (inners : List InnerMark) where
   at_number : (k : ℕ) → SameBut (Some k) old new → calls_by (Some k) new ≡ calls_by (Some k) old ++ pool_calls inners → (pool : ℕ)
-      → log_at (pool_logs new) pool ≡ log_at (pool_logs old) pool ++ called (Some k) pool (calls_in (map Inner inners))
+      → log_at (pool_logs new) pool ≡ log_at (pool_logs old) pool ++ called (Some k) pool (pool_calls_in (map Inner inners))
   at_number k but grew pool = by_test (k == pool) refl
     where
-      by_test : (t : Bool) → (k == pool) ≡ t → log_at (pool_logs new) pool ≡ log_at (pool_logs old) pool ++ (if t then calls_in (map Inner inners) else [])
+      by_test : (t : Bool) → (k == pool) ≡ t → log_at (pool_logs new) pool ≡ log_at (pool_logs old) pool ++ (if t then pool_calls_in (map Inner inners) else [])
       by_test true is =
-          subst (λ (n : ℕ). log_at (pool_logs new) n ≡ log_at (pool_logs old) n ++ calls_in (map Inner inners)) (eqb-true k pool is)
+          subst (λ (n : ℕ). log_at (pool_logs new) n ≡ log_at (pool_logs old) n ++ pool_calls_in (map Inner inners)) (eqb-true k pool is)
           (use_at new k ∙ ap pool_marks grew ∙ marks_then (calls_by (Some k) old) (pool_calls inners)
           ∙ (λ i. sym (use_at old k) i ++ marks_told inners i))
       by_test false is =
           ap (λ (us : List PoolUse). log_at (pool_logs us) pool) but.is ∙ other_at old k pool but.after (differ k pool is) ∙ sym (append-nil (log_at (pool_logs old) pool))
 
   pub logged_forward : (number : Option ℕ) → SameBut number old new → calls_by number new ≡ calls_by number old ++ pool_calls inners
-      → Logged number (calls_in (map Inner inners)) (pool_logs old) (pool_logs new)
+      → Logged number (pool_calls_in (map Inner inners)) (pool_logs old) (pool_logs new)
   logged_forward None same grew = record {
     each = λ pool. ap (λ (us : List PoolUse). log_at (pool_logs us) pool) same ∙ sym (append-nil (log_at (pool_logs old) pool));
     none = λ is. sym (marks_told inners) ∙ ap pool_marks (sym grew);
@@ -150,14 +167,27 @@ grows_each f [] (y ∷ ys) long each = absurd (omega (arith, long))
 grows_each f (x ∷ xs) [] long each = absurd (omega (arith, long))
 grows_each f (x ∷ xs) (y ∷ ys) long each = ((f 0, each 0), grows_each (λ i. f (suc i)) xs ys (omega (arith, long)) (λ i. each (suc i)))
 
-pub held_grows : (blocks : List (List PoolUse)) (n : ℕ) (uses : List PoolUse) (number : Option ℕ) (calls : List Mark) → n < length blocks → length uses ≡ length (slice_index_or blocks n [])
-    → Logged number calls (pool_logs (slice_index_or blocks n [])) (pool_logs uses) → Grows (held_log blocks) (held_log (slice_set blocks n uses))
-held_grows [] n uses number calls inside long logged = absurd (omega (arith, inside))
-held_grows (old ∷ blocks) zero uses number calls inside long logged =
-    grows_both (pool_logs old) (pool_logs uses) (held_log blocks) (held_log blocks)
-    (grows_each (λ i. called number i calls) (pool_logs old) (pool_logs uses) (length-map uses use_log ∙ long ∙ sym (length-map old use_log)) logged.each) (grows_same (held_log blocks))
-held_grows (old ∷ blocks) (suc n) uses number calls inside long logged =
-    grows_both (pool_logs old) (pool_logs old) (held_log blocks) (held_log (slice_set blocks n uses)) (grows_same (pool_logs old)) (held_grows blocks n uses number calls (omega (arith, inside)) long logged)
+pub held_grows : (blocks : List BlockUses) (n : ℕ) (none uses : BlockUses) → n < length blocks → Grows (block_log (slice_index_or blocks n none)) (block_log uses) → Grows (held_log blocks) (held_log (slice_set blocks n uses))
+held_grows [] n none uses inside grown = absurd (omega (arith, inside))
+held_grows (old ∷ blocks) zero none uses inside grown = grows_both (block_log old) (block_log uses) (held_log blocks) (held_log blocks) grown (grows_same (held_log blocks))
+held_grows (old ∷ blocks) (suc n) none uses inside grown =
+    grows_both (block_log old) (block_log old) (held_log blocks) (held_log (slice_set blocks n uses)) (grows_same (block_log old)) (held_grows blocks n none uses (omega (arith, inside)) grown)
+
+-- a cache has as many shards behind a query
+same_shards : (old new : Option (UseData CacheJudge)) → SameCaches old new → length (shard_logs new) ≡ length (shard_logs old)
+same_shards None None same = refl
+same_shards None (Some v) same = absurd cc
+same_shards (Some u) None same = absurd cc
+same_shards (Some u) (Some v) same =
+    let shape : cache_shape v ≡ cache_shape u = cc in
+    length-map v.views own_marks ∙ ap (λ (s : CacheShape). s.shards) shape ∙ sym (length-map u.views own_marks)
+
+-- the log of a block grows part by part
+pub block_grows : (old new : BlockUses) (numbers : CallNumbers) (marks : List Mark) → SameUses old new → UsesLogged numbers marks old new → Grows (block_log old) (block_log new)
+block_grows old new numbers marks same logged =
+    grows_both (shard_logs old.cache) (shard_logs new.cache) (pool_logs old.pools) (pool_logs new.pools)
+    (grows_each (λ i. called numbers.shard i (cache_calls_in marks)) (shard_logs old.cache) (shard_logs new.cache) (same_shards old.cache new.cache (ap (λ (s : UseShape). s.cache) same)) logged.shards.each)
+    (grows_each (λ i. called numbers.pool i (pool_calls_in marks)) (pool_logs old.pools) (pool_logs new.pools) (length-map new.pools use_log ∙ ap (λ (s : UseShape). s.pools) same ∙ sym (length-map old.pools use_log)) logged.pools.each)
 
 -- the log of a chain that called nothing is empty
 uses_empty : (uses : List PoolUse) (rest : List (List Mark)) → All IsUncalled uses → All (λ (part : List Mark). part ≡ []) rest → All (λ (part : List Mark). part ≡ []) (pool_logs uses ++ rest)
@@ -165,6 +195,20 @@ uses_empty [] rest all empty = empty
 uses_empty (u ∷ uses) rest all empty =
     All-cons (λ (part : List Mark). part ≡ []) (use_log u) (pool_logs uses ++ rest) (ap pool_marks (All-head IsUncalled u uses all)) (uses_empty uses rest (All-tail IsUncalled u uses all) empty)
 
-pub empty_log : (blocks : List (List PoolUse)) → All (All IsUncalled) blocks → All (λ (part : List Mark). part ≡ []) (held_log blocks)
+parts_empty : (parts rest : List (List Mark)) → All (λ (part : List Mark). part ≡ []) parts → All (λ (part : List Mark). part ≡ []) rest → All (λ (part : List Mark). part ≡ []) (parts ++ rest)
+parts_empty [] rest all empty = empty
+parts_empty (part ∷ parts) rest all empty =
+    All-cons (λ (part : List Mark). part ≡ []) part (parts ++ rest) (All-head (λ (part : List Mark). part ≡ []) part parts all) (parts_empty parts rest (All-tail (λ (part : List Mark). part ≡ []) part parts all) empty)
+
+shards_empty : (cache : Option (UseData CacheJudge)) → IfCached uncalled cache → All (λ (part : List Mark). part ≡ []) (shard_logs cache)
+shards_empty None h = All-nil (λ (part : List Mark). part ≡ [])
+shards_empty (Some u) h = h
+
+block_empty : (uses : BlockUses) (rest : List (List Mark)) → AreUncalled uses → All (λ (part : List Mark). part ≡ []) rest → All (λ (part : List Mark). part ≡ []) (block_log uses ++ rest)
+block_empty uses rest h empty =
+    subst (All (λ (part : List Mark). part ≡ [])) (sym (append_assoc (shard_logs uses.cache) (pool_logs uses.pools) rest))
+    (parts_empty (shard_logs uses.cache) (pool_logs uses.pools ++ rest) (shards_empty uses.cache h.cache) (uses_empty uses.pools rest h.pools empty))
+
+pub empty_log : (blocks : List BlockUses) → All AreUncalled blocks → All (λ (part : List Mark). part ≡ []) (held_log blocks)
 empty_log [] all = All-nil (λ (part : List Mark). part ≡ [])
-empty_log (uses ∷ blocks) all = uses_empty uses (held_log blocks) (All-head (All IsUncalled) uses blocks all) (empty_log blocks (All-tail (All IsUncalled) uses blocks all))
+empty_log (uses ∷ blocks) all = block_empty uses (held_log blocks) (All-head AreUncalled uses blocks all) (empty_log blocks (All-tail AreUncalled uses blocks all))

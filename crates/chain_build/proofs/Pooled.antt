@@ -1,36 +1,50 @@
--- The pools of a chain by its number, and what using some of them keeps.
-use Rattle.std.proofs.Common.{◌≡◌, ◌<◌, refl, ℕ, zero, suc, List, [], ◌∷◌, ◌++◌, map, length, take, drop, Some, option_map, slice_get, slice_index_or, slice_set, sym, ap, ◌∙◌, arith}
+-- The uses of a chain by its number, and what using some of them keeps.
+use Rattle.std.proofs.Common.{◌≡◌, ◌<◌, refl, ℕ, zero, suc, List, [], ◌∷◌, ◌++◌, length, map, take, drop, Some, slice_get, slice_index_or, slice_set, sym, ap, ◌∙◌, arith}
 use Rattle.std.proofs.lemmas.List.{append-nil, drop_all, length-map, take_all}
-use Rattle.std.proofs.lemmas.Option.{slice_get-map}
-use Rattle.chain_build.specs.BlockPools.{chain_pools}
-use Rattle.chain_build.specs.Pools.{pools_in}
+use Rattle.cache_plugin.specs.{SameUse, UseData}
+use Rattle.chain_build.specs.Uses.{AreUsed, IsUsed, SameUses, UseShape, cache_shape, chain_shape, use_shape}
 use Rattle.chain_build.specs.declared.block.BlockChain.{BlockChain}
+use Rattle.chain_build.specs.declared.block_uses.BlockUses.{BlockUses}
+use Rattle.chain_build.specs.declared.judge.CacheJudge.{CacheJudge}
 
-pub pools_at : (chains : List BlockChain) (n : ℕ) (chain : BlockChain) → slice_get chains n ≡ Some chain → slice_get (map chain_pools chains) n ≡ Some (pools_in chain.back)
-pools_at chains n chain at = slice_get-map chain_pools chains n ∙ ap (option_map chain_pools) at
+-- those of the chain with a number
+pub used_at : (chains : List BlockChain) (blocks : List BlockUses) (n : ℕ) (chain : BlockChain) (none : BlockUses) → AreUsed chains blocks → slice_get chains n ≡ Some chain
+    → (n < length blocks) × (slice_get blocks n ≡ Some (slice_index_or blocks n none)) × IsUsed chain (slice_index_or blocks n none)
+used_at [] blocks n chain none used at = absurd cc
+used_at (c ∷ chains) [] n chain none used at = absurd cc
+used_at (c ∷ chains) (uses ∷ blocks) zero chain none used at =
+    let it : c ≡ chain = cc in
+    let first : use_shape uses ≡ chain_shape c = cc in
+    (omega arith, refl, first ∙ ap chain_shape it)
+used_at (c ∷ chains) (uses ∷ blocks) (suc n) chain none used at =
+    let more : AreUsed chains blocks = cc in
+    let rest = used_at chains blocks n chain none more at in
+    let low = rest.0 in
+    (omega (arith, low), rest.1, rest.2)
 
-module _ {A : Type 0} where
-  pub at_length : (xs : List (List A)) (n k : ℕ) → slice_get (map length xs) n ≡ Some k → (n < length xs) × ((d : List A) → length (slice_index_or xs n d) ≡ k)
-  at_length [] n k at = absurd cc
-  at_length (x ∷ xs) zero k at = (omega arith, λ d. cc)
-  at_length (x ∷ xs) (suc n) k at =
-      let rest = at_length xs n k at in
-      (omega (arith, rest.0), rest.1)
+-- the same ones are used
+pub same_cache : (u v : UseData CacheJudge) → SameUse u v → cache_shape v ≡ cache_shape u
+same_cache u v same = λ i. record { chain = ap (λ c. c.judge.chain.value) same.cache i; capacities = ap (λ c. c.capacities) same.cache i; shards = same.views i }
 
-  pub kept_lengths : (xs : List (List A)) (n : ℕ) (x d : List A) → n < length xs → length x ≡ length (slice_index_or xs n d) → map length (slice_set xs n x) ≡ map length xs
-  kept_lengths [] n x d inside same = absurd (omega (arith, inside))
-  kept_lengths (y ∷ ys) zero x d inside same = ap (λ (k : ℕ). k ∷ map length ys) same
-  kept_lengths (y ∷ ys) (suc n) x d inside same = ap (λ (ks : List ℕ). length y ∷ ks) (kept_lengths ys n x d (omega (arith, inside)) same)
+pub used_same : (chain : BlockChain) (old new : BlockUses) → SameUses old new → IsUsed chain old → IsUsed chain new
+used_same chain old new same used = same ∙ used
 
-  -- what stands within a list stands there by whatever would stand behind it
-  pub same_at : (xs : List (List A)) (n : ℕ) (d e : List A) → n < length xs → slice_index_or xs n d ≡ slice_index_or xs n e
-  same_at [] n d e inside = absurd (omega (arith, inside))
-  same_at (x ∷ xs) zero d e inside = refl
-  same_at (x ∷ xs) (suc n) d e inside = same_at xs n d e (omega (arith, inside))
+map_set : (blocks : List BlockUses) (n : ℕ) (none uses : BlockUses) → n < length blocks → SameUses (slice_index_or blocks n none) uses → map use_shape (slice_set blocks n uses) ≡ map use_shape blocks
+map_set [] n none uses inside same = absurd (omega (arith, inside))
+map_set (b ∷ blocks) zero none uses inside same = ap (λ (s : UseShape). s ∷ map use_shape blocks) same
+map_set (b ∷ blocks) (suc n) none uses inside same = ap (λ (rest : List UseShape). use_shape b ∷ rest) (map_set blocks n none uses (omega (arith, inside)) same)
 
-  -- lists of lists of the same lengths are as long
-  pub same_count : (xs ys : List (List A)) (ks : List ℕ) → map length xs ≡ ks → map length ys ≡ ks → length ys ≡ length xs
-  same_count xs ys ks p q = sym (length-map ys length) ∙ ap (λ (l : List ℕ). length l) (q ∙ sym p) ∙ length-map xs length
+pub used_set : (chains : List BlockChain) (blocks : List BlockUses) (n : ℕ) (none uses : BlockUses) → n < length blocks → AreUsed chains blocks → SameUses (slice_index_or blocks n none) uses → AreUsed chains (slice_set blocks n uses)
+used_set chains blocks n none uses inside used same = map_set blocks n none uses inside same ∙ used
+
+pub used_long : (chains : List BlockChain) (blocks : List BlockUses) → AreUsed chains blocks → length blocks ≡ length chains
+used_long chains blocks used = sym (length-map blocks use_shape) ∙ ap (λ (l : List UseShape). length l) used ∙ length-map chains chain_shape
+
+-- what stands within a list stands there by whatever would stand behind it
+pub same_at : {A : Type 0} (xs : List A) (n : ℕ) (d e : A) → n < length xs → slice_index_or xs n d ≡ slice_index_or xs n e
+same_at [] n d e inside = absurd (omega (arith, inside))
+same_at (x ∷ xs) zero d e inside = refl
+same_at (x ∷ xs) (suc n) d e inside = same_at xs n d e (omega (arith, inside))
 
 -- what is written back over a whole list
 pub written_back : {A : Type 0} (xs ys : List A) (n : ℕ) → length ys ≡ length xs → n ≡ length xs → take n (ys ++ drop (length ys) xs) ≡ ys

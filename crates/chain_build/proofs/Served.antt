@@ -37,11 +37,11 @@ use Rattle.outside.specs.States.{SideState}
 use Rattle.outside.specs.Journals.{adds-nothing}
 use Rattle.outside.specs.TakingLaws.{stays-nothing, took-as}
 use Rattle.dns_lists.specs.declared.memory.NoMemory.{NoMemory}
-use Rattle.one_history.specs.Logs.{GrowsBy, Place, part_at}
-use Rattle.one_history.specs.Shared.{calls_in, placed}
-use Rattle.std.specs.Prelude.{Result, Err, option_and_then}
+use Rattle.one_history.specs.Logs.{GrowsBy, part_at}
+use Rattle.one_history.specs.Shared.{CallPlaces, placed_calls}
+use Rattle.std.specs.Prelude.{Result, Err}
 use Rattle.plugin_api.specs.{picked}
-use Rattle.chain_meaning.specs.Called.{call_place, place_at, place_in}
+use Rattle.chain_meaning.specs.Called.{call_places, places_at, places_by, places_in}
 use Rattle.chain_build.specs.LoggedWalks.{ServeState, TakesAt, serving}
 use Rattle.chain_build.specs.Logs.{LogShape, chain_places, shape_of}
 use Rattle.pin_table.specs.{Grows}
@@ -49,10 +49,9 @@ use Rattle.chain_build.specs.Workers.{server_in}
 use Rattle.chain_build.proofs.Logging.{grows_same}
 use Rattle.plugin_api.specs.{Sayings, Takings}
 use Rattle.chain_meaning.specs.MeanLaws.{extras_say, mean-extras}
-use Rattle.chain_meaning.specs.Steps.{Step, extra_step, extra_steps, none_said, rewrite_steps, steps_of}
+use Rattle.chain_meaning.specs.Steps.{Step, Others, extra_step, extra_steps, none_said, steps_of}
 use Rattle.chain_build.specs.Plans.{PlansData, extras_in, steps_in, terms_in}
-use Rattle.chain_build.specs.Compiled.{back_of, back_steps, front_of, whole_by, whole_with}
-use Rattle.chain_build.specs.declared.block_chain.BackAnswerer.{BackAnswerer}
+use Rattle.chain_build.specs.Compiled.{front_of}
 use Rattle.chain_build.specs.declared.block.BlockChain.{BlockChain}
 use Rattle.chain_build.specs.declared.ended.Ended.{Ended}
 use Rattle.chain_build.specs.declared.ended.Ended.TheVariants as end
@@ -72,59 +71,51 @@ some_steps : (steps : List Step) (q : Query) → 0 < length steps → (marks : L
 some_steps [] q h marks = absurd (omega (arith, h))
 some_steps (step ∷ steps) q h marks = refl
 
-rules_length : (ds : List Directive) → 0 < length ds → 0 < length (rewrite_steps ds)
-rules_length [] h = absurd (omega (arith, h))
-rules_length (d ∷ ds) h = omega arith
-
 no_extras : (extras : List Directive) → length extras ≤ 0 → extras ≡ []
 no_extras [] h = refl
 no_extras (d ∷ ds) h = absurd (omega (arith, h))
 
-module _ (said : Sayings) (front : List FrontStep) (extras ds : List Directive) (back : List BackAnswerer) (q : Query) where
-  whole_length : length (whole_by said front extras ds back) ≡ length front + (length extras + (length (rewrite_steps ds) + length back))
+module _ (said : Sayings) (front : List FrontStep) (extras : List Directive) (inner : List Step) (q : Query) where
+  abbrev whole : List Step
+  whole = map front_of front ++ (extra_steps said extras ++ inner)
+
+  whole_length : length whole ≡ length front + (length extras + length inner)
   whole_length =
       omega (
         arith,
-        length-append (map front_of front) (extra_steps said extras ++ back_steps ds back),
-        length-append (extra_steps said extras) (back_steps ds back),
-        length-append (rewrite_steps ds) (map back_of back),
+        length-append (map front_of front) (extra_steps said extras ++ inner),
+        length-append (extra_steps said extras) inner,
         length-map front front_of,
         length-map extras (extra_step said),
-        length-map back back_of,
       )
 
-  pub runs : (0 < length front) ⊎ ((0 < length extras) ⊎ ((0 < length ds) ⊎ (0 < length back))) → (marks : List Mark)
-      → chain_decides (whole_by said front extras ds back) q marks ≡ mean (whole_by said front extras ds back) q marks
-  runs (inl h) = some_steps (whole_by said front extras ds back) q (omega (arith, h, whole_length))
-  runs (inr (inl h)) = some_steps (whole_by said front extras ds back) q (omega (arith, h, whole_length))
-  runs (inr (inr (inl h))) = some_steps (whole_by said front extras ds back) q (omega (arith, rules_length ds h, whole_length))
-  runs (inr (inr (inr h))) = some_steps (whole_by said front extras ds back) q (omega (arith, h, whole_length))
+  runs : (0 < length front) ⊎ ((0 < length extras) ⊎ (0 < length inner)) → (marks : List Mark) → chain_decides whole q marks ≡ mean whole q marks
+  runs (inl h) = some_steps whole q (omega (arith, h, whole_length))
+  runs (inr (inl h)) = some_steps whole q (omega (arith, h, whole_length))
+  runs (inr (inr h)) = some_steps whole q (omega (arith, h, whole_length))
 
   -- with all extras as one step
-  pub runs_extras : (0 < length front) ⊎ ((0 < length extras) ⊎ ((0 < length ds) ⊎ (0 < length back))) → (marks : List Mark)
-      → chain_decides (whole_by said front extras ds back) q marks ≡ mean (whole_with (extras_say said extras) front ds back) q marks
-  runs_extras some marks = runs some marks ∙ sym (mean-extras said extras (map front_of front) (back_steps ds back) q marks)
+  pub runs_extras : (0 < length front) ⊎ ((0 < length extras) ⊎ (0 < length inner)) → (marks : List Mark)
+      → chain_decides whole q marks ≡ mean (map front_of front ++ (Others (extras_say said extras) ∷ inner)) q marks
+  runs_extras some marks = runs some marks ∙ sym (mean-extras said extras (map front_of front) inner q marks)
 
   -- with none
-  pub runs_own : length extras ≤ 0 → 0 < length front → (marks : List Mark) → chain_decides (whole_by said front extras ds back) q marks ≡ mean (whole_with none_said front ds back) q marks
-  runs_own none some marks = runs_extras (inl some) marks ∙ ap (λ (es : List Directive). mean (whole_with (extras_say said es) front ds back) q marks) (no_extras extras none)
+  pub runs_own : length extras ≤ 0 → 0 < length front → (marks : List Mark) → chain_decides whole q marks ≡ mean (map front_of front ++ (Others none_said ∷ inner)) q marks
+  runs_own none some marks = runs_extras (inl some) marks ∙ ap (λ (es : List Directive). mean (map front_of front ++ (Others (extras_say said es) ∷ inner)) q marks) (no_extras extras none)
 
 -- with no step at all it refuses
-pub runs_none : (said : Sayings) (front : List FrontStep) (extras ds : List Directive) (back : List BackAnswerer) (q : Query) → length front ≤ 0 → length extras ≤ 0 → length ds ≤ 0 → length back ≤ 0 → (marks : List Mark)
-    → chain_decides (whole_by said front extras ds back) q marks ≡ Done refused marks
-runs_none said [] [] [] [] q f x r b marks = refl
-runs_none said (step ∷ steps) extras ds back q f x r b marks = absurd (omega (arith, f))
-runs_none said [] (d ∷ extras) ds back q f x r b marks = absurd (omega (arith, x))
-runs_none said [] [] (d ∷ ds) back q f x r b marks = absurd (omega (arith, r))
-runs_none said [] [] [] (plugin ∷ back) q f x r b marks = absurd (omega (arith, b))
+pub runs_none : (said : Sayings) (front : List FrontStep) (extras : List Directive) (inner : List Step) (q : Query) → length front ≤ 0 → length extras ≤ 0 → inner ≡ [] → (marks : List Mark)
+    → chain_decides (map front_of front ++ (extra_steps said extras ++ inner)) q marks ≡ Done refused marks
+runs_none said [] [] inner q f x none marks = ap (λ (steps : List Step). chain_decides steps q marks) none
+runs_none said (step ∷ steps) extras inner q f x none marks = absurd (omega (arith, f))
+runs_none said [] (d ∷ extras) inner q f x none marks = absurd (omega (arith, x))
 
--- with nothing in front it means what stands behind a cache
-pub runs_uncached : (said : Sayings) (front : List FrontStep) (extras ds : List Directive) (back : List BackAnswerer) (q : Query) → length front ≤ 0 → length extras ≤ 0 → (0 < length ds) ⊎ (length ds ≤ 0 × 0 < length back) → (marks : List Mark)
-    → chain_decides (whole_by said front extras ds back) q marks ≡ mean (back_steps ds back) q marks
-runs_uncached said [] [] ds back q none without (inl h) marks = runs said [] [] ds back q (inr (inr (inl h))) marks
-runs_uncached said [] [] ds back q none without (inr h) marks = runs said [] [] ds back q (inr (inr (inr h.1))) marks
-runs_uncached said (step ∷ steps) extras ds back q none without some marks = absurd (omega (arith, none))
-runs_uncached said [] (d ∷ extras) ds back q none without some marks = absurd (omega (arith, without))
+-- with nothing in front it means what stands behind its extras
+pub runs_inner : (said : Sayings) (front : List FrontStep) (extras : List Directive) (inner : List Step) (q : Query) → length front ≤ 0 → length extras ≤ 0 → 0 < length inner → (marks : List Mark)
+    → chain_decides (map front_of front ++ (extra_steps said extras ++ inner)) q marks ≡ mean inner q marks
+runs_inner said [] [] inner q none without some marks = some_steps inner q some marks
+runs_inner said (step ∷ steps) extras inner q none without some marks = absurd (omega (arith, none))
+runs_inner said [] (d ∷ extras) inner q none without some marks = absurd (omega (arith, without))
 
 -- the block of a chain that was found, and that there is none where none was
 pub block_some : (chains : Block → List Step) (o : Option Block) (steps : List Step) (q : Query) → Some steps ≡ option_map chains o → (marks : List Mark)
@@ -214,38 +205,38 @@ module _ (taken : Takings) (said : Sayings) (plans : PlansData) (serial : ℕ) (
   }
 
   -- by what a chain took, with its calls
-  pub told_by : (place : Option Place) (old new : ServeState) → call_place (steps_of said plans.bundle.files) plans.blocks q ≡ place → TakesAt (shape_of plans serial) place decides (Ok v) old new
+  pub told_by : (places : CallPlaces) (old new : ServeState) → call_places (steps_of said plans.bundle.files) plans.blocks q ≡ places → TakesAt (shape_of plans serial) places decides (Ok v) old new
       → Finishes d (asked_by q.name beside) v result → TellsServing (server_in taken said plans serial) d result old new
-  told_by place old new placed_is takes sent = record {
+  told_by places old new placed_is takes sent = record {
     marks = takes.takes.marks;
     told = takes.takes.told;
     stays = takes.takes.stays;
     serves = serves_it takes.takes.marks takes.takes.took sent;
-    logs = logs_by place takes.takes.marks old.log new.log placed_is takes.grown takes.follows;
+    logs = logs_by places takes.takes.marks old.log new.log placed_is takes.grown takes.follows;
   }
     where
-      logs_by : (place : Option Place) (marks : List Mark) (before after : List (List Mark)) → call_place (steps_of said plans.bundle.files) plans.blocks q ≡ place
-          → GrowsBy (chain_places plans) serial (placed serial place (calls_in marks)) before after → Grows before after → LogsServing (server_in taken said plans serial) d marks before after
-      logs_by place marks before after at grown follows = record {
-        calls = placed serial place (calls_in marks);
+      logs_by : (places : CallPlaces) (marks : List Mark) (before after : List (List Mark)) → call_places (steps_of said plans.bundle.files) plans.blocks q ≡ places
+          → GrowsBy (chain_places plans) serial (placed_calls serial places marks) before after → Grows before after → LogsServing (server_in taken said plans serial) d marks before after
+      logs_by places marks before after at grown follows = record {
+        calls = placed_calls serial places marks;
         are = inr (record {
           blocks = plans.blocks;
           accepted = accepted;
           asked = asked_by name beside;
           queries = queries;
-          are = ap (λ (p : Option Place). placed serial p (calls_in marks)) (sym at ∙ ap (call_place (steps_of said plans.bundle.files) plans.blocks) is);
+          are = ap (λ (p : CallPlaces). placed_calls serial p marks) (sym at ∙ ap (call_places (steps_of said plans.bundle.files) plans.blocks) is);
         });
         grown = grown;
         follows = follows;
       }
 
 -- what memory ended in the middle of
-pub told_starved : (taken : Takings) (said : Sayings) (plans : PlansData) (serial : ℕ) (d : Datagram) (name : List (List ℕ)) (beside : AskedBeside) (q : Query) (place : Option Place) (e : NoMemory) (old new : ServeState)
+pub told_starved : (taken : Takings) (said : Sayings) (plans : PlansData) (serial : ℕ) (d : Datagram) (name : List (List ℕ)) (beside : AskedBeside) (q : Query) (places : CallPlaces) (e : NoMemory) (old new : ServeState)
     → IsAccepted (terms_in taken said plans) plans.bundle plans.blocks → QueriesThis d.bytes (asked_by name beside) → q ≡ query_of d (asked_by name beside)
-    → call_place (steps_of said plans.bundle.files) plans.blocks q ≡ place
-    → TakesAt (shape_of plans serial) place (query_decides beside.opt beside.class (steps_of said plans.bundle.files) plans.blocks q) (Err e) old new
+    → call_places (steps_of said plans.bundle.files) plans.blocks q ≡ places
+    → TakesAt (shape_of plans serial) places (query_decides beside.opt beside.class (steps_of said plans.bundle.files) plans.blocks q) (Err e) old new
     → TellsServing (server_in taken said plans serial) d served.NoMemory old new
-told_starved taken said plans serial d name beside q place e old new accepted queries is at takes = record {
+told_starved taken said plans serial d name beside q places e old new accepted queries is at takes = record {
   marks = takes.takes.marks;
   told = takes.takes.told;
   stays = takes.takes.stays;
@@ -257,13 +248,13 @@ told_starved taken said plans serial d name beside q place e old new accepted qu
     starved = subst (λ x. Starved (query_decides beside.opt beside.class (steps_of said plans.bundle.files) plans.blocks x takes.takes.marks)) is takes.takes.took;
   });
   logs = record {
-    calls = placed serial place (calls_in takes.takes.marks);
+    calls = placed_calls serial places takes.takes.marks;
     are = inr (record {
       blocks = plans.blocks;
       accepted = accepted;
       asked = asked_by name beside;
       queries = queries;
-      are = ap (λ (p : Option Place). placed serial p (calls_in takes.takes.marks)) (sym at ∙ ap (call_place (steps_of said plans.bundle.files) plans.blocks) is);
+      are = ap (λ (p : CallPlaces). placed_calls serial p takes.takes.marks) (sym at ∙ ap (call_places (steps_of said plans.bundle.files) plans.blocks) is);
     });
     grown = takes.grown;
     follows = takes.follows;
@@ -271,8 +262,8 @@ told_starved taken said plans serial d name beside q place e old new accepted qu
 }
 
 -- a chain's meaning as that of the query that goes through it
-pub takes_at : {A : Type 0} {shape : LogShape} {place : Option Place} (means same : List Mark → Meaning A) {result : Result A NoMemory} {old new : ServeState} → ((marks : List Mark) → same marks ≡ means marks)
-    → TakesAt shape place means result old new → TakesAt shape place same result old new
+pub takes_at : {A : Type 0} {shape : LogShape} {places : CallPlaces} (means same : List Mark → Meaning A) {result : Result A NoMemory} {old new : ServeState} → ((marks : List Mark) → same marks ≡ means marks)
+    → TakesAt shape places means result old new → TakesAt shape places same result old new
 takes_at means same {result = result} so p = record {
   takes = record { marks = p.takes.marks; told = p.takes.told; stays = p.takes.stays; took = took-as means same result p.takes.marks so p.takes.took };
   grown = p.grown;
@@ -280,15 +271,15 @@ takes_at means same {result = result} so p = record {
 }
 
 -- where the calls of a query stand that goes through a chain
-pub place_by_number : (said : Sayings) (files : List FileText) (chains : List BlockChain) (blocks : List Block) (n : ℕ) (chain : BlockChain) (q : Query) → map (steps_in said) chains ≡ map (steps_of said files) blocks
-    → slice_get chains n ≡ Some chain → picked blocks q.local q.name ≡ Some n → call_place (steps_of said files) blocks q ≡ place_in (steps_in said chain) n q
-place_by_number said files chains blocks n chain q same at is =
+pub places_by_number : (said : Sayings) (files : List FileText) (chains : List BlockChain) (blocks : List Block) (n : ℕ) (chain : BlockChain) (q : Query) → map (steps_in said) chains ≡ map (steps_of said files) blocks
+    → slice_get chains n ≡ Some chain → picked blocks q.local q.name ≡ Some n → call_places (steps_of said files) blocks q ≡ places_in (steps_in said chain) n q
+places_by_number said files chains blocks n chain q same at is =
     let steps : option_map (steps_of said files) (slice_get blocks n) ≡ Some (steps_in said chain) = sym (by_number said files chains blocks n same) ∙ ap (option_map (steps_in said)) at in
-    ap (option_and_then (place_at (steps_of said files) blocks q)) is ∙ by_block (slice_get blocks n) steps
+    ap (places_at (steps_of said files) blocks q) is ∙ by_block (slice_get blocks n) steps
   where
-    by_block : (o : Option Block) → option_map (steps_of said files) o ≡ Some (steps_in said chain) → option_and_then (λ b. place_in (steps_of said files b) n q) o ≡ place_in (steps_in said chain) n q
+    by_block : (o : Option Block) → option_map (steps_of said files) o ≡ Some (steps_in said chain) → places_by (steps_of said files) q n o ≡ places_in (steps_in said chain) n q
     by_block None e = absurd cc
-    by_block (Some block) e = let one : steps_of said files block ≡ steps_in said chain = cc in ap (λ (s : List Step). place_in s n q) one
+    by_block (Some block) e = let one : steps_of said files block ≡ steps_in said chain = cc in ap (λ (s : List Step). places_in s n q) one
 
 -- by the version of EDNS and the class
 pub version_known : (opt : Option Opt) (class : ℕ) (chains : Block → List Step) (blocks : List Block) (q : Query) → is_known_version opt ≡ true → (marks : List Mark)

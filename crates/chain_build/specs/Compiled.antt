@@ -2,11 +2,11 @@
 use Rattle.std.specs.Prelude.{List, ◌∷◌, ◌++◌, map, Option}
 use Rattle.dns_data.specs.declared.directive.Directive.{Directive}
 use Rattle.dns_data.specs.declared.query.Query.{Query}
-use Rattle.plugin_api.specs.{Sayings}
+use Rattle.plugin_api.specs.{PlanData, Sayings}
 use Rattle.chain_meaning.specs.declared.decision.Decision.{Decision}
 use Rattle.chain_meaning.specs.Steps.{Answerer, Acl, Any, Template, Hosts, File, Forward, Whoami}
-use Rattle.chain_meaning.specs.Steps.{Step, Errors, Log, Answers, Others, extra_steps}
-use Rattle.chain_meaning.specs.Steps.{rewrite_steps}
+use Rattle.chain_meaning.specs.Steps.{Step, Errors, Log, Answers, Others, cache_steps}
+use Rattle.chain_meaning.specs.Steps.{extra_steps, rewrite_steps}
 use Rattle.chain_build.specs.declared.block_chain.BackAnswerer.{BackAnswerer}
 use Rattle.chain_build.specs.declared.block_chain.BackAnswerer.TheVariants as behind
 use Rattle.chain_build.specs.declared.block_chain.FrontAnswerer.{FrontAnswerer}
@@ -37,22 +37,28 @@ back_of plugin = Answers (back_answerer plugin)
 abbrev pub back_steps : List Directive → List BackAnswerer → List Step
 back_steps rewrites back = rewrite_steps rewrites ++ map back_of back
 
+-- what stands behind the extras: a cache, where there is one, and what it stands before
+abbrev pub inner_steps : Option PlanData → List Directive → List BackAnswerer → List Step
+inner_steps cache rewrites back = cache_steps cache ++ back_steps rewrites back
+
 -- the whole chain, without extras
-abbrev pub whole : List FrontStep → List Directive → List BackAnswerer → List Step
-whole front rewrites back = map front_of front ++ back_steps rewrites back
+abbrev pub whole : List FrontStep → Option PlanData → List Directive → List BackAnswerer
+    → List Step
+whole front cache rewrites back = map front_of front ++ inner_steps cache rewrites back
 
 -- and with a step for each extra behind its front
-abbrev pub whole_by : Sayings → List FrontStep → List Directive → List Directive
-    → List BackAnswerer → List Step
-whole_by said front extras rewrites back =
-    map front_of front ++ (extra_steps said extras ++ back_steps rewrites back)
+abbrev pub whole_by : Sayings → List FrontStep → List Directive → Option PlanData
+    → List Directive → List BackAnswerer → List Step
+whole_by said front extras cache rewrites back =
+    map front_of front ++ (extra_steps said extras ++ inner_steps cache rewrites back)
 
 -- what stands behind its front, where all extras are one step
-abbrev pub others_steps : (Query → Option Decision) → List Directive → List BackAnswerer
-    → List Step
-others_steps says rewrites back = Others says ∷ back_steps rewrites back
+abbrev pub others_steps : (Query → Option Decision) → Option PlanData → List Directive
+    → List BackAnswerer → List Step
+others_steps says cache rewrites back = Others says ∷ inner_steps cache rewrites back
 
 -- the whole chain, where all extras are one step
-abbrev pub whole_with : (Query → Option Decision) → List FrontStep → List Directive
-    → List BackAnswerer → List Step
-whole_with says front rewrites back = map front_of front ++ others_steps says rewrites back
+abbrev pub whole_with : (Query → Option Decision) → List FrontStep → Option PlanData
+    → List Directive → List BackAnswerer → List Step
+whole_with says front cache rewrites back =
+    map front_of front ++ others_steps says cache rewrites back

@@ -3,7 +3,10 @@ pub mod Chains
 pub mod Judging
 pub mod Plans
 pub mod Pools
-pub mod BlockPools
+pub mod Uses
+pub mod Judges
+pub mod Caches
+pub mod Shares
 pub mod Holding
 pub mod Workers
 pub mod Compiled

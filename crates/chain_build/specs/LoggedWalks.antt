@@ -8,10 +8,13 @@ use Rattle.outside.specs.Taking.{Asks, Takes}
 use Rattle.outside.specs.declared.kept.Kept.{Kept}
 use Rattle.outside.specs.declared.mark.Mark.{Mark}
 use Rattle.outside.specs.declared.mark.Mark.TheVariants.{Inner}
-use Rattle.one_history.specs.Logs.{GrowsBy, Place}
-use Rattle.one_history.specs.Shared.{calls_in, placed}
+use Rattle.one_history.specs.Logs.{GrowsBy}
+use Rattle.one_history.specs.Shared.{CallPlaces, Logged, cache_calls_in, placed_calls}
+use Rattle.one_history.specs.Shared.{pool_calls_in}
+use Rattle.chain_meaning.specs.Called.{CallNumbers}
 use Rattle.pin_table.specs.{Grows}
-use Rattle.chain_build.specs.Logs.{LogShape, Logged, pool_logs}
+use Rattle.chain_build.specs.Logs.{LogShape, pool_logs, shard_logs}
+use Rattle.chain_build.specs.declared.block_uses.BlockUses.{BlockUses}
 
 -- a side, what is kept of its inner marks, and a block's pools
 pub record AskState : Type 0 where
@@ -26,28 +29,37 @@ asking side kept pools = record { side = side; kept = kept; pools = pools }
 pub record AsksBy {A : Type 0} (pool : Option ℕ) (means : List Mark → Meaning A)
     (result : Result A NoMemory) (old new : AskState) : Type 0 where
   pub asks : Asks means result old.side new.side old.kept new.kept
-  pub logged : Logged pool (calls_in (map Inner asks.inners)) (pool_logs old.pools)
+  pub logged : Logged pool (pool_calls_in (map Inner asks.inners)) (pool_logs old.pools)
       (pool_logs new.pools)
 
--- a side, and a block's pools
+-- a side, and a block's uses of what workers share
 pub record TakeState : Type 0 where
   pub side : SideState
-  pub pools : List PoolUse
+  pub uses : BlockUses
 
-abbrev pub taking : SideState → List PoolUse → TakeState
-taking side pools = record { side = side; pools = pools }
+abbrev pub taking : SideState → BlockUses → TakeState
+taking side uses = record { side = side; uses = uses }
 
--- it took so, and called the pool with this number, if any, as its marks tell
-pub record TakesBy {A : Type 0} (pool : Option ℕ) (means : List Mark → Meaning A)
+-- a block's uses have grown by the calls that these marks tell, all at these numbers
+pub record UsesLogged (numbers : CallNumbers) (marks : List Mark) (old new : BlockUses) : Type 0
+  where
+    pub pools : Logged numbers.pool (pool_calls_in marks) (pool_logs old.pools)
+        (pool_logs new.pools)
+    pub shards : Logged numbers.shard (cache_calls_in marks) (shard_logs old.cache)
+        (shard_logs new.cache)
+
+-- it took so, and called the shard and the pool with these numbers, if any, as its marks tell
+pub record TakesBy {A : Type 0} (numbers : CallNumbers) (means : List Mark → Meaning A)
     (result : Result A NoMemory) (old new : TakeState) : Type 0 where
   pub takes : Takes means result old.side new.side
-  pub logged : Logged pool (calls_in takes.marks) (pool_logs old.pools) (pool_logs new.pools)
+  pub logged : UsesLogged numbers takes.marks old.uses new.uses
 
 -- it took so, and called nothing that workers share
 pub record TakesQuietly {A : Type 0} (means : List Mark → Meaning A) (result : Result A NoMemory)
     (old new : SideState) : Type 0 where
   pub takes : Takes means result old new
-  pub quiet : calls_in takes.marks ≡ []
+  pub pools : pool_calls_in takes.marks ≡ []
+  pub shards : cache_calls_in takes.marks ≡ []
 
 -- a side, and a chain's log
 pub record ServeState : Type 0 where
@@ -57,11 +69,11 @@ pub record ServeState : Type 0 where
 abbrev pub serving : SideState → List (List Mark) → ServeState
 serving side log = record { side = side; log = log }
 
--- it took so, and the log has grown by the calls that its marks tell, all at this place
-pub record TakesAt {A : Type 0} (shape : LogShape) (place : Option Place)
+-- it took so, and the log has grown by the calls that its marks tell, all at these places
+pub record TakesAt {A : Type 0} (shape : LogShape) (places : CallPlaces)
     (means : List Mark → Meaning A) (result : Result A NoMemory) (old new : ServeState)
     : Type 0 where
   pub takes : Takes means result old.side new.side
   pub grown : GrowsBy shape.places shape.serial
-      (placed shape.serial place (calls_in takes.marks)) old.log new.log
+      (placed_calls shape.serial places takes.marks) old.log new.log
   pub follows : Grows old.log new.log

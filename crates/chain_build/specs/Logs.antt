@@ -1,6 +1,5 @@
 -- The log of a chain: its own calls of what workers share, part by part. This server's own rule.
-use Rattle.std.specs.Prelude.{◌≡◌, ℕ, zero, suc, ◌+◌, ◌==◌, List, [], ◌∷◌, ◌++◌, map}
-use Rattle.std.specs.Prelude.{Option, Some, None, if◌then◌else◌, slice_index_or}
+use Rattle.std.specs.Prelude.{ℕ, zero, suc, ◌+◌, List, [], ◌∷◌, ◌++◌, map, Option, Some, None}
 use Rattle.outside.specs.declared.entry.InnerMark.TheVariants.{Drawn, Reported}
 use Rattle.outside.specs.declared.mark.Mark.{Mark}
 use Rattle.outside.specs.declared.mark.Mark.TheVariants.{Inner}
@@ -10,9 +9,14 @@ use Rattle.upstream_health.specs.declared.state.PoolTold.TheVariants.{Drew, Note
 use Rattle.forward_plugin.specs.PoolUses.{calls_of}
 use Rattle.forward_plugin.specs.declared.pool_use.PoolUse.{PoolUse}
 use Rattle.one_history.specs.Logs.{Place}
-use Rattle.chain_meaning.specs.Called.{pool_part}
+use Rattle.one_history.specs.Runs.{SHARDS}
+use Rattle.plugin_api.specs.{PlanData}
+use Rattle.cache_plugin.specs.{UseData, use_logs}
+use Rattle.chain_meaning.specs.Called.{pool_part, shard_part}
 use Rattle.chain_build.specs.declared.block.BlockChain.{BlockChain}
-use Rattle.chain_build.specs.BlockPools.{chain_pools}
+use Rattle.chain_build.specs.Uses.{chain_pools}
+use Rattle.chain_build.specs.declared.block_uses.BlockUses.{BlockUses}
+use Rattle.chain_build.specs.declared.judge.CacheJudge.{CacheJudge}
 use Rattle.chain_build.specs.Plans.{PlansData}
 
 -- the mark that tells a call of a pool
@@ -35,24 +39,39 @@ use_log u = pool_marks (calls_of u)
 abbrev pub pool_logs : List PoolUse → List (List Mark)
 pool_logs uses = map use_log uses
 
--- and of those of all blocks
-abbrev pub held_log : List (List PoolUse) → List (List Mark)
+-- and of each shard of its cache, where it has one
+abbrev pub shard_logs : Option (UseData CacheJudge) → List (List Mark)
+shard_logs None = []
+shard_logs (Some u) = use_logs u
+
+abbrev pub block_log : BlockUses → List (List Mark)
+block_log uses = shard_logs uses.cache ++ pool_logs uses.pools
+
+-- and of what all blocks share
+abbrev pub held_log : List BlockUses → List (List Mark)
 held_log [] = []
-held_log (uses ∷ blocks) = pool_logs uses ++ held_log blocks
+held_log (uses ∷ blocks) = block_log uses ++ held_log blocks
 
-abbrev pub log_at : List (List Mark) → ℕ → List Mark
-log_at logs pool = slice_index_or logs pool []
+-- where the parts of a log stand: so many, from one on
+abbrev pub numbered : (ℕ → Place) → ℕ → ℕ → List Place
+numbered at first zero = []
+numbered at first (suc count) = at first ∷ numbered at (first + 1) count
 
--- where the parts of a log stand: so many pools of a block, from one on
-abbrev pub numbered : ℕ → ℕ → ℕ → List Place
-numbered block pool zero = []
-numbered block pool (suc count) = pool_part block pool ∷ numbered block (pool + 1) count
+-- how many shards a block's cache has
+abbrev pub shards_in : Option PlanData → ℕ
+shards_in None = 0
+shards_in (Some plan) = SHARDS
+
+-- those of a block: the shards of its cache, and its pools
+abbrev pub block_places : ℕ → BlockChain → List Place
+block_places block chain =
+    numbered (shard_part block) 0 (shards_in chain.cache)
+    ++ numbered (pool_part block) 0 (chain_pools chain)
 
 -- those of blocks, from one on
 abbrev pub places_from : ℕ → List BlockChain → List Place
 places_from block [] = []
-places_from block (chain ∷ chains) =
-    numbered block 0 (chain_pools chain) ++ places_from (block + 1) chains
+places_from block (chain ∷ chains) = block_places block chain ++ places_from (block + 1) chains
 
 -- those of a chain of a configuration
 abbrev pub chain_places : PlansData → List Place
@@ -65,15 +84,3 @@ pub record LogShape : Type 0 where
 
 abbrev pub shape_of : PlansData → ℕ → LogShape
 shape_of plans serial = record { serial = serial; places = chain_places plans }
-
--- of these calls, those of a pool, where all were of the one with this number
-abbrev pub called : Option ℕ → ℕ → List Mark → List Mark
-called None pool calls = []
-called (Some number) pool calls = if number == pool then calls else []
-
--- the log of each pool has grown by its calls, all of which were of the pool with this number;
--- where there is no such pool there is none
-pub record Logged (number : Option ℕ) (calls : List Mark) (old new : List (List Mark)) : Type 0
-  where
-    pub each : (pool : ℕ) → log_at new pool ≡ log_at old pool ++ called number pool calls
-    pub none : number ≡ None → calls ≡ []

@@ -2,6 +2,7 @@
 use Rattle.std.specs.Prelude.{◌≡◌, ℕ, ◌+◌, true, false, List, [], ◌∷◌, ◌++◌, length, Option}
 use Rattle.std.specs.Prelude.{None, Some, Result, Ok, Err}
 use Rattle.std.specs.List.{All}
+use Rattle.std.specs.Option.{option_or}
 use Rattle.dns_data.specs.declared.block.Block.{Block}
 use Rattle.dns_data.specs.declared.directive.Directive.{Directive}
 use Rattle.plugin_api.specs.{PlanData, Takings, rank_of}
@@ -10,7 +11,8 @@ use Rattle.plugin_api.specs.declared.ranks.Rank.TheVariants as rank
 use Rattle.dns_data.specs.declared.file.FileText.{FileText}
 use Rattle.pattern_judging.specs.{IsFault, IsWell, Task}
 use Rattle.chain_meaning.specs.Accepting.{Behind, block_task, rank_patterns, told}
-use Rattle.chain_meaning.specs.Steps.{Context, Step, acl_steps, any_steps, context_of, error_steps}
+use Rattle.chain_meaning.specs.Steps.{Context, Step, acl_steps, any_steps, cache_steps}
+use Rattle.chain_meaning.specs.Steps.{context_of, error_steps}
 use Rattle.chain_meaning.specs.Steps.{file_plan, file_steps, forward_plan, forward_steps, hosts_plan}
 use Rattle.chain_meaning.specs.Steps.{hosts_steps}
 use Rattle.chain_meaning.specs.Steps.{log_steps, plan_in, rewrite_steps, template_steps}
@@ -30,6 +32,7 @@ no_places patterns = record {
   acls = [];
   any = false;
   extras = [];
+  cache = None;
   rewrites = [];
   templates = [];
   hosts = [];
@@ -55,6 +58,8 @@ placed_plain other plan places = places
 abbrev pub placed_by : Option Rank → Context → Directive → Places → Places
 placed_by (Some rank.Acl) context d places =
     record places { acls = places.acls ++ plan_in context.zones d ∷ [] }
+placed_by (Some rank.Cache) context d places =
+    record places { cache = option_or places.cache (Some (plan_in context.zones d)) }
 placed_by (Some rank.Rewrite) context d places = record places {
   rewrites = places.rewrites ++ d ∷ [];
   patterns = places.patterns + length (rank_patterns (Some rank.Rewrite) d);
@@ -93,7 +98,7 @@ answers_in places =
 
 abbrev pub back_in : Places → List Step
 back_in places =
-    rewrite_steps places.rewrites ++ answers_in places
+    cache_steps places.cache ++ (rewrite_steps places.rewrites ++ answers_in places)
 
 -- what the next directive of a block stands behind, where this was read of those before it
 abbrev pub behind_in : Context → List Directive → Places → Behind

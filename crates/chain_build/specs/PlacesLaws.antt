@@ -3,14 +3,15 @@ use Rattle.std.proofs.Common.{◌≡◌, ℕ, ◌+◌, length, arith, Bool, true
 use Rattle.std.specs.Prelude.{◌||◌}
 use Rattle.std.proofs.lemmas.List.{append-nil, length-append}
 use Rattle.std.specs.List.{filter}
+use Rattle.std.specs.Option.{option_or}
 use Rattle.dns_data.specs.declared.block.Block.{Block}
 use Rattle.dns_data.specs.declared.directive.Directive.{Directive}
 use Rattle.dns_data.specs.declared.file.FileText.{FileText}
-use Rattle.plugin_api.specs.{Sayings, rank_of}
+use Rattle.plugin_api.specs.{PlanData, Sayings, rank_of}
 use Rattle.plugin_api.specs.declared.ranks.Rank.{Rank}
 use Rattle.plugin_api.specs.declared.ranks.Rank.TheVariants as rank
 use Rattle.chain_meaning.specs.Accepting.{patterns_in, rank_patterns}
-use Rattle.chain_meaning.specs.Steps.{Context, context_of, extra_steps, extras_of, file_plan, file_plans, forward_plan, forward_plans, has_rank, hosts_plan, hosts_plans, plan_in, plans_of, rewrite_steps, some_has, steps_of}
+use Rattle.chain_meaning.specs.Steps.{Context, cache_plan, cache_steps, context_of, extra_steps, extras_of, file_plan, file_plans, forward_plan, forward_plans, has_rank, hosts_plan, hosts_plans, plan_in, plans_of, rewrite_steps, some_has, steps_of}
 use Rattle.chain_build.specs.declared.block_chain.BackAnswerer.{BackAnswerer}
 use Rattle.chain_build.specs.declared.block_chain.FrontStep.{FrontStep}
 use Rattle.chain_build.specs.declared.places.Places.{Places}
@@ -25,6 +26,7 @@ with_all c ds p = record {
   acls = p.acls ++ plans_of rank.Acl c.zones ds;
   any = p.any || some_has rank.Any ds;
   extras = p.extras ++ extras_of ds;
+  cache = option_or p.cache (cache_plan c.zones ds);
   rewrites = p.rewrites ++ filter (has_rank rank.Rewrite) ds;
   templates = p.templates ++ plans_of rank.Template c.zones ds;
   hosts = p.hosts ++ hosts_plans c ds;
@@ -42,6 +44,14 @@ or_false : (b : Bool) → (b || false) ≡ b
 or_false true = refl
 or_false false = refl
 
+or_none : (o : Option PlanData) → option_or o None ≡ o
+or_none None = refl
+or_none (Some plan) = refl
+
+or_first : (o : Option PlanData) (plan : PlanData) (later : Option PlanData) → option_or (option_or o (Some plan)) later ≡ option_or o (Some plan)
+or_first None plan later = refl
+or_first (Some first) plan later = refl
+
 plus_none : (n : ℕ) → n + 0 ≡ n
 plus_none n = omega arith
 
@@ -58,7 +68,7 @@ step c d ds p (Some rank.Dns64) e = rw e refl
 step c d ds p (Some rank.Acl) e = rw e (ap (λ x. record (with_all c ds p) { acls = x }) (append_assoc p.acls (plan_in c.zones d ∷ []) (plans_of rank.Acl c.zones ds)))
 step c d ds p (Some rank.Any) e = rw e (ap (λ x. record (with_all c ds p) { any = x }) (sym (or_true p.any)))
 step c d ds p (Some rank.Extra) e = rw e refl
-step c d ds p (Some rank.Cache) e = rw e refl
+step c d ds p (Some rank.Cache) e = rw e (ap (λ x. record (with_all c ds p) { cache = x }) (or_first p.cache (plan_in c.zones d) (cache_plan c.zones ds)))
 step c d ds p (Some rank.Rewrite) e = rw e (λ i. record (with_all c ds p) {
   rewrites = append_assoc p.rewrites (d ∷ []) (filter (has_rank rank.Rewrite) ds) i;
   patterns = counts_on p.patterns (rank_patterns (Some rank.Rewrite) d) (patterns_in ds) i;
@@ -79,6 +89,7 @@ all c [] p = λ i. record {
   acls = sym (append-nil p.acls) i;
   any = sym (or_false p.any) i;
   extras = sym (append-nil p.extras) i;
+  cache = sym (or_none p.cache) i;
   rewrites = sym (append-nil p.rewrites) i;
   templates = sym (append-nil p.templates) i;
   hosts = sym (append-nil p.hosts) i;
@@ -119,7 +130,8 @@ places-steps said files block n places is =
 
 -- and so are the compiled ones
 pub steps-placed : (said : Sayings) (files : List FileText) (block : Block) (n : ℕ) (front : List FrontStep) (back : List BackAnswerer) (places : Places) → places ≡ placed (context_of files block) block.directives (no_places n)
-    → map front_of front ≡ front_in places → map back_of back ≡ answers_in places → whole_by said front places.extras places.rewrites back ≡ steps_of said files block
+    → map front_of front ≡ front_in places → map back_of back ≡ answers_in places → whole_by said front places.extras places.cache places.rewrites back ≡ steps_of said files block
 steps-placed said files block n front back places is f b =
-    let compiled : whole_by said front places.extras places.rewrites back ≡ front_in places ++ (extra_steps said places.extras ++ back_in places) = λ i. f i ++ (extra_steps said places.extras ++ (rewrite_steps places.rewrites ++ b i)) in
+    let compiled : whole_by said front places.extras places.cache places.rewrites back ≡ front_in places ++ (extra_steps said places.extras ++ back_in places)
+    = λ i. f i ++ (extra_steps said places.extras ++ (cache_steps places.cache ++ (rewrite_steps places.rewrites ++ b i))) in
     compiled ∙ places-steps said files block n places is

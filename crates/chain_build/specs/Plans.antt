@@ -11,12 +11,20 @@ use Rattle.chain_meaning.specs.Accepting.{IsAccepted}
 use Rattle.chain_meaning.specs.Steps.{Step, block_extras, steps_of}
 use Rattle.chain_meaning.specs.Grounds.{Ground, Terms, ground_at, terms_on}
 use Rattle.chain_build.specs.declared.block.BlockChain.{BlockChain}
-use Rattle.chain_build.specs.Compiled.{whole_by}
+use Rattle.chain_build.specs.Compiled.{back_steps, inner_steps, whole_by}
 use Rattle.chain_build.specs.Places.{AreTaken}
 
 -- the steps of a block's chain, and its extras
 abbrev pub steps_in : Sayings → BlockChain → List Step
-steps_in said chain = whole_by said chain.front chain.extras chain.rewrites chain.back
+steps_in said chain =
+    whole_by said chain.front chain.extras chain.cache chain.rewrites chain.back
+
+-- what stands behind its cache, and behind its extras
+abbrev pub behind_of : BlockChain → List Step
+behind_of chain = back_steps chain.rewrites chain.back
+
+abbrev pub inner_of : BlockChain → List Step
+inner_of chain = inner_steps chain.cache chain.rewrites chain.back
 
 abbrev pub extras_in : BlockChain → List Directive
 extras_in chain = chain.extras

@@ -1,5 +1,5 @@
 -- The equations of the steps of a compiled chain, for those who walk it.
-use Rattle.std.proofs.Common.{◌≡◌, ◌<◌, List, [], ◌∷◌, ◌++◌, map, length, refl, ap, ◌∙◌, arith}
+use Rattle.std.proofs.Common.{◌≡◌, ◌<◌, Bool, true, false, List, [], ◌∷◌, ◌++◌, map, length, Option, Some, None, if◌then◌else◌, refl, ap, ◌∙◌, arith}
 use Rattle.dns_data.specs.declared.directive.Directive.{Directive}
 use Rattle.dns_data.specs.declared.query.Query.{Query}
 use Rattle.outside.specs.Meanings.{Done, onward}
@@ -10,8 +10,11 @@ use Rattle.plugin_api.specs.declared.verdict.Code.TheVariants as code
 use Rattle.rewrite_plugin.specs.{changed_by}
 use Rattle.chain_meaning.specs.declared.decision.Decision.TheVariants as decision
 use Rattle.chain_meaning.specs.Mean.{answer_of, error_noted, mean, or_rest, query_noted, rewritten, rule}
-use Rattle.chain_meaning.specs.MeanLaws.{mean-end, mean-step, rule-answers, rule-errors, rule-log, rule-rewrite}
-use Rattle.chain_meaning.specs.Steps.{Step, Rewrite}
+use Rattle.chain_meaning.specs.Caching.{cache_means, cached}
+use Rattle.chain_meaning.specs.MeanLaws.{mean-end, mean-step, rule-answers, rule-cache, rule-errors, rule-log, rule-rewrite}
+use Rattle.chain_meaning.specs.Steps.{Step, Cache, Rewrite, cache_steps}
+use Rattle.cache_rules.specs.{cache_zones}
+use Rattle.zone_words.specs.{is_in}
 use Rattle.chain_build.specs.Compiled.{back_answerer, back_of, back_steps, front_answerer, front_of}
 use Rattle.chain_build.specs.declared.block_chain.BackAnswerer.{BackAnswerer}
 use Rattle.chain_build.specs.declared.block_chain.FrontAnswerer.{FrontAnswerer}
@@ -39,6 +42,20 @@ pub behind-rules : (rewrites : List Directive) (back : List BackAnswerer) (q : Q
     → mean (back_steps rewrites back) q marks ≡ rewritten (mean (map back_of back)) rewrites (changed_by rewrites q) marks
 behind-rules [] back q h marks = absurd (omega (arith, h))
 behind-rules (d ∷ ds) back q h marks = mean-step (Rewrite (d ∷ ds)) (map back_of back) q marks ∙ rule-rewrite (d ∷ ds) (mean (map back_of back)) q marks
+
+-- where a chain has no cache, where it has one for the name, and where it has one that isn't
+pub inner-none : (cache : Option PlanData) (steps : List Step) (q : Query) → cache ≡ None → (marks : List Mark) → mean (cache_steps cache ++ steps) q marks ≡ mean steps q marks
+inner-none cache steps q none marks = ap (λ (o : Option PlanData). mean (cache_steps o ++ steps) q marks) none
+
+cache_rule : (cache : Option PlanData) (plan : PlanData) (steps : List Step) (q : Query) → cache ≡ Some plan → (marks : List Mark) → mean (cache_steps cache ++ steps) q marks ≡ cache_means (mean steps) plan q marks
+cache_rule cache plan steps q is marks = ap (λ (o : Option PlanData). mean (cache_steps o ++ steps) q marks) is ∙ mean-step (Cache plan) steps q marks ∙ rule-cache plan (mean steps) q marks
+
+pub inner-cached : (cache : Option PlanData) (plan : PlanData) (steps : List Step) (q : Query) → cache ≡ Some plan → is_in q.name (cache_zones plan) ≡ true → (marks : List Mark)
+    → mean (cache_steps cache ++ steps) q marks ≡ cached (mean steps) plan q marks
+inner-cached cache plan steps q is covers marks = cache_rule cache plan steps q is marks ∙ ap (λ (t : Bool). if t then cached (mean steps) plan q marks else mean steps q marks) covers
+
+pub inner-beyond : (cache : Option PlanData) (plan : PlanData) (steps : List Step) (q : Query) → cache ≡ Some plan → is_in q.name (cache_zones plan) ≡ false → (marks : List Mark) → mean (cache_steps cache ++ steps) q marks ≡ mean steps q marks
+inner-beyond cache plan steps q is beyond marks = cache_rule cache plan steps q is marks ∙ ap (λ (t : Bool). if t then cached (mean steps) plan q marks else mean steps q marks) beyond
 
 -- in front of it, whatever stands behind
 pub front-end : (steps : List FrontStep) (behind : List Step) (q : Query) → length steps ≡ 0 → (marks : List Mark) → mean (map front_of steps ++ behind) q marks ≡ mean behind q marks

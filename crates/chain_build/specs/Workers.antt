@@ -27,7 +27,7 @@ chain_identity chain =
 -- what it called of what workers share
 abbrev pub chain_log : {B E : Type 0} {b : rulebook.Ghosts B} {e : extra.Ghosts E}
     → Chain B E b e → List (List Mark)
-chain_log chain = held_log (box_value chain.held).pools.items
+chain_log chain = held_log (box_value chain.held).uses.items
 
 -- by what plans serve, with this serial
 abbrev pub server_in : Takings → Sayings → PlansData → ℕ → Server

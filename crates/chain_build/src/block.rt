@@ -3,6 +3,7 @@ ghost use Rattle.chain_build.specs.Compiled.{back_of};
 ghost use Rattle.chain_build.specs.Pools.{HasLoneForward, HasOneForward};
 
 use crate::block_chain::{BackAnswerer, FrontStep};
+use cache_rules::CachePlan;
 use dns_data::{Directives, Seq};
 use rewrite_plugin::RewritePlan;
 
@@ -12,6 +13,8 @@ pub struct BlockChain {
     pub front: Seq<FrontStep>,
     /// The directives of extras, which stand behind the front.
     pub extras: Directives,
+    /// The directive of the cache, which stands behind these.
+    pub cache: Option<CachePlan>,
     /// The rules that change the query for the plugins behind them.
     pub rewrites: Seq<RewritePlan>,
     pub back: Seq<BackAnswerer>,

@@ -1,7 +1,7 @@
 //! The chains of a generation, one for each worker.
 ghost use Rattle.std.specs.Prelude.{◌≡◌, ◌≤◌, ◌<◌, ◌+◌, ◌-◌, ◌*◌, ◌^◌, ◌++◌, ℕ, List, []};
 ghost use Rattle.std.specs.Prelude.{IfOk, OnOk, OnErr};
-ghost use Rattle.std.specs.Prelude.{length, map, vec_len, vec_capacity};
+ghost use Rattle.std.specs.Prelude.{map, vec_len, vec_capacity};
 ghost use Rattle.std.specs.Arc.{arc_value};
 ghost use Rattle.std.specs.Box.{box_value};
 ghost use Rattle.std.specs.List.{All};
@@ -10,24 +10,22 @@ ghost use Rattle.extra_stock.specs.{seats_of_chains};
 ghost use Rattle.pin_table.specs.{AreNew};
 ghost use Rattle.plugin_api.specs.{Obey};
 ghost use Rattle.chain_build.specs.Building.{Builds, BuildsChains};
-ghost use Rattle.chain_build.specs.Compiled.{back_of};
-ghost use Rattle.chain_build.specs.BlockPools.{ArePooled, chain_pools};
-ghost use Rattle.chain_build.specs.Pools.{forwards_in, pools_in};
+ghost use Rattle.chain_build.specs.Shares.{AreUncalled, HaveMore, HaveParts};
+ghost use Rattle.chain_build.specs.Uses.{AreUsed, chain_shape, use_shape};
 ghost use Rattle.chain_build.specs.Places.{AreTaken};
-ghost use Rattle.forward_plugin.specs.{HasMore, HasParts, IsUncalled};
 ghost use Rattle.chain_build.specs.Workers.{chain_extras, chain_identity, chain_log, plans_of};
 
 use crate::block::BlockChain;
-use crate::block_chain::BackAnswerer;
+use crate::block_uses::BlockUses;
 use crate::chain::Chain;
 use crate::held::Held;
 use crate::plans::Plans;
 use dns_data::{NoMemory, Text};
 use extra_stock::{Seats, Stock, find_short, give_blocks, seat_blocks};
-use forward_plugin::{ForwardPlan, Pools};
 use outside::Mark;
 use pin_table::Tagged;
 use plugin_api::{Extra, Rulebook};
+use seeded_hash::Seed;
 use std::alloc::Global;
 use std::sync::Arc;
 
@@ -62,14 +60,15 @@ impl From<NoMemory> for BuildFault {
     }
 }
 
-/// A chain for each of so many workers, of this serial, with extras out of the stock. After a fault
-/// the stock has the same extras.
+/// A chain for each of so many workers, of this serial, with extras out of the stock. Caches hash
+/// with the seed. After a fault the stock has the same extras.
 pub fn build<B: Rulebook, E: Extra>(
     alloc: Global,
     plans: &Arc<Plans<B>>,
     serial: u64,
     workers: u64,
     stock: &mut Stock<E>,
+    seed: Seed,
 ) -> Result<Vec<Chain<B, E>>, BuildFault>
     requires workers { workers < 2 ^ 32 }
     requires obey { Obey B.taken B.said E.title E.takes E.ruling stock.old.spare.items }
@@ -103,7 +102,7 @@ pub fn build<B: Rulebook, E: Extra>(
             had: short.had,
         });
     }
-    Ok(build_chains(alloc, plans, serial, workers, stock)?)
+    Ok(build_chains(alloc, plans, serial, workers, stock, seed)?)
 }
 
 // The same where the stock has enough.
@@ -113,6 +112,7 @@ fn build_chains<B: Rulebook, E: Extra>(
     serial: u64,
     workers: u64,
     stock: &mut Stock<E>,
+    seed: Seed,
 ) -> Result<Vec<Chain<B, E>>, NoMemory>
     requires workers { workers < 2 ^ 32 }
     requires obey { Obey B.taken B.said E.title E.takes E.ruling stock.old.spare.items }
@@ -134,7 +134,7 @@ fn build_chains<B: Rulebook, E: Extra>(
     ensures capacity { vec_capacity stock.new.spare ≡ vec_capacity stock.old.spare }
 {
     let mut chains = Vec::with_capacity(alloc, workers as usize)?;
-    let mut shared = share_pools(alloc, plans.chains.as_slice(), workers + 1)?;
+    let mut shared = share_uses(alloc, plans.chains.as_slice(), workers + 1, seed)?;
     for worker in 0..workers {
         let of = ChainOf {
             plans,
@@ -164,11 +164,11 @@ struct ChainOf<'a, B: Rulebook> {
 fn one_chain<B: Rulebook, E: Extra>(
     alloc: Global,
     of: &ChainOf<'_, B>,
-    shared: &mut [Pools],
+    shared: &mut [BlockUses],
     stock: &mut Stock<E>,
 ) -> Result<Chain<B, E>, NoMemory>
-    requires pooled { ArePooled (arc_value of.now.plans.now).chains shared.old }
-    requires more { All (All HasMore) shared.old }
+    requires used { AreUsed (arc_value of.now.plans.now).chains shared.old }
+    requires more { All HaveMore shared.old }
     requires obey { Obey B.taken B.said E.title E.takes E.ruling stock.old.spare.items }
     requires taken { All (AreTaken B.taken) (arc_value of.now.plans.now).extras }
     requires enough { (n : List ℕ) → asked_by (is_named n) (arc_value of.now.plans.now).extras
@@ -176,10 +176,10 @@ fn one_chain<B: Rulebook, E: Extra>(
     ensures plans { IfOk result (λ chain. plans_of chain ≡ arc_value of.now.plans.now) }
     ensures serial { IfOk result (λ chain. (box_value chain.held).serial ≡ of.now.serial) }
     ensures worker { IfOk result (λ chain. (box_value chain.held).worker ≡ of.now.worker) }
-    ensures fresh { IfOk result (λ chain. All (All IsUncalled) (box_value chain.held).pools.items) }
-    ensures pooled { ArePooled (arc_value of.now.plans.now).chains shared.new }
-    ensures parts { (parts : ℕ) → All (All (HasParts parts)) shared.old
-        → OnOk result (All (All (HasParts (parts - 1))) shared.new) }
+    ensures fresh { IfOk result (λ chain. All AreUncalled (box_value chain.held).uses.items) }
+    ensures used { AreUsed (arc_value of.now.plans.now).chains shared.new }
+    ensures parts { (parts : ℕ) → All (HaveParts parts) shared.old
+        → OnOk result (All (HaveParts (parts - 1)) shared.new) }
     ensures judges { stock.new.judges ≡ stock.old.judges }
     ensures obey { Obey B.taken B.said E.title E.takes E.ruling stock.new.spare.items }
     ensures ok { (w : List ℕ → ℕ) → OnOk result (names_weigh E.title w stock.new.spare.items
@@ -193,29 +193,34 @@ fn one_chain<B: Rulebook, E: Extra>(
     ensures capacity { vec_capacity stock.new.spare ≡ vec_capacity stock.old.spare }
 {
     let plans = Arc::try_clone(of.plans)?;
-    let mut pools = Vec::with_capacity(alloc, shared.len())?;
-    split_pools(alloc, shared, &mut pools)?;
+    let mut uses = Vec::with_capacity(alloc, shared.len())?;
+    split_uses(alloc, shared, &mut uses)?;
     let mut held = Box::new(
         alloc,
         Held {
             serial: of.serial,
             worker: of.worker,
             seats: Vec::new(alloc),
-            pools,
+            uses,
         },
     )?;
     held.seats = seat_blocks(alloc, plans.extras.as_slice(), &mut stock.spare)?;
     Ok(Chain { plans, held })
 }
 
-// New pools for chains, block by block, whose seats have so many parts.
-fn share_pools(alloc: Global, chains: &[BlockChain], parts: u64) -> Result<Vec<Pools>, NoMemory>
+// New uses for chains, block by block, with so many parts of each.
+fn share_uses(
+    alloc: Global,
+    chains: &[BlockChain],
+    parts: u64,
+    seed: Seed,
+) -> Result<Vec<BlockUses>, NoMemory>
     requires { 0 < parts }
-    ensures pooled { IfOk result (λ pools. ArePooled chains.now pools.items) }
-    ensures parts { IfOk result (λ pools. All (All (HasParts parts)) pools.items) }
+    ensures used { IfOk result (λ uses. AreUsed chains.now uses.items) }
+    ensures parts { IfOk result (λ uses. All (HaveParts parts) uses.items) }
 {
     let mut all = Vec::with_capacity(alloc, chains.len())?;
-    share_more(alloc, chains, parts, &mut all)?;
+    share_more(alloc, chains, parts, seed, &mut all)?;
     Ok(all)
 }
 
@@ -224,59 +229,42 @@ fn share_more(
     alloc: Global,
     chains: &[BlockChain],
     parts: u64,
-    all: &mut Vec<Pools>,
+    seed: Seed,
+    all: &mut Vec<BlockUses>,
 ) -> Result<(), NoMemory>
     requires parts { 0 < parts }
-    requires all { All (All (HasParts parts)) all.old.items }
-    ensures pooled { OnOk result (map length all.new.items
-        ≡ map length all.old.items ++ map chain_pools chains.now) }
-    ensures parts { OnOk result (All (All (HasParts parts)) all.new.items) }
+    requires all { All (HaveParts parts) all.old.items }
+    ensures used { OnOk result (map use_shape all.new.items
+        ≡ map use_shape all.old.items ++ map chain_shape chains.now) }
+    ensures parts { OnOk result (All (HaveParts parts) all.new.items) }
 {
     let Some((chain, rest)) = chains.split_first() else {
         return Ok(());
     };
-    all.push(chain_pools(alloc, chain, parts)?)?;
-    share_more(alloc, rest, parts, all)
+    all.push(BlockUses::share(alloc, chain, parts, seed)?)?;
+    share_more(alloc, rest, parts, seed, all)
 }
 
-// New pools for a chain.
-fn chain_pools(alloc: Global, chain: &BlockChain, parts: u64) -> Result<Pools, NoMemory>
-    requires { 0 < parts }
-    ensures count { IfOk result (λ pools. length pools ≡ pools_in chain.now.back) }
-    ensures parts { IfOk result (λ pools. All (HasParts parts) pools) }
-{
-    Pools::share(alloc, forwards_of(chain.back.as_slice()), parts)
-}
-
-// The directives `forward` of a block.
-fn forwards_of(back: &[BackAnswerer]) -> &[ForwardPlan]
-    ensures { result.now ≡ forwards_in (map back_of back.now) }
-{
-    let Some((plugin, rest)) = back.split_first() else {
-        return &[];
-    };
-    match plugin {
-        BackAnswerer::Forward(plans) => plans.as_slice(),
-        _ => forwards_of(rest),
-    }
-}
-
-// One part of all pools for a worker, behind those of others.
-fn split_pools(alloc: Global, shared: &mut [Pools], others: &mut Vec<Pools>) -> Result<(), NoMemory>
-    requires more { All (All HasMore) shared.old }
-    requires fresh { All (All IsUncalled) others.old.items }
-    ensures stays { map length shared.new ≡ map length shared.old }
-    ensures fresh { All (All IsUncalled) others.new.items }
-    ensures pools { OnOk result
-        (map length others.new.items ≡ map length others.old.items ++ map length shared.old) }
-    ensures parts { (parts : ℕ) → All (All (HasParts parts)) shared.old
-        → OnOk result (All (All (HasParts (parts - 1))) shared.new) }
+// One part of all uses for a worker, behind those of others.
+fn split_uses(
+    alloc: Global,
+    shared: &mut [BlockUses],
+    others: &mut Vec<BlockUses>,
+) -> Result<(), NoMemory>
+    requires more { All HaveMore shared.old }
+    requires fresh { All AreUncalled others.old.items }
+    ensures stays { map use_shape shared.new ≡ map use_shape shared.old }
+    ensures used { OnOk result (map use_shape others.new.items
+        ≡ map use_shape others.old.items ++ map use_shape shared.old) }
+    ensures fresh { All AreUncalled others.new.items }
+    ensures parts { (parts : ℕ) → All (HaveParts parts) shared.old
+        → OnOk result (All (HaveParts (parts - 1)) shared.new) }
 {
     let Some((first, rest)) = shared.split_first_mut() else {
         return Ok(());
     };
     others.push(first.split(alloc)?)?;
-    split_pools(alloc, rest, others)
+    split_uses(alloc, rest, others)
 }
 
 /// Brings the extras of chains home. It takes no memory: their places in the stock stayed free.
@@ -309,7 +297,7 @@ fn seats_of<B: Rulebook, E: Extra>(chain: Chain<B, E>) -> Vec<Seats<B, E>>
         serial: _,
         worker: _,
         seats,
-        pools: _,
+        uses: _,
     } = Box::into_inner(held);
     seats
 }

@@ -1,7 +1,7 @@
 ghost use Rattle.std.specs.Prelude.{◌≡◌};
 ghost use Rattle.std.specs.Arc.{arc_value};
 ghost use Rattle.std.specs.Box.{box_value};
-ghost use Rattle.chain_build.specs.BlockPools.{ArePooled};
+ghost use Rattle.chain_build.specs.Uses.{AreUsed};
 
 use crate::held::Held;
 use crate::plans::Plans;
@@ -15,5 +15,5 @@ pub struct Chain<B: Rulebook, E: Extra> {
     pub plans: Arc<Plans<B>>,
     pub held: Box<Held<B, E>>,
     ghost seated: { (box_value held).seats.items ≡ (arc_value plans).extras },
-    ghost pooled: { ArePooled (arc_value plans).chains (box_value held).pools.items },
+    ghost used: { AreUsed (arc_value plans).chains (box_value held).uses.items },
 }

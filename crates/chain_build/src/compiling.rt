@@ -22,6 +22,7 @@ use template_plugin::TemplatePlan;
 pub fn compile(alloc: Global, places: Places) -> Result<BlockChain, NoMemory>
     ensures front { IfOk result (λ chain. map front_of chain.front ≡ front_in places) }
     ensures extras { IfOk result (λ chain. chain.extras ≡ places.extras) }
+    ensures cache { IfOk result (λ chain. chain.cache ≡ places.cache) }
     ensures rewrites { IfOk result (λ chain. chain.rewrites ≡ places.rewrites) }
     ensures back { IfOk result (λ chain. map back_of chain.back ≡ answers_in places) }
 {
@@ -31,6 +32,7 @@ pub fn compile(alloc: Global, places: Places) -> Result<BlockChain, NoMemory>
         acls,
         any,
         extras,
+        cache,
         rewrites,
         templates,
         hosts,
@@ -49,6 +51,7 @@ pub fn compile(alloc: Global, places: Places) -> Result<BlockChain, NoMemory>
     Ok(BlockChain {
         front,
         extras,
+        cache,
         rewrites,
         back,
         asks,

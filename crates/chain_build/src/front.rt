@@ -1,18 +1,20 @@
 ghost use Rattle.dns_data.specs.declared.limit.TheConstants as limits;
-ghost use Rattle.std.specs.Prelude.{◌≡◌, ◌<◌, length};
+ghost use Rattle.std.specs.Prelude.{◌≡◌, ◌<◌};
 ghost use Rattle.dns_data.specs.Message.{no_answer};
 ghost use Rattle.acl_plugin.specs.{acl_say};
-ghost use Rattle.chain_meaning.specs.Called.{pool_in};
+ghost use Rattle.chain_meaning.specs.Called.{numbers_in};
 ghost use Rattle.chain_meaning.specs.Mean.{mean, nothing};
-ghost use Rattle.chain_build.specs.Compiled.{back_steps, front_answerer, others_steps};
+ghost use Rattle.chain_build.specs.Compiled.{front_answerer, others_steps};
 ghost use Rattle.chain_build.specs.Compiled.{whole_with};
 ghost use Rattle.chain_build.specs.LoggedWalks.{TakesBy, taking};
-ghost use Rattle.chain_build.specs.Pools.{pools_in};
+ghost use Rattle.chain_build.specs.Plans.{inner_of};
+ghost use Rattle.chain_build.specs.Uses.{IsUsed, SameUses};
 ghost use Rattle.chain_build.specs.Walking.{Answered, decided};
 
-use crate::back::run_behind;
 use crate::block::BlockChain;
 use crate::block_chain::{ChainRest, FrontAnswerer, FrontStep};
+use crate::block_uses::BlockUses;
+use crate::caching::run_inner;
 use crate::ended::Ended;
 use crate::extras::Extras;
 use crate::noting::{note_error, note_query};
@@ -20,47 +22,45 @@ use crate::room::WalkRoom;
 use crate::walk::Walk;
 use acl_plugin::{AclSay, decide};
 use dns_data::{NoMemory, Query, Slot, kind, rcode};
-use forward_plugin::Pools;
-use outside::{Kept, Side};
+use outside::Side;
 use plain_plugins::any_answer;
 use std::alloc::Global;
 use std::sync::Wait;
 
 /// Runs what is left of a chain: its steps in front of a cache, plugins of others where these end,
-/// and then what stands behind a cache. The slot is clear.
+/// and then a cache, and what stands behind it. The slot is clear.
 pub fn run_front<'a, R: Wait, S: Side, X: Extras>(
     walk: &Walk<'_, R>,
     steps: ChainRest<'a>,
-    pools: &mut Pools,
+    uses: &mut BlockUses,
     extras: &mut X,
     side: &mut S,
     room: &mut WalkRoom,
 ) -> Result<Ended<'a>, NoMemory>
     requires clear { room.old.plugins.slot ≡ no_answer }
-    requires pools { length pools.old ≡ pools_in steps.behind.now.back }
-    ensures count { length pools.new ≡ length pools.old }
+    requires used { IsUsed steps.behind.now uses.old }
+    ensures same { SameUses uses.old uses.new }
     ensures takes { TakesBy
-        (pool_in (back_steps steps.entry.behind.now.rewrites steps.entry.behind.now.back)
-        walk.now.query.now)
-        (mean (whole_with (X.says extras.old) steps.entry.front.now
+        (numbers_in (inner_of steps.entry.behind.now) walk.now.query.now)
+        (mean (whole_with (X.says extras.old) steps.entry.front.now steps.entry.behind.now.cache
         steps.entry.behind.now.rewrites steps.entry.behind.now.back) walk.now.query.now)
-        (decided result room.new.plugins.slot) (taking (S.state side.old) pools.old)
-        (taking (S.state side.new) pools.new) }
+        (decided result room.new.plugins.slot) (taking (S.state side.old) uses.old)
+        (taking (S.state side.new) uses.new) }
     ensures stays { X.says extras.new ≡ X.says extras.old }
     ensures set { X.directives extras.new ≡ X.directives extras.old }
 {
     let behind = steps.behind;
     let Some((step, front)) = steps.front.split_first() else {
-        return run_others(walk, behind, pools, extras, side, room);
+        return run_others(walk, behind, uses, extras, side, room);
     };
     let rest = ChainRest { front, behind };
     match step {
         FrontStep::Errors => {
-            let ended = run_front(walk, rest, pools, extras, side, room)?;
+            let ended = run_front(walk, rest, uses, extras, side, room)?;
             note_error(walk.alloc, walk.query, ended, side)
         }
         FrontStep::Log(plan) => {
-            let ended = run_front(walk, rest, pools, extras, side, room)?;
+            let ended = run_front(walk, rest, uses, extras, side, room)?;
             note_query(
                 walk.alloc,
                 plan,
@@ -73,61 +73,38 @@ pub fn run_front<'a, R: Wait, S: Side, X: Extras>(
         FrontStep::Answers(plugin) => {
             match front_answer(walk.alloc, plugin, walk.query, &mut room.plugins.slot)? {
                 Some(ended) => Ok(ended),
-                None => run_front(walk, rest, pools, extras, side, room),
+                None => run_front(walk, rest, uses, extras, side, room),
             }
         }
     }
 }
 
-// Asks plugins of others, and where they go on runs what stands behind a cache.
+// Asks plugins of others, and where they go on runs what stands behind them.
 #[inline(always)]
 #[tactic(auto, using(crate::proofs::LoggedWalks::others_starved_by, crate::proofs::LoggedWalks::others_say_by, crate::proofs::LoggedWalks::others_go_by))]
 fn run_others<'a, R: Wait, S: Side, X: Extras>(
     walk: &Walk<'_, R>,
     chain: &'a BlockChain,
-    pools: &mut Pools,
+    uses: &mut BlockUses,
     extras: &mut X,
     side: &mut S,
     room: &mut WalkRoom,
 ) -> Result<Ended<'a>, NoMemory>
     requires clear { room.old.plugins.slot ≡ no_answer }
-    requires pools { length pools.old ≡ pools_in chain.now.back }
-    ensures count { length pools.new ≡ length pools.old }
-    ensures takes { TakesBy
-        (pool_in (back_steps chain.now.rewrites chain.now.back) walk.now.query.now)
-        (mean (others_steps (X.says extras.old) chain.now.rewrites chain.now.back)
-        walk.now.query.now)
-        (decided result room.new.plugins.slot) (taking (S.state side.old) pools.old)
-        (taking (S.state side.new) pools.new) }
+    requires used { IsUsed chain.now uses.old }
+    ensures same { SameUses uses.old uses.new }
+    ensures takes { TakesBy (numbers_in (inner_of chain.now) walk.now.query.now)
+        (mean (others_steps (X.says extras.old) chain.now.cache chain.now.rewrites
+        chain.now.back) walk.now.query.now)
+        (decided result room.new.plugins.slot) (taking (S.state side.old) uses.old)
+        (taking (S.state side.new) uses.new) }
     ensures stays { X.says extras.new ≡ X.says extras.old }
     ensures set { X.directives extras.new ≡ X.directives extras.old }
 {
     match extras.answer(walk.alloc, walk.query, &mut room.plugins.slot)? {
         Some(ended) => Ok(ended),
-        None => run_uncached(walk, chain, pools, side, room),
+        None => run_inner(walk, chain, uses, side, room),
     }
-}
-
-/// Runs what stands behind a cache in a chain that has none. The slot is clear.
-#[inline(always)]
-pub fn run_uncached<'a, R: Wait, S: Side>(
-    walk: &Walk<'_, R>,
-    chain: &'a BlockChain,
-    pools: &mut Pools,
-    side: &mut S,
-    room: &mut WalkRoom,
-) -> Result<Ended<'a>, NoMemory>
-    requires clear { room.old.plugins.slot ≡ no_answer }
-    requires pools { length pools.old ≡ pools_in chain.now.back }
-    ensures count { length pools.new ≡ length pools.old }
-    ensures takes { TakesBy
-        (pool_in (back_steps chain.now.rewrites chain.now.back) walk.now.query.now)
-        (mean (back_steps chain.now.rewrites chain.now.back) walk.now.query.now)
-        (decided result room.new.plugins.slot) (taking (S.state side.old) pools.old)
-        (taking (S.state side.new) pools.new) }
-{
-    room.plugins.kept = Kept::Off;
-    run_behind(walk, chain, pools, side, room)
 }
 
 /// What a plugin in front of a cache answers, with the answer of a reply in the slot, which is

@@ -1,5 +1,5 @@
+use crate::block_uses::BlockUses;
 use extra_stock::Seats;
-use forward_plugin::Pools;
 use plugin_api::{Extra, Rulebook};
 
 /// What a worker's chain has for itself.
@@ -11,6 +11,6 @@ pub struct Held<B: Rulebook, E: Extra> {
     pub worker: u64,
     /// An extra for each directive of one, block by block.
     pub seats: Vec<Seats<B, E>>,
-    /// A use of each pool of upstreams, block by block.
-    pub pools: Vec<Pools>,
+    /// The uses of what workers share, block by block.
+    pub uses: Vec<BlockUses>,
 }

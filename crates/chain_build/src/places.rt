@@ -19,6 +19,7 @@ ghost use Rattle.chain_meaning.specs.declared.refusal.Refusal.TheVariants as ref
 use crate::fault::CheckFault;
 use crate::judges::Judges;
 use acl_plugin::AclPlan;
+use cache_rules::CachePlan;
 use chain_meaning::Refusal;
 use corefile_blocks::{file_of, file_word, hosts_word};
 use dns_data::{
@@ -43,6 +44,8 @@ pub struct Places {
     pub any: bool,
     /// The directives of extras.
     pub extras: Directives,
+    /// The first directive `cache`, which stands once.
+    pub cache: Option<CachePlan>,
     pub rewrites: Seq<RewritePlan>,
     pub templates: Seq<TemplatePlan>,
     pub hosts: Seq<HostsPlan>,
@@ -74,6 +77,7 @@ impl Places {
             acls: Seq::new(alloc),
             any: false,
             extras: Seq::new(alloc),
+            cache: None,
             rewrites: Seq::new(alloc),
             templates: Seq::new(alloc),
             hosts: Seq::new(alloc),
@@ -292,6 +296,7 @@ fn read_as(
         places.new result }
 {
     match rank {
+        Rank::Cache => read_cache(alloc, reading, places),
         Rank::File => read_file(alloc, reading, places),
         Rank::Hosts => read_hosts(alloc, reading, places),
         Rank::Forward => read_forward(alloc, reading, places),
@@ -310,8 +315,24 @@ fn read_as(
                 }
                 Err(fault) => Err(refused(fault)),
             },
-        Rank::Dns64 | Rank::Extra | Rank::Cache => Err(unknown(reading.directive)),
+        Rank::Dns64 | Rank::Extra => Err(unknown(reading.directive)),
         Rank::Rewrite | Rank::Template => unreachable!(),
+    }
+}
+
+// Reads a directive `cache`. Neither files nor what stands before it is any matter.
+fn read_cache(alloc: Global, reading: &Reading<'_>, places: &mut Places) -> Result<(), CheckFault>
+    ensures { ReadsAs rank.Cache (behind_at reading.now places.old) reading.now.directive.now
+        places.old places.new result }
+{
+    match CachePlan::read(alloc, reading.directive, reading.zones) {
+        Ok(plan) => {
+            if places.cache.is_none() {
+                places.cache = Some(plan);
+            }
+            Ok(())
+        }
+        Err(fault) => Err(refused(fault)),
     }
 }
 

@@ -1,14 +1,14 @@
 ghost use Rattle.dns_data.specs.declared.limit.TheConstants as limits;
-ghost use Rattle.std.specs.Prelude.{◌≡◌, ◌≤◌, ◌<◌, List, Some, None};
+ghost use Rattle.std.specs.Prelude.{◌≡◌, ◌≤◌, ◌<◌, List, [], Some, None, length};
 ghost use Rattle.std.specs.Prelude.{IfNone, IfOk, IfSome, IsTrue, IsFalse};
-ghost use Rattle.std.specs.Prelude.{length, map, option_map, slice_get};
+ghost use Rattle.std.specs.Prelude.{option_map, slice_get};
 ghost use Rattle.dns_data.specs.Message.{AreCodes, no_answer};
 ghost use Rattle.dns_wire.specs.{QueriesThis, asked_by};
 ghost use Rattle.dns_write.specs.Assembled.{message_of};
 ghost use Rattle.dns_write.specs.Writes.{Writes};
 ghost use Rattle.outside.specs.Meanings.{Done};
 ghost use Rattle.outside.specs.declared.mark.Mark.{Mark};
-ghost use Rattle.chain_meaning.specs.Called.{call_place, place_in, pool_in};
+ghost use Rattle.chain_meaning.specs.Called.{call_places, numbers_in, places_in};
 ghost use Rattle.chain_meaning.specs.Mean.{nothing};
 ghost use Rattle.chain_meaning.specs.Serving.{answer_in, block_of, chain_decides};
 ghost use Rattle.chain_meaning.specs.Serving.{query_decides, query_of};
@@ -16,13 +16,12 @@ ghost use Rattle.chain_meaning.specs.Steps.{steps_of};
 ghost use Rattle.chain_meaning.specs.declared.decision.Decision.TheVariants as decision;
 ghost use Rattle.chain_build.specs.LoggedWalks.{TakesAt, TakesBy, serving, taking};
 ghost use Rattle.chain_build.specs.Logs.{held_log, shape_of};
-ghost use Rattle.chain_build.specs.Plans.{steps_in};
+ghost use Rattle.chain_build.specs.Plans.{inner_of, steps_in};
 ghost use Rattle.chain_build.specs.Workers.{chain_identity, chain_log, server_in, server_of};
 ghost use Rattle.chain_build.specs.Replying.{Finishes, TellsServing};
 ghost use Rattle.chain_build.specs.Replying.{lent_of, whole_answer, whole_message};
-ghost use Rattle.chain_build.specs.BlockPools.{chain_pools};
 ghost use Rattle.chain_build.specs.Holding.{IsHeld, IsSame};
-ghost use Rattle.chain_build.specs.Pools.{pools_in};
+ghost use Rattle.chain_build.specs.Uses.{IsUsed, SameUses};
 ghost use Rattle.chain_build.specs.Walking.{Tries, decided, decision_of};
 
 use crate::asking::{
@@ -31,10 +30,12 @@ use crate::asking::{
 use crate::back::try_behind;
 use crate::block::BlockChain;
 use crate::block_chain::ChainRest;
+use crate::block_uses::BlockUses;
+use crate::caching::run_inner;
 use crate::chain::Chain;
 use crate::ended::Ended;
 use crate::extras::NoExtras;
-use crate::front::{run_front, run_uncached};
+use crate::front::run_front;
 use crate::held::Held;
 use crate::plans::Plans;
 use crate::room::{Room, WalkRoom};
@@ -44,7 +45,6 @@ use dns_data::{Buffer, NoMemory, Query, Slot, class, rcode};
 use dns_wire::{AskedBeside, QueryFault, read_asked_into};
 use dns_write::{MessageParts, Tail, write_lent};
 use extra_stock::Seats;
-use forward_plugin::Pools;
 use outside::{Datagram, Side};
 use plugin_api::{Extra, Rulebook};
 use std::alloc::Global;
@@ -92,8 +92,8 @@ fn serve_by<R: Wait, B: Rulebook, E: Extra, S: Side>(
     requires holds { IsHeld plans.now held.old }
     ensures tells { TellsServing (server_in B.taken B.said plans.now held.old.serial)
         arrived.now.datagram.now result
-        (serving (S.state side.old) (held_log held.old.pools.items))
-        (serving (S.state side.new) (held_log held.new.pools.items)) }
+        (serving (S.state side.old) (held_log held.old.uses.items))
+        (serving (S.state side.new) (held_log held.new.uses.items)) }
     ensures holds { IsHeld plans.now held.new }
     ensures same { IsSame held.old held.new }
 {
@@ -129,8 +129,8 @@ fn reply<R: Wait, B: Rulebook, E: Extra, S: Side>(
     requires holds { IsHeld plans.now held.old }
     ensures tells { TellsServing (server_in B.taken B.said plans.now held.old.serial)
         arrived.now.datagram.now result
-        (serving (S.state side.old) (held_log held.old.pools.items))
-        (serving (S.state side.new) (held_log held.new.pools.items)) }
+        (serving (S.state side.old) (held_log held.old.uses.items))
+        (serving (S.state side.new) (held_log held.new.uses.items)) }
     ensures holds { IsHeld plans.now held.new }
     ensures same { IsSame held.old held.new }
 {
@@ -249,6 +249,15 @@ fn settle(ended: Ended<'_>, slot: &mut Slot) -> bool
     }
 }
 
+// Whether something stands behind the front of a chain and its extras.
+#[inline]
+fn has_inner(chain: &BlockChain) -> bool
+    ensures some { IsTrue result → 0 < length (inner_of chain.now) }
+    ensures none { IsFalse result → inner_of chain.now ≡ [] }
+{
+    chain.cache.is_some() || chain.rewrites.len() > 0 || chain.back.len() > 0
+}
+
 // Becomes an RCODE without records.
 fn set_code(slot: &mut Slot, rcode: u8)
     requires small { rcode < limits.CODE_END }
@@ -274,14 +283,13 @@ fn chain_for<'a, B: Rulebook>(
         plans.now.blocks query.now left
         ≡ chain_decides (steps_in B.said found.1.now) query.now left) }
     ensures clear { IfSome result (λ found. slot.new ≡ no_answer) }
-    ensures place { IfSome result (λ found.
-        call_place (steps_of B.said plans.now.bundle.files) plans.now.blocks query.now
-        ≡ place_in (steps_in B.said found.1.now) found.0 query.now) }
+    ensures places { IfSome result (λ found.
+        call_places (steps_of B.said plans.now.bundle.files) plans.now.blocks query.now
+        ≡ places_in (steps_in B.said found.1.now) found.0 query.now) }
     ensures extras { IfSome result
         (λ found. slice_get plans.now.extras found.0 ≡ Some found.1.now.extras) }
-    ensures pools { IfSome result
-        (λ found. slice_get (map chain_pools plans.now.chains) found.0
-        ≡ Some (pools_in found.1.now.back)) }
+    ensures chain { IfSome result (λ found. slice_get plans.now.chains found.0
+        ≡ Some found.1.now) }
 {
     slot.clear();
     if !is_known_version(beside.opt) {
@@ -306,14 +314,13 @@ fn chain_of<'a, B: Rulebook>(plans: &'a Plans<B>, query: &Query) -> Option<(usiz
     ensures steps { option_map (λ found. steps_in B.said found.1.now) result
         ≡ option_map (steps_of B.said plans.now.bundle.files)
         (block_of plans.now.blocks query.now) }
-    ensures place { IfSome result (λ found.
-        call_place (steps_of B.said plans.now.bundle.files) plans.now.blocks query.now
-        ≡ place_in (steps_in B.said found.1.now) found.0 query.now) }
+    ensures places { IfSome result (λ found.
+        call_places (steps_of B.said plans.now.bundle.files) plans.now.blocks query.now
+        ≡ places_in (steps_in B.said found.1.now) found.0 query.now) }
     ensures extras { IfSome result
         (λ found. slice_get plans.now.extras found.0 ≡ Some found.1.now.extras) }
-    ensures pools { IfSome result
-        (λ found. slice_get (map chain_pools plans.now.chains) found.0
-        ≡ Some (pools_in found.1.now.back)) }
+    ensures chain { IfSome result (λ found. slice_get plans.now.chains found.0
+        ≡ Some found.1.now) }
 {
     let number = plans.index.find(query.local, &query.name)? as usize;
     if plans.chains.len() <= number {
@@ -322,8 +329,8 @@ fn chain_of<'a, B: Rulebook>(plans: &'a Plans<B>, query: &Query) -> Option<(usiz
     Some((number, plans.chains.at(number)))
 }
 
-// Runs the chain of a block that has nothing in front, and asks the outside nothing. None: it is
-// another chain, or met a `forward`, and the slot is clear, as it was.
+// Runs the chain of a block that has nothing in front and no cache, and asks the outside nothing.
+// None: it is another chain, or met a `forward`, and the slot is clear, as it was.
 #[inline(always)]
 fn try_chain<'a, B: Rulebook>(
     alloc: Global,
@@ -335,7 +342,7 @@ fn try_chain<'a, B: Rulebook>(
     ensures { Tries (chain_decides (steps_in B.said chain.now) query.now)
         room.new.plugins.slot result }
 {
-    if chain.asks {
+    if chain.asks || chain.cache.is_some() {
         return Ok(None);
     }
     if chain.extras.len() > 0 {
@@ -363,20 +370,19 @@ fn run_found<'a, R: Wait, B: Rulebook, E: Extra, S: Side>(
     requires clear { room.old.plugins.slot ≡ no_answer }
     requires holds { IsHeld plans.now held.old }
     requires extras { slice_get plans.now.extras found.0 ≡ Some found.1.now.extras }
-    requires pools { slice_get (map chain_pools plans.now.chains) found.0
-        ≡ Some (pools_in found.1.now.back) }
+    requires chain { slice_get plans.now.chains found.0 ≡ Some found.1.now }
     ensures takes { TakesAt (shape_of plans.now held.old.serial)
-        (place_in (steps_in B.said found.entry.1.now) found.entry.0 walk.now.query.now)
+        (places_in (steps_in B.said found.entry.1.now) found.entry.0 walk.now.query.now)
         (chain_decides (steps_in B.said found.entry.1.now) walk.now.query.now)
         (decided result room.new.plugins.slot)
-        (serving (S.state side.old) (held_log held.old.pools.items))
-        (serving (S.state side.new) (held_log held.new.pools.items)) }
+        (serving (S.state side.old) (held_log held.old.uses.items))
+        (serving (S.state side.new) (held_log held.new.uses.items)) }
     ensures holds { IsHeld plans.now held.new }
     ensures same { IsSame held.old held.new }
 {
     let (number, chain) = found;
-    let (seats, pools) = (&mut held.seats[number], &mut held.pools[number]);
-    run_chain(walk, chain, seats, pools, side, room)
+    let (seats, uses) = (&mut held.seats[number], &mut held.uses[number]);
+    run_chain(walk, chain, seats, uses, side, room)
 }
 
 // Runs the chain of a block, which mostly has no extras and nothing in front. One without a step
@@ -385,20 +391,20 @@ fn run_chain<'a, R: Wait, B: Rulebook, E: Extra, S: Side>(
     walk: &Walk<'_, R>,
     chain: &'a BlockChain,
     seats: &mut Seats<B, E>,
-    pools: &mut Pools,
+    uses: &mut BlockUses,
     side: &mut S,
     room: &mut WalkRoom,
 ) -> Result<Ended<'a>, NoMemory>
     requires clear { room.old.plugins.slot ≡ no_answer }
     requires seated { seats.old ≡ chain.now.extras }
-    requires pools { length pools.old ≡ pools_in chain.now.back }
+    requires used { IsUsed chain.now uses.old }
     ensures takes { TakesBy
-        (pool_in (steps_in B.said chain.now) walk.now.query.now)
+        (numbers_in (steps_in B.said chain.now) walk.now.query.now)
         (chain_decides (steps_in B.said chain.now) walk.now.query.now)
-        (decided result room.new.plugins.slot) (taking (S.state side.old) pools.old)
-        (taking (S.state side.new) pools.new) }
+        (decided result room.new.plugins.slot) (taking (S.state side.old) uses.old)
+        (taking (S.state side.new) uses.new) }
     ensures seated { seats.new ≡ seats.old }
-    ensures count { length pools.new ≡ length pools.old }
+    ensures same { SameUses uses.old uses.new }
 {
     let front = chain.front.as_slice();
     let whole = ChainRest {
@@ -406,13 +412,13 @@ fn run_chain<'a, R: Wait, B: Rulebook, E: Extra, S: Side>(
         behind: chain,
     };
     if 0 < chain.extras.len() {
-        return run_front(walk, whole, pools, seats, side, room);
+        return run_front(walk, whole, uses, seats, side, room);
     }
     if 0 < front.len() {
-        return run_front(walk, whole, pools, &mut NoExtras, side, room);
+        return run_front(walk, whole, uses, &mut NoExtras, side, room);
     }
-    if 0 < chain.rewrites.len() || 0 < chain.back.len() {
-        return run_uncached(walk, chain, pools, side, room);
+    if has_inner(chain) {
+        return run_inner(walk, chain, uses, side, room);
     }
     set_code(&mut room.plugins.slot, rcode::REFUSED);
     Ok(Ended::Reply)

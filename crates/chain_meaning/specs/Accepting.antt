@@ -17,6 +17,7 @@ use Rattle.file_plugin.specs.{file_fault}
 use Rattle.file_plugin.specs.declared.fault.FileFault.{FileFault}
 use Rattle.file_plugin.specs.declared.fault.FileFault.TheVariants as file
 use Rattle.acl_plugin.specs.{acl_fault}
+use Rattle.cache_rules.specs.{cache_fault}
 use Rattle.forward_plugin.specs.{forward_fault}
 use Rattle.hosts_plugin.specs.{hosts_fault}
 use Rattle.pattern_judging.specs.{IsFault, IsWell, Judgement, Task}
@@ -95,8 +96,8 @@ extra_refusal brought d =
     if brought.taken d.name d then None else Some (refusal.Directive d.line why.Extra)
     else Some (refusal.Unknown d.line)
 
--- what the reader of a directive without patterns refuses. Two ranks have no reader yet, and
--- their names are unknown; no name has the rank of extras.
+-- what the reader of a directive without patterns refuses. One rank has no reader yet, and its name
+-- is unknown; no name has the rank of extras.
 abbrev pub fixed_refusal : Rank → Behind → Directive → Option Refusal
 fixed_refusal rank.Acl b d = refused_by (acl_fault d b.context.zones)
 fixed_refusal rank.Hosts b d = refused_by (hosts_fault d b.context.zones)
@@ -105,7 +106,7 @@ fixed_refusal rank.File b d =
     (file_fault (file_plans b.context b.before) d b.context.zones (file_in b.context.files d))
 fixed_refusal rank.Dns64 b d = Some (refusal.Unknown d.line)
 fixed_refusal rank.Extra b d = Some (refusal.Unknown d.line)
-fixed_refusal rank.Cache b d = Some (refusal.Unknown d.line)
+fixed_refusal rank.Cache b d = refused_by (cache_fault d b.context.zones)
 fixed_refusal rank.Forward b d = refused_by (forward_fault d b.context.files)
 fixed_refusal rank b d = refused_by (plain_fault rank d b.context.zones)
 

@@ -18,7 +18,8 @@ use Rattle.dns_data.specs.declared.kind.TheConstants as kinds
 use Rattle.dns_data.specs.declared.rcode.TheConstants as rcodes
 use Rattle.dns_data.specs.declared.zone.Zone.{Zone}
 use Rattle.file_plugin.specs.{FileData}
-use Rattle.file_plugin.specs.Zones.{answer_from, file_say, longest_of}
+use Rattle.file_plugin.specs.SayingLaws.{file_said}
+use Rattle.file_plugin.specs.Zones.{file_say}
 use Rattle.forward_plugin.specs.{ForwardData, Said as ForwardSaid, forward_means}
 use Rattle.forward_plugin.specs.Forward as forward
 use Rattle.hosts_plugin.specs.{HostsData, Said as HostsSaid}
@@ -50,51 +51,16 @@ use Rattle.template_plugin.specs.Template as template
 use Rattle.chain_meaning.specs.declared.decision.Decision.{Decision}
 use Rattle.chain_meaning.specs.declared.decision.Decision.TheVariants as decision
 use Rattle.chain_meaning.specs.Causes.{AskedCause, HasCause, IsServFail, answer_cause, block_cause, chain_cause, forward_cause, hosts_cause, others_cause, rest_alone, template_cause}
+use Rattle.chain_meaning.specs.CacheCauseLaws.{cache_fails, cache_gives}
+use Rattle.chain_meaning.specs.GivesLaws.{Gives, GivesAt, gives_as, gives_from, gives_if, gives_onward, if_same}
 use Rattle.chain_meaning.specs.Serving.{asked_decides, block_decides, block_of, chain_decides, class_decides, is_known_version, query_of, refused}
 use Rattle.chain_meaning.specs.Mean.{acl_answer, answer_of, any_answer, error_noted, forward_answered, hosts_answer, mean, nothing, or_rest, outcome_of, query_noted, reply_restored, restored_in, rule, take_note, template_answer}
-use Rattle.chain_meaning.specs.Steps.{Answerer, Acl, Any, Template, Hosts, File, Forward, Whoami, Step, Errors, Log, Rewrite, Answers, Others}
-use Rattle.chain_meaning.specs.Steps.{acl_steps, back_steps, context_of, extra_steps, extras_of, file_plans, file_steps, forward_plans, forward_steps, front_steps, hosts_plans, hosts_steps, key_zones, log_steps, plans_of, rewrite_steps, some_has, steps_of, template_steps}
-
--- what a meaning decides, where it decides
-abbrev Gives : {A : Type 0} → (A → Type 0) → Meaning A → Type 0
-Gives P (Done v left) = P v
-Gives P More = Unit {0}
-Gives P Off = Unit {0}
-
-gives_onward : {A B : Type 0} (P : A → Type 0) (Q : B → Type 0) (x : Meaning A) (next : A → List Mark → Meaning B) → Gives P x
-    → ((v : A) → P v → (left : List Mark) → Gives Q (next v left)) → Gives Q (onward x next)
-gives_onward P Q (Done v left) next p go = go v p left
-gives_onward P Q More next p go = tt
-gives_onward P Q Off next p go = tt
-
-gives_as : (P Q : Decision → Type 0) → ((v : Decision) → P v → Q v) → (x : Meaning Decision) → Gives P x → Gives Q x
-gives_as P Q go (Done v left) p = go v p
-gives_as P Q go More p = tt
-gives_as P Q go Off p = tt
-
-gives_if : (P : Decision → Type 0) (t : Bool) (x y : Meaning Decision) → (t ≡ true → Gives P x) → Gives P y → Gives P (if t then x else y)
-gives_if P true x y p q = p refl
-gives_if P false x y p q = q
-
--- the same of what is decided and the marks that are left
-abbrev GivesAt : {A : Type 0} → (A → List Mark → Type 0) → Meaning A → Type 0
-GivesAt P (Done v left) = P v left
-GivesAt P More = Unit {0}
-GivesAt P Off = Unit {0}
-
-gives_from : {A B : Type 0} (P : A → List Mark → Type 0) (Q : B → Type 0) (x : Meaning A) (next : A → List Mark → Meaning B) → GivesAt P x
-    → ((v : A) (left : List Mark) → P v left → Gives Q (next v left)) → Gives Q (onward x next)
-gives_from P Q (Done v left) next p go = go v left p
-gives_from P Q More next p go = tt
-gives_from P Q Off next p go = tt
+use Rattle.chain_meaning.specs.Steps.{Answerer, Acl, Any, Template, Hosts, File, Forward, Whoami, Step, Errors, Log, Cache, Rewrite, Answers, Others}
+use Rattle.chain_meaning.specs.Steps.{acl_steps, back_steps, cache_plan, cache_steps, context_of, extra_steps, extras_of, file_plans, file_steps, forward_plans, forward_steps, front_steps, hosts_plans, hosts_steps, key_zones, log_steps, plans_of, rewrite_steps, some_has, steps_of, template_steps}
 
 -- a decision has a cause where it is SERVFAIL
 abbrev IsCaused : List Step → Query → List Mark → Decision → Type 0
 IsCaused steps q marks v = IsServFail v → HasCause steps q marks v
-
-if_same : (P : Decision → Type 0) (t : Bool) (v : Decision) (left : List Mark) → P v → Gives P (if t then Done v left else Off)
-if_same P true v left p = p
-if_same P false v left p = tt
 
 -- a decision that stands once a line was noted
 note_gives : (P : Decision → Type 0) (line : List ℕ) (v : Decision) → P v → (left : List Mark) → Gives P (take_note line v left)
@@ -216,13 +182,8 @@ zone_well : (zone : Zone) (name : List (List ℕ)) (kind : ℕ) → (zone_answer
 unfolding zone_answer
 zone_well zone name kind fails = under_well zone name kind (cut_of zone name) fails
 
-zone_never : (q : Query) (zone : Option Zone) → NeverFails (option_map decision.Reply (answer_from q zone))
-zone_never q None = tt
-zone_never q (Some zone) = λ fails. zone_well zone q.name q.kind fails
-
 file_never : (plans : List FileData) (q : Query) → NeverFails (option_map decision.Reply (file_say plans q))
-unfolding file_say
-file_never plans q = zone_never q (longest_of q.name None plans)
+file_never plans q = file_said (λ (o : Option AnswerData). NeverFails (option_map decision.Reply o)) plans q tt (λ zone fails. zone_well zone q.name q.kind fails)
 
 -- templates fail by their `rcode`, or with a cause
 template_answered : (rest : List Mark → Decision → Type 0) (marks : List Mark) (said : TemplateSaid) → Answered (λ below. template_cause said (below marks)) rest (template_answer said) marks
@@ -269,6 +230,7 @@ rule_gives Errors steps rest gives q marks =
 rule_gives (Log plan) steps rest gives q marks =
     gives_onward (IsCaused steps q marks) (IsCaused (Log plan ∷ steps) q marks) (rest q marks) (query_noted plan q) (gives q marks)
     (λ v is left. if_noted (IsCaused (Log plan ∷ steps) q marks) (is_in q.name (plain_zones plan)) (log_line q (outcome_of v)) v is left)
+rule_gives (Cache plan) steps rest gives q marks = cache_gives (λ left v. HasCause steps q left v) rest plan q (gives q) marks
 rule_gives (Rewrite ds) steps rest gives q marks =
     let changed = changed_by ds q in
     gives_onward (IsCaused steps changed.query marks) (IsCaused (Rewrite ds ∷ steps) q marks) (rest changed.query marks) (reply_restored ds changed) (gives changed.query marks)
@@ -324,6 +286,7 @@ cause_fails : (steps : List Step) (q : Query) (marks : List Mark) (v : Decision)
 cause_fails [] q marks v h = subst IsServFail (sym h) refl
 cause_fails (Errors ∷ steps) q marks v h = cause_fails steps q marks v h
 cause_fails (Log plan ∷ steps) q marks v h = cause_fails steps q marks v h
+cause_fails (Cache plan ∷ steps) q marks v h = cache_fails (λ left v. HasCause steps q left v) plan q v (λ left v. cause_fails steps q left v) marks h
 cause_fails (Rewrite ds ∷ steps) q marks v h =
     subst IsServFail (sym h.is) (restored_fails ds (changed_by ds q) h.rest (cause_fails steps (changed_by ds q).query marks h.rest h.cause))
 cause_fails (Answers plugin ∷ steps) q marks v h = answer_fails plugin q marks (λ left. HasCause steps q left v) v (λ left. cause_fails steps q left v) h
@@ -372,6 +335,7 @@ abbrev pub IsOwn : Step → Type 0
 IsOwn (Others says) = ⊥
 IsOwn Errors = Unit {0}
 IsOwn (Log plan) = Unit {0}
+IsOwn (Cache plan) = Unit {0}
 IsOwn (Rewrite ds) = Unit {0}
 IsOwn (Answers plugin) = Unit {0}
 
@@ -394,6 +358,10 @@ own_logs (plan ∷ plans) = (tt, own_logs plans)
 own_acls : (plans : List PlanData) → AreOwn (acl_steps plans)
 own_acls [] = tt
 own_acls (plan ∷ plans) = (tt, tt)
+
+own_cache : (plan : Option PlanData) → AreOwn (cache_steps plan)
+own_cache None = tt
+own_cache (Some plan) = (tt, tt)
 
 own_rewrites : (ds : List Directive) → AreOwn (rewrite_steps ds)
 own_rewrites [] = tt
@@ -422,15 +390,16 @@ own_steps said files block none =
     let ds = block.directives in
     let zones = key_zones block in
     let context = context_of files block in
-    own_append (front_steps zones ds) (extra_steps said (extras_of ds) ++ back_steps context ds)
+    own_append (front_steps zones ds) (extra_steps said (extras_of ds) ++ (cache_steps (cache_plan zones ds) ++ back_steps context ds))
     (own_append _ _ (own_if (some_has rank.Errors ds) (Errors ∷ []) (tt, tt))
     (own_append _ _ (own_logs (plans_of rank.Log zones ds))
     (own_append _ _ (own_acls (plans_of rank.Acl zones ds))
     (own_if (some_has rank.Any ds) (Answers Any ∷ []) (tt, tt)))))
     (own_append _ _ (subst (λ es. AreOwn (extra_steps said es)) (sym none) tt)
+    (own_append _ _ (own_cache (cache_plan zones ds))
     (own_append _ _ (own_rewrites _)
     (own_append _ _ (own_templates (plans_of rank.Template zones ds))
     (own_append _ _ (own_hosts (hosts_plans context ds))
     (own_append _ _ (own_files (file_plans context ds))
     (own_append _ _ (own_forwards (forward_plans context ds))
-    (own_if (some_has rank.Whoami ds) (Answers Whoami ∷ []) (tt, tt))))))))
+    (own_if (some_has rank.Whoami ds) (Answers Whoami ∷ []) (tt, tt)))))))))

@@ -28,7 +28,8 @@ use Rattle.chain_meaning.specs.declared.decision.Decision.TheVariants as decisio
 use Rattle.chain_meaning.specs.Mean.{acl_answer, any_answer, number, restored_in}
 use Rattle.chain_meaning.specs.Serving.{block_of, is_known_version, query_of}
 use Rattle.chain_meaning.specs.Steps.{Answerer, Acl, Any, Template, Hosts, File, Forward, Whoami}
-use Rattle.chain_meaning.specs.Steps.{Step, Errors, Log, Rewrite, Answers, Others}
+use Rattle.chain_meaning.specs.CacheCauses.{cache_cause}
+use Rattle.chain_meaning.specs.Steps.{Step, Errors, Log, Cache, Rewrite, Answers, Others}
 
 -- the RCODE of a decision is SERVFAIL
 abbrev pub IsServFail : Decision → Type 0
@@ -96,6 +97,8 @@ abbrev pub HasCause : List Step → Query → List Mark → Decision → Type 0
 HasCause [] q marks v = v ≡ decision.Code code.ServFail cause.EndOfChain
 HasCause (Errors ∷ steps) q marks v = HasCause steps q marks v
 HasCause (Log plan ∷ steps) q marks v = HasCause steps q marks v
+HasCause (Cache plan ∷ steps) q marks v =
+    cache_cause (λ left v. HasCause steps q left v) plan q v marks
 HasCause (Rewrite ds ∷ steps) q marks v =
     IsRestored ds (changed_by ds q) (HasCause steps (changed_by ds q).query marks) v
 HasCause (Answers plugin ∷ steps) q marks v =

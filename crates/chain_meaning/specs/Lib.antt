@@ -1,12 +1,16 @@
 pub mod RefusalTexts
 pub mod Steps
 pub mod Grounds
+pub mod Caching
 pub mod Mean
 pub mod MeanLaws
 pub mod Accepting
 pub mod AcceptingLaws
 pub mod Serving
+pub mod CacheCauses
 pub mod Causes
+pub mod GivesLaws
+pub mod CacheCauseLaws
 pub mod CauseLaws
 pub mod Called
 -- what public clauses cite

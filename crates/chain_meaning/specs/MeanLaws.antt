@@ -15,10 +15,12 @@ use Rattle.plugin_api.specs.declared.verdict.Cause.TheVariants as cause
 use Rattle.plugin_api.specs.declared.verdict.Code.TheVariants as code
 use Rattle.rewrite_plugin.specs.{changed_by}
 use Rattle.zone_words.specs.{is_in}
+use Rattle.cache_rules.specs.{cache_zones}
 use Rattle.chain_meaning.specs.declared.decision.Decision.{Decision}
 use Rattle.chain_meaning.specs.declared.decision.Decision.TheVariants as decision
+use Rattle.chain_meaning.specs.Caching.{cache_means, cached}
 use Rattle.chain_meaning.specs.Mean.{answer_of, error_noted, forward_answered, mean, or_rest, outcome_of, query_noted, reply_restored, rewritten, rule, take_note}
-use Rattle.chain_meaning.specs.Steps.{Answerer, Acl, Any, Template, Hosts, File, Forward, Whoami, Step, Errors, Log, Rewrite, Answers, Others, extra_says, extra_steps}
+use Rattle.chain_meaning.specs.Steps.{Answerer, Acl, Any, Template, Hosts, File, Forward, Whoami, Step, Errors, Log, Cache, Rewrite, Answers, Others, extra_says, extra_steps}
 
 pub mean-end : (q : Query) (marks : List Mark) → mean [] q marks ≡ Done (decision.Code code.ServFail cause.EndOfChain) marks
 unfolding mean
@@ -36,6 +38,11 @@ pub rule-log : (plan : PlanData) (rest : Query → List Mark → Meaning Decisio
     → rule (Log plan) rest q marks ≡ onward (rest q marks) (query_noted plan q)
 unfolding rule
 rule-log plan rest q marks = refl
+
+pub rule-cache : (plan : PlanData) (rest : Query → List Mark → Meaning Decision) (q : Query) (marks : List Mark)
+    → rule (Cache plan) rest q marks ≡ cache_means rest plan q marks
+unfolding rule
+rule-cache plan rest q marks = refl
 
 pub rule-rewrite : (ds : List Directive) (rest : Query → List Mark → Meaning Decision) (q : Query) (marks : List Mark)
     → rule (Rewrite ds) rest q marks ≡ rewritten rest ds (changed_by ds q) marks
@@ -80,10 +87,15 @@ pub or_rest_nothing : (rest : Query → List Mark → Meaning Decision) (q : Que
 or_rest_nothing rest q none (Some v) = refl
 or_rest_nothing rest q none None = none
 
+cache_nothing : (rest : Query → List Mark → Meaning Decision) (plan : PlanData) (q : Query) → Starved (rest q []) → (within : Bool) → Starved (if within then cached rest plan q [] else rest q [])
+cache_nothing rest plan q none true = tt
+cache_nothing rest plan q none false = none
+
 rule_nothing : (step : Step) (rest : Query → List Mark → Meaning Decision) (q : Query) → ((other : Query) → Starved (rest other [])) → Starved (rule step rest q [])
 unfolding rule
 rule_nothing Errors rest q none = starved_onward (rest q []) (error_noted q) (none q) (error_nothing q)
 rule_nothing (Log plan) rest q none = starved_onward (rest q []) (query_noted plan q) (none q) (query_nothing plan q)
+rule_nothing (Cache plan) rest q none = cache_nothing rest plan q (none q) (is_in q.name (cache_zones plan))
 rule_nothing (Rewrite ds) rest q none = starved_onward (rest (changed_by ds q).query []) (reply_restored ds (changed_by ds q)) (none (changed_by ds q).query) (λ v. refl)
 rule_nothing (Answers plugin) rest q none = starved_onward (answer_of plugin q []) (or_rest rest q) (answer_nothing plugin q) (or_rest_nothing rest q (none q))
 rule_nothing (Others says) rest q none = or_rest_nothing rest q (none q) (says q)

@@ -2,8 +2,8 @@
 -- of the block's keys, and for `hosts`, `file` and `forward` files. All `acl` directives are one
 -- step, and so are all those of `rewrite`, of `template`, of `file` and of `forward`; each of an
 -- extra is a step of its own.
-use Rattle.std.specs.Prelude.{ℕ, nat_eq, Bool, false, List, [], ◌∷◌, ◌++◌, map, Option, Some}
-use Rattle.std.specs.Prelude.{None, is_none, if◌then◌else◌}
+use Rattle.std.specs.Prelude.{ℕ, nat_eq, Bool, false, List, [], ◌∷◌, ◌++◌, map, find, Option}
+use Rattle.std.specs.Prelude.{Some, None, is_none, option_map, if◌then◌else◌}
 use Rattle.std.specs.List.{filter, list_any}
 use Rattle.dns_data.specs.declared.block.Block.{Block}
 use Rattle.dns_data.specs.declared.directive.Directive.{Directive}
@@ -40,6 +40,7 @@ pub data Answerer : Type 0 where
 pub data Step : Type 0 where
   Errors : Step
   Log : PlanData → Step
+  Cache : PlanData → Step
   Rewrite : List Directive → Step
   Answers : Answerer → Step
   Others : (Query → Option Decision) → Step
@@ -99,6 +100,10 @@ file_in files d = file_of (file_word d.args) files
 abbrev pub hosts_plan : Context → Directive → HostsData
 hosts_plan context d = hosts_data d context.zones (file_of (hosts_word d.args) context.files)
 
+-- the plan of the directive `cache`, which stands once
+abbrev pub cache_plan : List (List (List ℕ)) → List Directive → Option PlanData
+cache_plan zones directives = option_map (plan_in zones) (find (has_rank rank.Cache) directives)
+
 -- the plans of the `hosts` directives, in the order of the text
 abbrev pub hosts_plans : Context → List Directive → List HostsData
 hosts_plans context directives = map (hosts_plan context) (filter (has_rank rank.Hosts) directives)
@@ -151,6 +156,10 @@ extra_step said d = Others (extra_says said d)
 abbrev pub extra_steps : Sayings → List Directive → List Step
 extra_steps said directives = map (extra_step said) directives
 
+abbrev pub cache_steps : Option PlanData → List Step
+cache_steps None = []
+cache_steps (Some plan) = Cache plan ∷ []
+
 abbrev pub rewrite_steps : List Directive → List Step
 rewrite_steps [] = []
 rewrite_steps (plan ∷ plans) = Rewrite (plan ∷ plans) ∷ []
@@ -176,7 +185,7 @@ forward_steps (plan ∷ plans) = Answers (Forward (plan ∷ plans)) ∷ []
 abbrev pub whoami_steps : Bool → List Step
 whoami_steps stands = if stands then Answers Whoami ∷ [] else []
 
--- what stands in front of the extras, and behind a cache
+-- what stands in front of the extras, and behind a cache, which is asked between them
 abbrev pub front_steps : List (List (List ℕ)) → List Directive → List Step
 front_steps zones directives =
     error_steps (some_has rank.Errors directives)
@@ -199,4 +208,5 @@ unfoldable pub steps_of : Sayings → List FileText → Block → List Step
 steps_of said files block =
     front_steps (key_zones block) block.directives
     ++ (extra_steps said (block_extras block)
-    ++ back_steps (context_of files block) block.directives)
+    ++ (cache_steps (cache_plan (key_zones block) block.directives)
+    ++ back_steps (context_of files block) block.directives))

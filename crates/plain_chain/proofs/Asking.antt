@@ -1,6 +1,6 @@
 -- Whether a chain asks upstreams, and its block has a directive `forward`.
 use Rattle.std.proofs.Common.{◌≡◌, ℕ, Bool, true, false, List, [], ◌∷◌, ◌++◌, map, Option, Some, None, option_map, slice_get, refl, sym, ap, append_assoc, ◌∙◌}
-use Rattle.std.specs.Prelude.{option_and_then}
+use Rattle.std.specs.Prelude.{find, is_some, option_and_then, ◌||◌, if◌then◌else◌}
 use Rattle.std.specs.List.{filter, list_any}
 use Rattle.dns_data.specs.declared.block.Block.{Block}
 use Rattle.dns_data.specs.declared.directive.Directive.{Directive}
@@ -9,7 +9,7 @@ use Rattle.file_plugin.specs.{FileData}
 use Rattle.hosts_plugin.specs.{HostsData}
 use Rattle.plugin_api.specs.{PlanData, Sayings}
 use Rattle.plugin_api.specs.declared.ranks.Rank.TheVariants as rank
-use Rattle.chain_meaning.specs.Steps.{Context, Step, acl_steps, any_steps, back_steps, block_extras, context_of, error_steps, extra_steps, file_plans, file_steps, forward_plan, forward_plans, forward_steps, front_steps, has_rank, hosts_plans, hosts_steps, key_zones, log_steps, plans_of, rewrite_steps, some_has, steps_of, template_steps, whoami_steps}
+use Rattle.chain_meaning.specs.Steps.{Context, Step, acl_steps, any_steps, back_steps, block_extras, cache_plan, cache_steps, plan_in, context_of, error_steps, extra_steps, file_plans, file_steps, forward_plan, forward_plans, forward_steps, front_steps, has_rank, hosts_plans, hosts_steps, key_zones, log_steps, plans_of, rewrite_steps, some_has, steps_of, template_steps, whoami_steps}
 use Rattle.chain_build.specs.Compiled.{back_of, front_of}
 use Rattle.chain_build.specs.Plans.{steps_in}
 use Rattle.chain_build.specs.Pools.{AsksNothing}
@@ -19,7 +19,7 @@ use Rattle.chain_build.specs.declared.block_chain.BackAnswerer.TheVariants as be
 use Rattle.chain_build.specs.declared.block_chain.FrontAnswerer.TheVariants as before
 use Rattle.chain_build.specs.declared.block_chain.FrontStep.{FrontStep}
 use Rattle.chain_build.specs.declared.block_chain.FrontStep.TheVariants as front
-use Rattle.plain_chain.specs.Reading.{asks_upstreams, has_forward}
+use Rattle.plain_chain.specs.Reading.{asks_outside, asks_upstreams, has_forward}
 use Rattle.plain_chain.proofs.Chosen.{by-number}
 
 -- steps that ask nothing, and then others
@@ -42,6 +42,19 @@ past_any false rest = refl
 past_extras : (said : Sayings) (ds : List Directive) (rest : List Step) → asks_upstreams (extra_steps said ds ++ rest) ≡ asks_upstreams rest
 past_extras said [] rest = refl
 past_extras said (d ∷ ds) rest = past_extras said ds rest
+
+past_cache : (cache : Option PlanData) (rest : List Step) → asks_upstreams (cache_steps cache ++ rest) ≡ (is_some cache || asks_upstreams rest)
+past_cache None rest = refl
+past_cache (Some plan) rest = refl
+
+-- a block has a cache where it has the directive
+found_any : (p : Directive → Bool) (f : Directive → PlanData) (ds : List Directive) → is_some (option_map f (find p ds)) ≡ list_any p ds
+found_any p f [] = refl
+found_any p f (d ∷ ds) = by_test (p d) (found_any p f ds)
+  where
+    by_test : (t : Bool) → is_some (option_map f (find p ds)) ≡ list_any p ds → is_some (option_map f (if t then Some d else find p ds)) ≡ (t || list_any p ds)
+    by_test true rest = refl
+    by_test false rest = rest
 
 past_rules : (ds : List Directive) (rest : List Step) → asks_upstreams (rewrite_steps ds ++ rest) ≡ asks_upstreams rest
 past_rules [] rest = refl
@@ -97,14 +110,16 @@ past_back context ds =
     ∙ in_forwards context ds (some_has rank.Whoami ds)
 
 -- so has the chain of a block
-pub block-asks : (said : Sayings) (files : List FileText) (block : Block) → asks_upstreams (steps_of said files block) ≡ some_has rank.Forward block.directives
+pub block-asks : (said : Sayings) (files : List FileText) (block : Block) → asks_upstreams (steps_of said files block) ≡ (some_has rank.Cache block.directives || some_has rank.Forward block.directives)
 unfolding steps_of
 block-asks said files block =
     let context = context_of files block in
     let back = back_steps context block.directives in
-    past_front (key_zones block) block.directives (extra_steps said (block_extras block) ++ back)
-    ∙ past_extras said (block_extras block) back
-    ∙ past_back context block.directives
+    let cache = cache_plan (key_zones block) block.directives in
+    past_front (key_zones block) block.directives (extra_steps said (block_extras block) ++ (cache_steps cache ++ back))
+    ∙ past_extras said (block_extras block) (cache_steps cache ++ back)
+    ∙ past_cache cache back
+    ∙ (λ i. found_any (has_rank rank.Cache) (plan_in (key_zones block)) block.directives i || past_back context block.directives i)
 
 -- and a chain that was read
 past_read : (steps : List FrontStep) (rest : List Step) → asks_upstreams (map front_of steps ++ rest) ≡ asks_upstreams rest
@@ -114,12 +129,22 @@ past_read (front.Log plan ∷ steps) rest = past_read steps rest
 past_read (front.Answers (before.Acl plans) ∷ steps) rest = past_read steps rest
 past_read (front.Answers before.Any ∷ steps) rest = past_read steps rest
 
-pub chain-asks : (said : Sayings) (chain : BlockChain) → asks_upstreams (steps_in said chain) ≡ asks_upstreams (map back_of chain.back)
-chain-asks said chain = past_read chain.front _ ∙ past_extras said chain.extras _ ∙ past_rules chain.rewrites (map back_of chain.back)
+pub chain-asks : (said : Sayings) (chain : BlockChain) → asks_upstreams (steps_in said chain) ≡ asks_outside chain
+chain-asks said chain =
+    past_read chain.front _ ∙ past_extras said chain.extras _ ∙ past_cache chain.cache _ ∙ ap (λ (b : Bool). is_some chain.cache || b) (past_rules chain.rewrites (map back_of chain.back))
+
+-- without either a chain has no cache, and asks nothing behind one
+pub no-cache : (cache : Option PlanData) (b : Bool) → (is_some cache || b) ≡ false → cache ≡ None
+no-cache None b e = refl
+no-cache (Some plan) b e = absurd cc
+
+pub none-behind : (t b : Bool) → (t || b) ≡ false → b ≡ false
+none-behind true b e = absurd cc
+none-behind false b e = e
 
 -- whether the block of a number has a directive `forward`
 module _ (said : Sayings) (files : List FileText) where
-  by-some : (chain : Option BlockChain) (block : Option Block) (p : BlockChain) → option_map (steps_in said) chain ≡ option_map (steps_of said files) block → chain ≡ Some p → asks_upstreams (map back_of p.back) ≡ has_forward block
+  by-some : (chain : Option BlockChain) (block : Option Block) (p : BlockChain) → option_map (steps_in said) chain ≡ option_map (steps_of said files) block → chain ≡ Some p → asks_outside p ≡ has_forward block
   by-some None None p e is = absurd cc
   by-some None (Some block) p e is = absurd cc
   by-some (Some o) None p e is = absurd cc
@@ -134,7 +159,7 @@ module _ (said : Sayings) (files : List FileText) where
   by-none (Some o) (Some block) e is = absurd cc
 
 module _ (said : Sayings) (files : List FileText) (read : List BlockChain) (blocks : List Block) (same : map (steps_in said) read ≡ map (steps_of said files) blocks) where
-  pub some-forward : (number : Option ℕ) (p : BlockChain) → Some p ≡ option_and_then (slice_get read) number → asks_upstreams (map back_of p.back) ≡ has_forward (option_and_then (slice_get blocks) number)
+  pub some-forward : (number : Option ℕ) (p : BlockChain) → Some p ≡ option_and_then (slice_get read) number → asks_outside p ≡ has_forward (option_and_then (slice_get blocks) number)
   some-forward number p is = by-some said files (option_and_then (slice_get read) number) (option_and_then (slice_get blocks) number) p (by-number said files read blocks same number) (sym is)
 
   pub none-forward : (number : Option ℕ) → None ≡ option_and_then (slice_get read) number → false ≡ has_forward (option_and_then (slice_get blocks) number)

@@ -113,8 +113,8 @@ both-true false b c p q e = absurd cc
 both-true true false c p q e = absurd cc
 
 -- a chain without extras is its own steps
-pub own-steps : (said : Sayings) (chain : BlockChain) → chain.extras ≡ [] → steps_in said chain ≡ whole chain.front chain.rewrites chain.back
-own-steps said chain none = ap (λ (es : List Directive). whole_by said chain.front es chain.rewrites chain.back) none
+pub own-steps : (said : Sayings) (chain : BlockChain) → chain.extras ≡ [] → chain.cache ≡ None → steps_in said chain ≡ whole chain.front None chain.rewrites chain.back
+own-steps said chain none uncached = λ i. whole_by said chain.front (none i) (uncached i) chain.rewrites chain.back
 
 -- what a query of class IN is asked for
 pub asked-decides : (opt : Option Opt) (class : ℕ) (steps : Block → List Step) (blocks : List Block) (q : Query) (marks : List Mark) → is_known_version opt ≡ true → nat_eq class classes.IN ≡ true
@@ -144,18 +144,18 @@ pub some-front : (front : List FrontStep) (behind : List Step) → 0 < length fr
 some-front [] behind some = absurd (omega (arith, some))
 some-front (step ∷ front) behind some = refl
 
-pub some-rules : (front : List FrontStep) (ds : List Directive) (back : List BackAnswerer) → length front ≤ 0 → 0 < length ds → false ≡ has_none (whole front ds back)
+pub some-rules : (front : List FrontStep) (ds : List Directive) (back : List BackAnswerer) → length front ≤ 0 → 0 < length ds → false ≡ has_none (whole front None ds back)
 some-rules [] [] back none some = absurd (omega (arith, some))
 some-rules [] (d ∷ ds) back none some = refl
 some-rules (step ∷ front) ds back none some = absurd (omega (arith, none))
 
-pub some-back : (front : List FrontStep) (ds : List Directive) (back : List BackAnswerer) → length front ≤ 0 → length ds ≤ 0 → 0 < length back → false ≡ has_none (whole front ds back)
+pub some-back : (front : List FrontStep) (ds : List Directive) (back : List BackAnswerer) → length front ≤ 0 → length ds ≤ 0 → 0 < length back → false ≡ has_none (whole front None ds back)
 some-back [] [] [] none no_rules some = absurd (omega (arith, some))
 some-back [] [] (plugin ∷ back) none no_rules some = refl
 some-back [] (d ∷ ds) back none no_rules some = absurd (omega (arith, no_rules))
 some-back (step ∷ front) ds back none no_rules some = absurd (omega (arith, none))
 
-pub no-steps : (front : List FrontStep) (ds : List Directive) (back : List BackAnswerer) → length front ≤ 0 → length ds ≤ 0 → length back ≤ 0 → true ≡ has_none (whole front ds back)
+pub no-steps : (front : List FrontStep) (ds : List Directive) (back : List BackAnswerer) → length front ≤ 0 → length ds ≤ 0 → length back ≤ 0 → true ≡ has_none (whole front None ds back)
 no-steps [] [] [] none no_rules no_back = refl
 no-steps [] [] (plugin ∷ back) none no_rules no_back = absurd (omega (arith, no_back))
 no-steps [] (d ∷ ds) back none no_rules no_back = absurd (omega (arith, no_rules))

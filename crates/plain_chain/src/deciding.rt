@@ -1,12 +1,13 @@
-ghost use Rattle.std.specs.Prelude.{◌≡◌, ◌<◌, ◌^◌, [], false, IfOk, length, map, option_and_then};
-ghost use Rattle.std.specs.Prelude.{option_map, slice_get};
+ghost use Rattle.std.specs.Prelude.{◌≡◌, ◌<◌, ◌^◌, [], false, None, IfOk, length, map};
+ghost use Rattle.std.specs.Prelude.{option_and_then, option_map, slice_get};
 ghost use Rattle.plugin_api.specs.{Sayings, picked};
 ghost use Rattle.chain_build.specs.Plans.{steps_in};
 ghost use Rattle.chain_meaning.specs.{steps_of};
 ghost use Rattle.chain_meaning.specs.Serving.{block_of, chain_decides, query_decides};
 ghost use Rattle.plain_chain.specs.Meant.{Means};
 ghost use Rattle.chain_build.specs.Compiled.{back_of};
-ghost use Rattle.plain_chain.specs.Reading.{IsWhole, asks_extra, asks_forward, asks_upstreams};
+ghost use Rattle.plain_chain.specs.Reading.{IsWhole, asks_extra, asks_forward, asks_outside};
+ghost use Rattle.plain_chain.specs.Reading.{asks_upstreams};
 ghost use Rattle.plain_chain.specs.Reading.{has_extra, has_forward, has_none};
 
 use crate::evaluating::evaluate;
@@ -66,7 +67,7 @@ fn has_extra(read: &PlainRead<'_>, query: &Query) -> bool
 }
 
 /// Whether a query with this OPT record and class is for a block, and that has a directive
-/// `forward`.
+/// `forward` or `cache`.
 pub(crate) fn asks_forward(
     read: &PlainRead<'_>,
     opt: Option<Opt>,
@@ -85,9 +86,16 @@ fn has_forward(read: &PlainRead<'_>, query: &Query) -> bool
     ensures { result ≡ has_forward (block_of read.now.blocks query.now) }
 {
     match chain_for(read, query) {
-        Some(chain) => asks_upstreams(chain.back.as_slice()),
+        Some(chain) => asks_outside(chain),
         None => false,
     }
+}
+
+// Whether a chain has a cache, or asks upstreams.
+fn asks_outside(chain: &BlockChain) -> bool
+    ensures { result ≡ asks_outside chain.now }
+{
+    chain.cache.is_some() || asks_upstreams(chain.back.as_slice())
 }
 
 // Whether one of them asks upstreams.
@@ -122,7 +130,7 @@ fn decide_by<'a>(
     marks: &'a [Mark],
 ) -> Result<Meant<'a>, NoMemory>
     requires own { chain.now.extras ≡ [] }
-    requires alone { asks_upstreams (map back_of chain.now.back) ≡ false }
+    requires alone { asks_outside chain.now ≡ false }
     ensures { (said : Sayings)
         → IfOk result (Means (chain_decides (steps_in said chain.now) query.now) marks.now) }
 {
@@ -135,6 +143,7 @@ fn decide_by<'a>(
 // Whether there is no step.
 fn has_none(chain: &BlockChain) -> bool
     requires own { chain.now.extras ≡ [] }
+    requires alone { chain.now.cache ≡ None }
     ensures { (said : Sayings) → result ≡ has_none (steps_in said chain.now) }
 {
     let front = chain.front.as_slice();

@@ -1,7 +1,7 @@
 //! What the steps of a block's chain mean, one after another: a plugin that answers decides, and a
 //! step round the rest takes or changes what stands behind what the rest meant.
 
-ghost use Rattle.std.specs.Prelude.{◌≡◌, false, IfOk, map};
+ghost use Rattle.std.specs.Prelude.{◌≡◌, false, None, IfOk, map};
 ghost use Rattle.chain_build.specs.Compiled.{back_of, back_steps, whole};
 ghost use Rattle.chain_meaning.specs.Mean.{mean};
 ghost use Rattle.plain_chain.specs.Meant.{Means};
@@ -19,7 +19,7 @@ use plugin_api::{Cause, Code};
 use rewrite_plugin::{Changed, RewriteRoom, change};
 use std::alloc::Global;
 
-/// What these first steps mean, and behind them what stands behind a cache in the chain.
+/// What these first steps mean of a chain without a cache, and behind them what stands behind one.
 pub(crate) fn evaluate<'a>(
     alloc: Global,
     front: &[FrontStep],
@@ -28,8 +28,8 @@ pub(crate) fn evaluate<'a>(
     marks: &'a [Mark],
 ) -> Result<Meant<'a>, NoMemory>
     requires { asks_upstreams (map back_of chain.now.back) ≡ false }
-    ensures { IfOk result
-        (Means (mean (whole front.now chain.now.rewrites chain.now.back) query.now) marks.now) }
+    ensures { IfOk result (Means (mean (whole front.now None chain.now.rewrites chain.now.back)
+        query.now) marks.now) }
 {
     let Some((step, rest)) = front.split_first() else {
         return evaluate_behind(alloc, chain, query, marks);

@@ -1,10 +1,10 @@
 use Rattle.std.proofs.Common.{◌≡◌, ◌+◌, ◌-◌, ◌*◌, ◌≤◌, ℕ, List, All, length, vec_len, vec_capacity}
 use Rattle.std.specs.Arc.{arc_value}
 use Rattle.extra_stock.specs.{asked_by, in_chains, names_weigh, seats_in, seats_of_chains}
-use Rattle.forward_plugin.specs.{HasParts}
+use Rattle.chain_build.specs.Shares.{HaveParts}
 use Rattle.pin_table.specs.{AreNew}
 use Rattle.plugin_api.specs.{Obey}
-use Rattle.chain_build.specs.BlockPools.{ArePooled}
+use Rattle.chain_build.specs.Uses.{AreUsed}
 use Rattle.chain_build.specs.Workers.{chain_extras, chain_identity, chain_log, plans_of}
 use Rattle.chain_build.proofs.building.build_chains.Given as goal
 
@@ -21,6 +21,6 @@ invariant-loop-worker g l = record {
   room : l.workers ≤ vec_capacity l.chains;
   capacity : vec_capacity l.stock.spare ≡ vec_capacity l.fn.stock.spare;
   judges : l.stock.judges ≡ l.fn.stock.judges;
-  pooled : ArePooled (arc_value l.plans).chains l.shared.items;
-  parts : All (All (HasParts (l.workers + 1 - l.worker))) l.shared.items;
+  used : AreUsed (arc_value l.plans).chains l.shared.items;
+  parts : All (HaveParts (l.workers + 1 - l.worker)) l.shared.items;
 }

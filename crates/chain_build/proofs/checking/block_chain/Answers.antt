@@ -12,7 +12,7 @@ returns-clause-made g c =
     let back = c.in_ok-chain.chain.back in
     record {
       well = reads.well;
-      steps = λ said. (λ i. whole_by said front (c.in_ok-chain.ensures.extras i) (c.in_ok-chain.ensures.rewrites i) back)
+      steps = λ said. (λ i. whole_by said front (c.in_ok-chain.ensures.extras i) (c.in_ok-chain.ensures.cache i) (c.in_ok-chain.ensures.rewrites i) back)
           ∙ steps-placed said c.args.files.now c.args.block.now c.args.patterns front back c.in_ok-places.places reads.is c.in_ok-chain.ensures.front c.in_ok-chain.ensures.back;
       extras = c.in_ok-chain.ensures.extras ∙ ap (λ p. p.extras) reads.is ∙ extras-placed (context_of c.args.files.now c.args.block.now) c.args.block.now.directives c.args.patterns;
       taken = subst (AreTaken (g.J.Judges.taken c.args.judges.now)) (sym c.in_ok-chain.ensures.extras) reads.taken;

@@ -1,5 +1,5 @@
-use Rattle.chain_meaning.specs.Called.{pool_in}
-use Rattle.chain_build.specs.Compiled.{back_steps}
+use Rattle.chain_meaning.specs.Called.{numbers_in}
+use Rattle.chain_build.specs.Plans.{inner_of}
 use Rattle.chain_build.specs.Walking.{decided}
 use Rattle.chain_build.proofs.LoggedWalks.{others_go_by}
 use Rattle.chain_build.proofs.Walks.{said_none}
@@ -8,6 +8,6 @@ use Rattle.chain_build.proofs.front.run_others.Goals as goal
 pub returns-in-None-clause-takes : goal.returns-in-None-clause-takes
 returns-in-None-clause-takes g c =
     let q = c.args.walk.now.query.now in
-    let steps = back_steps c.args.chain.now.rewrites c.args.chain.now.back in
-    others_go_by (pool_in steps q) (g.X.Extras.says c.args.extras.now) steps q (decided c.run_uncached.result c.run_uncached.new.room.plugins.slot) _ _
-    (said_none (g.X.Extras.says c.args.extras.now) q c.args.room.now.plugins.slot c.answer.new.slot c.in_ok-ended.ensures.said c.in-None.is) c.run_uncached.ensures.takes
+    let steps = inner_of c.args.chain.now in
+    others_go_by (numbers_in steps q) (g.X.Extras.says c.args.extras.now) steps q (decided c.run_inner.result c.run_inner.new.room.plugins.slot) _ _
+    (said_none (g.X.Extras.says c.args.extras.now) q c.args.room.now.plugins.slot c.answer.new.slot c.in_ok-ended.ensures.said c.in-None.is) c.run_inner.ensures.takes

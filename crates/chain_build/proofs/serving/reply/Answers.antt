@@ -1,5 +1,5 @@
 use Rattle.std.proofs.Common.{◌∙◌}
-use Rattle.chain_meaning.specs.Called.{place_in}
+use Rattle.chain_meaning.specs.Called.{places_in}
 use Rattle.chain_meaning.specs.Serving.{chain_decides}
 use Rattle.chain_meaning.specs.declared.decision.Decision.TheVariants as decision
 use Rattle.chain_build.specs.Logs.{held_log}
@@ -13,29 +13,29 @@ use Rattle.chain_build.proofs.serving.reply.Goals as goal
 pub returns-in_default-clause-tells : goal.returns-in_default-clause-tells
 returns-in_default-clause-tells g c =
     told_at_once g.B.Rulebook.taken g.B.Rulebook.said c.args.plans.now c.args.held.now.serial c.args.arrived.now.datagram.now c.args.room.now.query.name c.args.beside c.fill_query.new.query
-    (decision.Reply c.chain_for.new.slot) c.finish_apart.result c.tell.ensures.accepted c.requires.asks c.fill_query.ensures _ (held_log c.args.held.now.pools.items) c.in_default.ensures.none c.finish_apart.ensures
+    (decision.Reply c.chain_for.new.slot) c.finish_apart.result c.tell.ensures.accepted c.requires.asks c.fill_query.ensures _ (held_log c.args.held.now.uses.items) c.in_default.ensures.none c.finish_apart.ensures
 
 pub returns-in-Ok-Some-clause-tells : goal.returns-in-Ok-Some-clause-tells
 returns-in-Ok-Some-clause-tells g c =
     let means = chain_decides (steps_in g.B.Rulebook.said c.in-Some.found.1.now) c.fill_query.new.query in
     let ended = tried means c.try_chain.new.room.plugins.slot c.in-Ok-Some.field-0 c.in-Ok-Some.ended c.in-Ok-Some.ensures c.in-Ok-Some.field-0-is in
     told_at_once g.B.Rulebook.taken g.B.Rulebook.said c.args.plans.now c.args.held.now.serial c.args.arrived.now.datagram.now c.args.room.now.query.name c.args.beside c.fill_query.new.query
-    (decision_of c.in-Ok-Some.ended c.try_chain.new.room.plugins.slot) c.finish.result c.tell.ensures.accepted c.requires.asks c.fill_query.ensures _ (held_log c.args.held.now.pools.items)
+    (decision_of c.in-Ok-Some.ended c.try_chain.new.room.plugins.slot) c.finish.result c.tell.ensures.accepted c.requires.asks c.fill_query.ensures _ (held_log c.args.held.now.uses.items)
     (λ left. c.in-Some.ensures.some left ∙ ended left) c.finish.ensures
 
 pub returns-in-Ok-clause-tells : goal.returns-in-Ok-clause-tells
 returns-in-Ok-clause-tells g c =
     told_by g.B.Rulebook.taken g.B.Rulebook.said c.args.plans.now c.args.held.now.serial c.args.arrived.now.datagram.now c.args.room.now.query.name c.args.beside c.fill_query.new.query
     (decision_of c.in-Ok.ended c.run_found.new.room.plugins.slot) c.finish_apart-in-Ok.result c.tell.ensures.accepted c.requires.asks c.fill_query.ensures
-    (place_in (steps_in g.B.Rulebook.said c.in-Some.found.1.now) c.in-Some.found.0 c.fill_query.new.query) _ _ c.in-Some.ensures.place
+    (places_in (steps_in g.B.Rulebook.said c.in-Some.found.1.now) c.in-Some.found.0 c.fill_query.new.query) _ _ c.in-Some.ensures.places
     (takes_at (chain_decides (steps_in g.B.Rulebook.said c.in-Some.found.1.now) c.fill_query.new.query) _ c.in-Some.ensures.some c.in-Ok.ensures.takes) c.finish_apart-in-Ok.ensures
 
 pub returns-in-Err-run_found-clause-tells : goal.returns-in-Err-run_found-clause-tells
 returns-in-Err-run_found-clause-tells g c =
     told_starved g.B.Rulebook.taken g.B.Rulebook.said c.args.plans.now c.args.held.now.serial c.args.arrived.now.datagram.now c.args.room.now.query.name c.args.beside c.fill_query.new.query
-    (place_in (steps_in g.B.Rulebook.said c.in-Some.found.1.now) c.in-Some.found.0 c.fill_query.new.query) _ _ _ c.tell.ensures.accepted c.requires.asks c.fill_query.ensures c.in-Some.ensures.place
+    (places_in (steps_in g.B.Rulebook.said c.in-Some.found.1.now) c.in-Some.found.0 c.fill_query.new.query) _ _ _ c.tell.ensures.accepted c.requires.asks c.fill_query.ensures c.in-Some.ensures.places
     (takes_at (chain_decides (steps_in g.B.Rulebook.said c.in-Some.found.1.now) c.fill_query.new.query) _ c.in-Some.ensures.some c.in-Err-run_found.ensures.takes)
 
 pub returns-in-Err-clause-tells : goal.returns-in-Err-clause-tells
 returns-in-Err-clause-tells g c =
-    told_without (server_in g.B.Rulebook.taken g.B.Rulebook.said c.args.plans.now c.args.held.now.serial) c.args.arrived.now.datagram.now _ (held_log c.args.held.now.pools.items)
+    told_without (server_in g.B.Rulebook.taken g.B.Rulebook.said c.args.plans.now c.args.held.now.serial) c.args.arrived.now.datagram.now _ (held_log c.args.held.now.uses.items)

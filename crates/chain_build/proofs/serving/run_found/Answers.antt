@@ -1,42 +1,44 @@
-use Rattle.std.proofs.Common.{List, [], length, subst, slice_get, slice_set as set, sym, ap, ◌∙◌}
+use Rattle.std.proofs.Common.{slice_set as set, subst, sym, ap, ◌∙◌}
 use Rattle.std.proofs.lemmas.List.{set-get_or}
-use Rattle.forward_plugin.specs.declared.pool_use.PoolUse.{PoolUse}
-use Rattle.chain_build.specs.Pools.{pools_in}
-use Rattle.chain_build.proofs.Pooled.{at_length, kept_lengths, same_at}
-use Rattle.chain_meaning.specs.Called.{pool_in}
+use Rattle.chain_meaning.specs.Called.{numbers_in}
+use Rattle.chain_build.specs.LoggedWalks.{UsesLogged}
 use Rattle.chain_build.specs.Plans.{steps_in}
-use Rattle.chain_build.specs.Logs.{pool_logs}
-use Rattle.one_history.specs.Shared.{calls_in}
-use Rattle.chain_build.specs.Logs.{Logged}
-use Rattle.chain_build.proofs.PlacesOfPools.{chain_grows}
-use Rattle.chain_build.proofs.Logging.{held_grows}
+use Rattle.chain_build.specs.Uses.{IsUsed, SameUses}
+use Rattle.chain_build.specs.declared.block_uses.BlockUses.{BlockUses}
+use Rattle.chain_build.proofs.Logging.{block_grows, held_grows}
+use Rattle.chain_build.proofs.PlacesOfParts.{chain_grows}
+use Rattle.chain_build.proofs.Pooled.{used_at, used_same, used_set}
 use Rattle.chain_build.proofs.serving.run_found.Goals as goal
 
 pub returns-clause-takes : goal.returns-clause-takes
 returns-clause-takes g c =
     let held = c.args.held.now in
     let n = c.args.found.0 in
-    let q = c.args.walk.now.query.now in
-    let number = pool_in (steps_in g.B.Rulebook.said c.args.found.1.now) q in
-    let at = at_length held.pools.items n (pools_in c.args.found.1.now.back) (ap (λ l. slice_get l n) c.requires.holds.pooled ∙ c.requires.pools) in
-    let same = c.run_chain.ensures.count ∙ ap length c.index_mut-2.ensures.value ∙ at.1 _ ∙ sym (at.1 []) in
-    let after = kept_lengths held.pools.items n c.run_chain.new.pools [] at.0 same ∙ c.requires.holds.pooled in
+    let chain = c.args.found.1.now in
+    let numbers = numbers_in (steps_in g.B.Rulebook.said chain) c.args.walk.now.query.now in
+    let new = c.run_chain.new.uses in
+    let at = used_at c.args.plans.now.chains held.uses.items n chain c.index_mut-2.result.now c.requires.holds.used c.requires.chain in
     let takes = c.run_chain.ensures.takes in
-    let logged = subst (λ (uses : List PoolUse). Logged number (calls_in takes.takes.marks) (pool_logs uses) (pool_logs c.run_chain.new.pools)) (c.index_mut-2.ensures.value ∙ same_at held.pools.items n _ [] at.0) takes.logged in
+    let same = subst (λ (u : BlockUses). SameUses u new) c.index_mut-2.ensures.value c.run_chain.ensures.same in
+    let logged = subst (λ (u : BlockUses). UsesLogged numbers takes.takes.marks u new) c.index_mut-2.ensures.value takes.logged in
+    let after = used_set c.args.plans.now.chains held.uses.items n _ new at.0 c.requires.holds.used same in
     record {
       takes = takes.takes;
-      grown = chain_grows held.serial n c.args.plans.now.chains held.pools.items c.run_chain.new.pools number (calls_in takes.takes.marks) c.requires.holds.pooled after at.0 logged;
-      follows = held_grows held.pools.items n c.run_chain.new.pools number (calls_in takes.takes.marks) at.0 same logged;
+      grown = chain_grows held.serial n numbers takes.takes.marks chain new _ at.2 (used_same chain _ new same at.2) logged c.args.plans.now.chains held.uses.items c.requires.holds.used after at.1;
+      follows = held_grows held.uses.items n _ new at.0 (block_grows _ new numbers takes.takes.marks same logged);
     }
 
 pub returns-clause-holds : goal.returns-clause-holds
 returns-clause-holds g c =
     let held = c.args.held.now in
     let n = c.args.found.0 in
+    let new = c.run_chain.new.uses in
     let kept = ap (set held.seats.items n) (c.run_chain.ensures.seated ∙ c.index_mut.ensures.value) ∙ set-get_or held.seats.items n _ in
-    let at = at_length held.pools.items n (pools_in c.args.found.1.now.back) (ap (λ l. slice_get l n) c.requires.holds.pooled ∙ c.requires.pools) in
-    let same = c.run_chain.ensures.count ∙ ap length c.index_mut-2.ensures.value ∙ at.1 _ ∙ sym (at.1 []) in
-    record {
-      seated = kept ∙ c.requires.holds.seated;
-      pooled = kept_lengths held.pools.items n c.run_chain.new.pools [] at.0 same ∙ c.requires.holds.pooled;
-    }
+    let at = used_at c.args.plans.now.chains held.uses.items n c.args.found.1.now c.index_mut-2.result.now c.requires.holds.used c.requires.chain in
+    let same = subst (λ (u : BlockUses). SameUses u new) c.index_mut-2.ensures.value c.run_chain.ensures.same in
+    record { seated = kept ∙ c.requires.holds.seated; used = used_set c.args.plans.now.chains held.uses.items n _ new at.0 c.requires.holds.used same }
+
+pub run_chain-requires-clause-used : goal.run_chain-requires-clause-used
+run_chain-requires-clause-used g c =
+    let at = used_at c.args.plans.now.chains c.args.held.now.uses.items c.args.found.0 c.args.found.1.now c.index_mut-2.result.now c.requires.holds.used c.requires.chain in
+    subst (λ (u : BlockUses). IsUsed c.args.found.1.now u) (sym c.index_mut-2.ensures.value) at.2

@@ -11,8 +11,7 @@ returns-in-Some c =
     let read = c.args.read.now in
     let q = c.args.query.now in
     let pass : Sayings = λ name d q. verdict.Pass in
-    c.asks_upstreams.ensures
-    ∙ ap (λ back. asks_upstreams (map back_of back)) c.as_slice.ensures
+    c.asks_outside.ensures
     ∙ some-forward pass read.files.now read.chains read.blocks (c.requires.chains pass) (picked read.blocks q.local q.name) c.in-Some.chain.now c.in-Some.ensures
 
 pub returns-in-None : goal.returns-in-None

@@ -1,5 +1,6 @@
 -- What the roles of a run own may cross threads, and threads may share the table of their chains. The checker's own search
 -- breaks off at the lock in a pool of upstreams, so the types round it are gone through by hand, up to the roles.
+use mir.Syntax.{Dict}
 use denote.RattleType.{RattleType}
 use denote.Ref.{NamedLft}
 use denote.Struct.Field.{row_field}
@@ -36,6 +37,12 @@ use Rattle.upstream_health.specs.contracts.pool.PoolSeat as PoolSeat
 use Rattle.forward_plugin.specs.contracts.pool_use.PoolUse as PoolUse
 use Rattle.forward_plugin.specs.contracts.pools.Pools as Pools
 use Rattle.forward_plugin.specs.contracts.pools.Pools.TheInside as Inside
+use Rattle.cache_plugin.specs.contracts.cache_use.CacheUse as CacheUse
+use Rattle.cache_plugin.specs.contracts.cache_use.CacheUse.TheInside as CacheInside
+use Rattle.cache_shards.proofs.Sharings.{cache_seat_send, cache_send, cache_sync}
+use Rattle.chain_build.specs.contracts.block_uses.BlockUses as BlockUses
+use Rattle.chain_build.specs.contracts.judge.CacheJudge as CacheJudge
+use Rattle.chain_build.specs.contracts.judge.CacheJudgeJudge.TheImpl as judge
 
 health_send : IsSend Health.the_row
 health_send = search (sendable, crosses) depth 20
@@ -68,9 +75,23 @@ option_record R = let T = Option.the_type R in record { name = T.name; args = T.
 option_send : (R : RattleType) → IsSend R → IsSend (Option.the_row R)
 option_send R s = variants_send (option_record R) (tt, ((as_row_send (row_field R) s, tt), tt))
 
+-- the lemmas of a cache take a dictionary, on which nothing depends
+none_given : Dict
+none_given = Dict.given 0
+
+cache_inside_send : IsSend (CacheInside.the_row CacheJudge.the_row judge.ghosts)
+cache_inside_send = declared_send (CacheInside.the_type CacheJudge.the_row judge.ghosts)
+    (Arc-send _ (cache_send CacheJudge.the_row judge.ghosts none_given) (cache_sync CacheJudge.the_row judge.ghosts none_given), (cache_seat_send CacheJudge.the_row, tt))
+
+cache_use_send : IsSend (CacheUse.the_row CacheJudge.the_row judge.ghosts)
+cache_use_send = search (cache_inside_send, sendable) depth 5
+
+block_uses_send : IsSend BlockUses.the_row
+block_uses_send = declared_send BlockUses.the_type (pools_send, (option_send _ cache_use_send, tt))
+
 module _ (B E : RattleType) (b : rulebook.Ghosts B.Denot) (e : extra.Ghosts E.Denot) (bs : IsSend B) (by : IsSync B) (es : IsSend E) where
   held_send : IsSend (Held.the_row B E b e)
-  held_send = declared_send (Held.the_type B E b e) (search sendable, (search sendable, (Vec-send _ (search (sendable, crosses) depth 20), (Vec-send _ pools_send, tt))))
+  held_send = declared_send (Held.the_type B E b e) (search sendable, (search sendable, (Vec-send _ (search (sendable, crosses) depth 20), (Vec-send _ block_uses_send, tt))))
 
   plans_send : IsSend (Plans.the_row B b)
   plans_send = plans.the_send B b
@@ -100,7 +121,7 @@ module _ (B E : RattleType) (b : rulebook.Ghosts B.Denot) (e : extra.Ghosts E.De
       publisher_send,
       (
         search sendable,
-        (Arc-send _ plans_send plans_sync, (search (sendable, crosses) depth 20, (Vec-send _ chain_send, (search sendable, tt)))),
+        (Arc-send _ plans_send plans_sync, (search (sendable, crosses) depth 20, (Vec-send _ chain_send, (search sendable, (search sendable, tt))))),
       ),
     ),
   )

@@ -17,6 +17,7 @@ use chain_build::{BuildFault, Chain, Plans, build};
 use dns_data::NoMemory;
 use extra_stock::Stock;
 use plugin_api::{Extra, Rulebook};
+use seeded_hash::Seed;
 use std::alloc::Global;
 use std::sync::Arc;
 
@@ -35,13 +36,14 @@ pub(crate) struct Rooms<S, W, B: Rulebook, E: Extra> {
 }
 
 impl<S: Drop, W: Drop, B: Rulebook, E: Extra> Rooms<S, W, B, E> {
-    /// So many workers an endpoint. The chains are built last, so that want of memory leaves their
-    /// extras in the stock.
+    /// So many workers an endpoint, whose caches hash with the seed. The chains are built last, so
+    /// that want of memory leaves their extras in the stock.
     pub fn new(
         alloc: Global,
         plans: Plans<B>,
         workers: u64,
         stock: &mut Stock<E>,
+        seed: Seed,
     ) -> Result<Rooms<S, W, B, E>, BuildFault>
         requires few { side_count workers plans.ports ≤ limits.WORKERS }
         requires workers { workers ≤ limits.WORKERS }
@@ -75,7 +77,7 @@ impl<S: Drop, W: Drop, B: Rulebook, E: Extra> Rooms<S, W, B, E> {
     {
         let mut rooms = Rooms::empty(alloc, plans, workers)?;
         let count = rooms.places.len() as u64;
-        rooms.chains = build(alloc, &rooms.plans, 0, count, stock)?;
+        rooms.chains = build(alloc, &rooms.plans, 0, count, stock, seed)?;
         Ok(rooms)
     }
 

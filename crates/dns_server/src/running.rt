@@ -31,15 +31,17 @@ use outside::{Host, OpenFault, Side, Watch};
 use pin_table::PinTable;
 use plugin_api::{Extra, Rulebook};
 use reload_watch::{ReadFault, Source, Watcher, read_first};
+use seeded_hash::Seed;
 use std::alloc::Global;
 use std::sync::Wait;
 use std::thread::Threads;
 
-// The watch of a run, and its stock, before anything is served.
+// The watch of a run, its stock, and with which its caches hash, before anything is served.
 #[derive(Drop)]
 struct Begun<W, E> {
     watch: W,
     stock: Stock<E>,
+    seed: Seed,
 }
 
 /// Runs the command that the words ask for, over what the host opens, until its sides have ended
@@ -197,7 +199,15 @@ fn run_command<R: Threads + Wait + Sync, H: Host, B: Rulebook + Send + Sync, E: 
     if let Some(why) = refused_sides(plans.ports.as_slice(), setup.workers) {
         return stopped(alloc, Status::Refused(why), Some(watch), stock);
     }
-    run_plans(rt, alloc, setup, host, plans, Begun { watch, stock })
+    let seed = seed_of(host);
+    run_plans(rt, alloc, setup, host, plans, Begun { watch, stock, seed })
+}
+
+// Two random words of a host, which clients can't know.
+fn seed_of<H: Host>(host: &mut H) -> Seed
+    ensures { H.state host.new ≡ H.state host.old }
+{
+    Seed::new(host.word(), host.word())
 }
 
 // Runs by what the first bundle serves by: builds its chains, opens its sides, publishes it, and
@@ -229,8 +239,9 @@ fn run_plans<R: Threads + Wait + Sync, H: Host, B: Rulebook + Send + Sync, E: Ex
     let Begun {
         mut watch,
         mut stock,
+        seed,
     } = begun;
-    let rooms = match Rooms::new(alloc, plans, setup.workers, &mut stock) {
+    let rooms = match Rooms::new(alloc, plans, setup.workers, &mut stock, seed) {
         Ok(rooms) => rooms,
         Err(fault) => return stopped(alloc, status_of_build(fault), Some(watch), stock),
     };
@@ -260,6 +271,7 @@ fn run_plans<R: Threads + Wait + Sync, H: Host, B: Rulebook + Send + Sync, E: Ex
         current: plans,
         stock,
         home,
+        seed,
         starved: 0,
     };
     let served = Opened {

@@ -134,7 +134,8 @@ fn publish_in<W: Watch, B: Rulebook, E: Extra>(
     let Ok(next) = Arc::new(alloc, plans) else {
         return Looking::NoMemory;
     };
-    match build(alloc, &next, serial, watcher.workers, &mut watcher.stock) {
+    let (workers, seed) = (watcher.workers, watcher.seed);
+    match build(alloc, &next, serial, workers, &mut watcher.stock, seed) {
         Ok(chains) => {
             publish(table, &mut watcher.publisher, slot, chains);
             watcher.current = next;

@@ -2,6 +2,7 @@ use chain_build::{Chain, Plans};
 use extra_stock::Stock;
 use pin_table::Publisher;
 use plugin_api::{Extra, Rulebook};
+use seeded_hash::Seed;
 use std::sync::Arc;
 
 /// A watcher: its watch, the publisher of the table from which the workers pin their chains, the
@@ -18,6 +19,8 @@ pub struct Watcher<W, B: Rulebook, E: Extra> {
     pub stock: Stock<E>,
     /// Where the chains of replaced generations come home; with room for those of four.
     pub home: Vec<Chain<B, E>>,
+    /// With which new caches hash.
+    pub seed: Seed,
     /// How many looks met want of memory.
     pub starved: u64,
 }

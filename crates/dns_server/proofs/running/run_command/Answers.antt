@@ -1,9 +1,11 @@
 use Rattle.std.proofs.Common.{ℕ, List, length, map, Result, Ok, Err, ap, subst, ◌∙◌, arith}
 use Rattle.chain_build.specs.{PlansData}
 use Rattle.chain_meaning.specs.{ground_at}
+use Rattle.outside.specs.Causes.{HostNoneFell}
+use Rattle.outside.specs.Hosts.{HostState}
 use Rattle.reload_watch.specs.declared.fault.ReadFault.{ReadFault}
 use Rattle.reload_watch.specs.{ReadsFirst, footing_on, source_data}
-use Rattle.dns_server.specs.Report.{RunData}
+use Rattle.dns_server.specs.Report.{RunData, RunsBehind, run_data}
 use Rattle.dns_server.specs.Stocking.{data_weighs}
 use Rattle.dns_server.specs.Opening.{RefusesSides}
 use Rattle.dns_server.specs.States.{run_setup}
@@ -45,7 +47,15 @@ returns-clause-runs g c =
     let reads_by : (r : Result PlansData ReadFault) → ReadsFirst (source_data c.args.setup.source) (footing_on g.B.Rulebook.taken g.B.Rulebook.said (ground_at c.args.setup.port (map g.E.Extra.title c.as_slice.result.now))) (g.H.Watch.PatternMaker.state c.args.watch) (g.H.Watch.PatternMaker.state c.read_first-read.new.watch) r
     → ReadsFirst (source_data c.args.setup.source) (footing_on g.B.Rulebook.taken g.B.Rulebook.said (ground_at c.args.setup.port (map g.E.Extra.title c.args.stock.judges.items))) (g.H.Watch.PatternMaker.state c.args.watch) (g.H.Watch.PatternMaker.state c.read_first-read.new.watch) r =
     λ r x. subst (λ (l : List g.row.E.Denot). ReadsFirst (source_data c.args.setup.source) (footing_on g.B.Rulebook.taken g.B.Rulebook.said (ground_at c.args.setup.port (map g.E.Extra.title l))) (g.H.Watch.PatternMaker.state c.args.watch) (g.H.Watch.PatternMaker.state c.read_first-read.new.watch) r) c.as_slice.ensures.value x in
-    c.run_plans.ensures.runs (state c.args.watch) c.requires.fresh (c.in-Ok.ensures.goes.script, c.in-Ok.ensures.refusals) (reads_by (Ok c.in-Ok.plans) c.in-Ok.ensures.reads)
+    let title = g.E.Extra.title in
+    let setup = run_setup c.args.setup g.B.Rulebook.taken g.B.Rulebook.said (map title c.args.stock.judges.items) in
+    let run = run_data g.H.Side.Side.state state title c.run_plans.result in
+    subst (λ (h : HostState). RunsBehind setup run (state c.args.watch) h (g.H.Host.state c.run_plans.new.host)) c.seed_of-seed.ensures
+    (c.run_plans.ensures.runs (state c.args.watch) c.requires.fresh (c.in-Ok.ensures.goes.script, c.in-Ok.ensures.refusals) (reads_by (Ok c.in-Ok.plans) c.in-Ok.ensures.reads))
+
+pub returns-clause-counts : goal.returns-clause-counts
+returns-clause-counts g c =
+    subst (λ (h : HostState). HostNoneFell h.counts (g.H.Host.state c.run_plans.new.host).counts) c.seed_of-seed.ensures c.run_plans.ensures.counts
 
 pub returns-in-Err-clause-extras : goal.returns-in-Err-clause-extras
 returns-in-Err-clause-extras g c = λ w. ap (λ (d : RunData). data_weighs w d.stock) c.stopped.ensures

@@ -99,6 +99,7 @@ finish-finished-requires-clause-opened g c = λ κs b.
       current = c.in-Ok.rooms.plans;
       stock = c.new.new.stock;
       home = c.in-Ok.rooms.home;
+      seed = c.args.begun.seed;
       starved = 0;
     } in
     let workers : c.len-workers.result ≡ length chains = omega (arith, c.len-workers.ensures) in

@@ -40,3 +40,9 @@ returns-in_err-rooms-2-clause-stock g c =
     let short = subst (λ (x : ℕ × PlansData). Builds x.0 x.1.extras had c.build.result) (λ k. (same k, plans k)) c.build.ensures.short in
     fault_stays (side_count c.args.workers c.args.plans.ports) c.args.plans.extras had c.in_err-rooms-2.field-0.0 c.build.result c.from_residual-in_err-rooms-2.result
     c.in_err-rooms-2.was c.from_residual-in_err-rooms-2.ensures.1 short
+
+pub returns-clause-weighs : goal.returns-clause-weighs
+returns-clause-weighs g c w =
+    let left = c.in_ok-rooms-2.ensures.ok w in
+    let taken = c.in_ok-rooms-2.ensures.made.weigh w in
+    omega (arith, left, taken)

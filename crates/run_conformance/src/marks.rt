@@ -2,10 +2,10 @@
 
 use case_fields::{CaseFault, bytes_field};
 use dns_data::{Text, Transport};
-use outside::{InnerMark, Mark, Outcome, ReadOut, Upstream, WatchMark};
+use outside::{Class, InnerMark, Key, Mark, Outcome, ReadOut, Upstream, WatchMark};
 use std::alloc::Global;
 
-/// What a side did or saw. No plugin looks at the clock or keeps an entry yet.
+/// What a side did or saw.
 pub fn mark_text(alloc: Global, mark: &Mark) -> Result<String, CaseFault> {
     match mark {
         Mark::Got(_) => Ok(String::from_str(alloc, "got")?),
@@ -13,10 +13,37 @@ pub fn mark_text(alloc: Global, mark: &Mark) -> Result<String, CaseFault> {
         Mark::RecvFailed => Ok(String::from_str(alloc, "recvfailed")?),
         Mark::Pinned(serial) => Ok(format!(in alloc; "pinned {serial}")?),
         Mark::Unpinned(serial) => Ok(format!(in alloc; "unpinned {serial}")?),
+        Mark::Now(now) => Ok(format!(in alloc; "now {now}")?),
+        Mark::Looked(key, now, found) => {
+            let key = key_text(alloc, key)?;
+            let found = if found.is_some() { "hit" } else { "miss" };
+            Ok(format!(in alloc; "looked {} {now} {found}", key.as_str())?)
+        }
+        Mark::Put(key, entry, _) => {
+            let key = key_text(alloc, key)?;
+            let class = class_text(entry.class);
+            let (born, life) = (entry.born, entry.life);
+            Ok(format!(in alloc; "put {} {class} {born} {life}", key.as_str())?)
+        }
         Mark::Inner(inner) => inner_text(alloc, inner),
         Mark::Noted(line, out) => line_text(alloc, "noted", line.as_slice(), *out),
         Mark::Sent(reply, out) => line_text(alloc, "sent", reply.as_slice(), *out),
-        _ => Ok(String::from_str(alloc, "another mark")?),
+    }
+}
+
+// What an entry is kept under: the name's text, the type, DO and CD.
+fn key_text(alloc: Global, key: &Key) -> Result<String, CaseFault> {
+    let name = key.name.text(alloc)?;
+    let name = bytes_field(alloc, name.as_str().as_bytes())?;
+    let (dnssec, cd) = (u8::from(key.dnssec), u8::from(key.cd));
+    Ok(format!(in alloc; "{} {} {dnssec} {cd}", name.as_str(), key.kind)?)
+}
+
+fn class_text(class: Class) -> &'static str {
+    match class {
+        Class::Success => "success",
+        Class::Denial => "denial",
+        Class::Servfail => "servfail",
     }
 }
 

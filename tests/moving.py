@@ -86,7 +86,7 @@ def scenario_text(name, step):
         return None
     body = re.sub(r"(?m)^    ", "", body[1]).strip("\n")
     for here, there in (("{dir}", "/etc/dnschain"), ("{port2}", "5301"), ("{port}", "53"), ("127.0.0.0/16", "10.0.0.0/8"),
-                        ("127.0.0.1:{near} 127.0.0.1:{far}", "10.0.0.2 10.0.0.3")):
+                        ("127.0.0.1:{near} 127.0.0.1:{far}", "10.0.0.2 10.0.0.3"), ("127.0.0.1:{one} 127.0.0.1:{one}", "192.0.2.1 192.0.2.2")):
         body = body.replace(here, there)
     return body
 

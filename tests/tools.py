@@ -68,7 +68,7 @@ CASES = [
          "{file}:9: unknown directive", "        chaos 1 {", "    imported at {file}:14", "{file}:16: directive: kind", "            block type HTTPS",
          "{file}:19: directive: zone", "            10.0.0.1 a..b", "{file}:20: directive: net", "            reload 5s",
          "{file}:23: directive: args", "        whoami 1", "{file}:25: directive: zone", "            except a..test",
-         "{file}:29: directive: args", "        file /none/z {", "{file}:29: directive: nofile", "        file /none/z {"],
+         "{file}:30: directive: option", "            reload 1s", "{file}:29: directive: nofile", "        file /none/z {"],
     ),
     (
         "a block that is never closed", ".:{port} {\n    whoamy\n", 1, ["{file}:1: block: openblock", "    .:{port} {"],

@@ -3,19 +3,27 @@
 
 Each is read, checked and made into chains by the program `conformance` (cd crates/conformance && rt run < stdin builds it), as `check`
 cases; two runs, of one and of three lines, and their difference, less that of a case that reads the same digits and nothing more. The
-lines are counted with imports. Exits 1 where twice the lines cost over 2.2 times. Wants valgrind.
+lines are counted with imports. Two rows more: a block of 20,000 keys and of 100,000, and a start of the built server (make build) whose
+Corefile imports 127 files of 60,000 bytes and 254, the whole run up to a refusal behind the last. Exits 1 where so many times the
+lines, keys or files cost over 1.1 times so many times as much. Wants valgrind.
 """
 import os
-import re
 import shutil
 import subprocess
 import sys
 import tempfile
 
+import callgrind
+from callgrind import under
+
 TOP = os.path.dirname(os.path.dirname(os.path.abspath(__file__)))
 PROGRAM = os.path.join(TOP, "crates", "conformance", "out", "conformance")
-LINES = (2_048, 4_096)
-TIMES, MOST = 2, 2.2
+SERVER = os.environ.get("DNSCHAIN_UNDER_TEST") or os.path.join(TOP, "crates", "dnschain", "out", "dnschain")
+LINES, KEYS, FILES = (2_048, 4_096), (20_000, 100_000), (127, 254)
+# What is measured runs once and three times. So many times as many may cost so many times as much, and a tenth more.
+TIMES, MORE = 2, 1.1
+# An imported file has so many lines of so many bytes.
+FILE_LINES, LINE_BYTES = 250, 240
 # A block of 64 lines: its key, `acl` with 60 lines of its own, and two braces and the key's.
 BLOCK, RULES = 64, 60
 
@@ -39,13 +47,21 @@ def of_file(blocks):
     return "".join(f"z{number}.example.org {{\n    import /d/common\n}}\n" for number in range(blocks)), files
 
 
-def of_keys(blocks):
-    keys = " ".join(f"z{number}.example.org" for number in range(blocks * BLOCK))
+def of_keys(number):
+    keys = " ".join(f"z{key}.e" for key in range(number))
     return f"{keys} {{\n    any\n}}\n", "-"
 
 
-CASES = [("lines of words", of_words), ("imports of one snippet", of_snippet), ("a file imported by each block", of_file),
-         ("keys of one block, as many as lines", of_keys)]
+def of_zones(blocks):
+    text = "@ 300 IN SOA ns admin 1 7200 3600 1209600 60\n" + "".join(f"h{rule} 300 IN A 10.0.0.{rule}\n" for rule in range(RULES))
+    zones = " ".join(f"z{number}.example.org" for number in range(blocks))
+    return f". {{\n    file /d/db {zones}\n}}\n", f"{b'/d/db'.hex()}:{text.encode().hex()}"
+
+
+CASES = [("lines of words", LINES, lambda lines: of_words(lines // BLOCK)),
+         ("imports of one snippet", LINES, lambda lines: of_snippet(lines // BLOCK)),
+         ("a file imported by each block", LINES, lambda lines: of_file(lines // BLOCK)), ("keys of one block", KEYS, of_keys),
+         ("zones of one file, for each of 64 lines one", LINES, lambda lines: of_zones(lines // BLOCK))]
 
 
 def collected(text, folder):
@@ -54,10 +70,8 @@ def collected(text, folder):
     with open(cases, "w") as file:
         file.write(text)
     with open(cases) as file:
-        ran = subprocess.run(
-            ["valgrind", "--tool=callgrind", f"--callgrind-out-file={out}", PROGRAM], stdin=file, capture_output=True, text=True, check=True
-        )
-    return int(re.search(r"Collected : (\d+)", ran.stderr).group(1)), ran.stdout.splitlines()[-1].split(" = ")[1]
+        ran = subprocess.run([*under(out), PROGRAM], stdin=file, capture_output=True, text=True, check=True)
+    return callgrind.collected(ran.stderr), ran.stdout.splitlines()[-1].split(" = ")[1]
 
 
 def cost(case, folder):
@@ -66,24 +80,50 @@ def cost(case, folder):
     return (many - few) / TIMES, answer
 
 
+def of_case(make, size, folder):
+    """Instructions of checking a Corefile."""
+    conf, files = make(size)
+    digits = conf.encode().hex()
+    whole, answer = cost(f"check {digits} 53 - {files} = \n", folder)
+    assert answer == "ok", (size, answer)
+    blank, _ = cost(f"net {digits}{files.replace('-', '').replace(':', '')} = \n", folder)
+    return whole - blank
+
+
+def of_start(files, folder):
+    """Instructions of a whole run whose Corefile imports so many files, and has an unknown directive behind them."""
+    line = ("    words" * LINE_BYTES)[: LINE_BYTES - 1] + "\n"
+    imports = ""
+    for number in range(files):
+        path = os.path.join(folder, f"imported{number}")
+        with open(path, "w") as file:
+            file.write(f"(s{number}) {{\n{line * FILE_LINES}}}\n")
+        imports += f"import {path}\n"
+    conf, out = os.path.join(folder, "Corefile"), os.path.join(folder, "callgrind.out")
+    with open(conf, "w") as file:
+        file.write(imports + ".:1053 {\n    unknown\n}\n")
+    ran = subprocess.run([*under(out), SERVER, "serve", "--conf", conf], capture_output=True, text=True)
+    assert "unknown directive" in ran.stdout + ran.stderr, (files, ran)
+    return callgrind.collected(ran.stderr)
+
+
+def told(title, sizes, costs):
+    """Prints a row. Whether the larger one costs more than it may."""
+    times, most = costs[1] / costs[0], MORE * sizes[1] / sizes[0]
+    print(f"{costs[0]:14.0f} {costs[1]:14.0f} {times:6.3f}  {title}, {sizes[0]:,} and {sizes[1]:,}", flush=True)
+    return times > most
+
+
 def main():
     if shutil.which("valgrind") is None or not os.access(PROGRAM, os.X_OK):
         print("skipped: there is no valgrind, or the program isn't built")
         return 0
     status = 0
     with tempfile.TemporaryDirectory() as folder:
-        for title, make in CASES:
-            costs = []
-            for lines in LINES:
-                conf, files = make(lines // BLOCK)
-                digits = conf.encode().hex()
-                whole, answer = cost(f"check {digits} 53 - {files} = \n", folder)
-                assert answer == "ok", (title, lines, answer)
-                blank, _ = cost(f"net {digits}{files.replace('-', '').replace(':', '')} = \n", folder)
-                costs.append(whole - blank)
-            times = costs[1] / costs[0]
-            status |= times > MOST
-            print(f"{costs[0]:12.0f} {costs[1]:12.0f} {times:6.3f}  {title}", flush=True)
+        for title, sizes, make in CASES:
+            status |= told(title, sizes, [of_case(make, size, folder) for size in sizes])
+        if os.access(SERVER, os.X_OK):
+            status |= told("files imported at the start", FILES, [of_start(files, folder) for files in FILES])
     return status
 
 

@@ -2,7 +2,8 @@
 """User instructions a query of the built server, by callgrind, over loopback: one figure a case.
 
 Two runs of each case, of 2,000 and of 22,000 queries; the difference over 20,000 takes the start out. Each query waits for its
-reply. Wants valgrind and the built program (make build). With --functions, what the functions of one case cost, for one query.
+reply. Wants valgrind and the built program (make build). With words, the cases alone that have them all; with --functions, what the
+functions of the first of these cost, for one query.
 """
 import os
 import re
@@ -16,7 +17,7 @@ import time
 from callgrind import collected, under
 
 TOP = os.path.dirname(os.path.dirname(os.path.abspath(__file__)))
-PROGRAM = os.path.join(TOP, "crates", "dnschain", "out", "dnschain")
+PROGRAM = os.environ.get("DNSCHAIN_UNDER_TEST", os.path.join(TOP, "crates", "dnschain", "out", "dnschain"))
 FEW, MANY = 2_000, 22_000
 SECONDS = 600
 
@@ -59,9 +60,13 @@ def zone(form):
 HOSTS = ".:%d {\n\thosts FOLDER/hosts\n}\n"
 MANY_HOSTS = ".:%d {\n\thosts FOLDER/many\n}\n"
 TEMPLATE = ".:%d {\n\ttemplate IN A {\n\t\tmatch \"^h(?P<n>[0-9]+)\\.example\\.org\\.$\"\n\t\tanswer \"{{ .Name }} 60 IN A 10.9.2.{{ .Group.n }}\"\n\t}\n}\n"
+CACHE = ".:%d {\n\tcache\n\thosts FOLDER/hosts\n}\n"
+FULL_CACHE = ".:%d {\n\tcache {\n\t\tsuccess 8\n\t}\n\thosts FOLDER/hosts\n}\n"
 REWRITE = ".:%d {\n\trewrite name suffix .pub.test .example.org answer auto\n\thosts FOLDER/hosts\n}\n"
 NUMBERED = name(b"h105", b"example", b"org")
 PUBLIC = name(b"h617", b"pub", b"test")
+# Names that take turns, so that a cache which keeps one a shard has lost each when it is asked again.
+TURNS = [query(name(b"h%d" % number, b"example", b"org")) for number in range(1000)]
 
 
 def hosts(count):
@@ -87,6 +92,9 @@ CASES = [
     ("a hosts file of 1,000 names: A", HOSTS, query(HOST)),
     ("the same of 40,000 names", MANY_HOSTS, query(HOST)),
     ("the same: a name that isn't listed, SERVFAIL", MANY_HOSTS, query(ABSENT)),
+    ("a cache in front of that hosts file: a hit", CACHE, query(HOST)),
+    ("the hosts file: 1,000 names in turn", HOSTS, TURNS),
+    ("the same behind a cache that is full: a miss, a put that evicts", FULL_CACHE, TURNS),
     ("a template of one pattern with a group and one answer: A", TEMPLATE, query(NUMBERED)),
     ("the same: a name that the pattern doesn't match, SERVFAIL", TEMPLATE, query(ABSENT)),
     ("a rewrite of a suffix, with answer auto, in front of a hosts file of 1,000 names: A", REWRITE, query(PUBLIC)),
@@ -96,8 +104,9 @@ CASES = [
 ]
 
 
-def count(text, message, queries, folder, answered):
-    """Instructions of a run of so many queries."""
+def count(text, asked, queries, folder, answered):
+    """Instructions of a run of so many queries: one message again and again, or those of a list in turn."""
+    messages = asked if isinstance(asked, list) else [asked]
     with socket.socket(socket.AF_INET, socket.SOCK_DGRAM) as probe:
         probe.bind(("127.0.0.1", 0))
         port = probe.getsockname()[1]
@@ -120,13 +129,12 @@ def count(text, message, queries, folder, answered):
             sent = 0
             while server.poll() is None and time.monotonic() < end:
                 try:
-                    client.send(message)
+                    client.send(messages[sent % len(messages)])
                     if answered:
                         client.recv(65535)
-                    else:
-                        sent += 1
-                        if sent % 64 == 0:
-                            time.sleep(0.002)
+                    sent += 1
+                    if not answered and sent % 64 == 0:
+                        time.sleep(0.002)
                 except (TimeoutError, ConnectionRefusedError):
                     time.sleep(0.02)
         server.wait(SECONDS)
@@ -136,8 +144,8 @@ def count(text, message, queries, folder, answered):
     return collected(server.stderr.read().decode()), out
 
 
-def functions(folder):
-    _, text, message = CASES[0]
+def functions(folder, words):
+    _, text, message = next(case for case in CASES if all(word in case[0] for word in words))
     _, out = count(text, message, MANY, folder, True)
     said = subprocess.run(["callgrind_annotate", "--inclusive=no", out], capture_output=True, text=True).stdout
     for line in said.splitlines():
@@ -153,10 +161,13 @@ def main():
         print("skipped: there is no valgrind, or the program isn't built")
         return
     with tempfile.TemporaryDirectory() as folder:
+        words = [word for word in sys.argv[1:] if word != "--functions"]
         if "--functions" in sys.argv:
-            functions(folder)
+            functions(folder, words)
             return
         for case, text, message in CASES:
+            if not all(word in case for word in words):
+                continue
             answered = "no reply" not in case
             few = count(text, message, FEW, folder, answered)[0]
             many = count(text, message, MANY, folder, answered)[0]

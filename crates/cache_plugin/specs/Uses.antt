@@ -1,8 +1,8 @@
 -- A worker's use of a cache that the workers of a generation share.
-use Rattle.std.specs.Prelude.{◌≡◌, ◌≤◌, ℕ, List, [], length}
+use Rattle.std.specs.Prelude.{◌≡◌, ◌≤◌, ℕ, List, [], length, map}
 use Rattle.std.specs.List.{All, AllByRecursion}
 use Rattle.outside.specs.declared.mark.Mark.{Mark}
-use Rattle.cache_shards.specs.Seats.{CacheData, ShardView, logs}
+use Rattle.cache_shards.specs.Seats.{CacheData, ShardView, logs, met_marks}
 
 -- the cache, and what the use's seats know of its shards
 pub record UseData (J : Type 0) : Type 0 where
@@ -18,6 +18,11 @@ module _ {J : Type 0} where
   pub record SameUse (old new : UseData J) : Type 0 where
     pub cache : new.cache ≡ old.cache
     pub views : length new.views ≡ length old.views
+
+  -- it has the parts that it had, and has met what it had met
+  pub record KeepsParts (old new : UseData J) : Type 0 where
+    pub met : map met_marks new.views ≡ map met_marks old.views
+    pub parts : map (λ v. v.parts) new.views ≡ map (λ v. v.parts) old.views
 
   -- it has so many parts of each shard
   abbrev pub HasParts : ℕ → UseData J → Type 0

@@ -8,7 +8,7 @@ ghost use Rattle.cache_shards.specs.Calls.{looked_marks};
 ghost use Rattle.outside.specs.Marks.{Adds};
 ghost use Rattle.outside.specs.States.{Stays};
 ghost use Rattle.cache_plugin.specs.Calling.{looked, state_at};
-ghost use Rattle.cache_plugin.specs.Uses.{SameUse, use_logs};
+ghost use Rattle.cache_plugin.specs.Uses.{KeepsParts, SameUse, use_logs};
 
 use crate::cache_use::{CacheQuery, CacheUse, Found, Missed};
 use cache_rules::key_of;
@@ -26,6 +26,7 @@ impl<J: Judge> CacheUse<J> {
         side: &mut S,
     ) -> Result<Found, NoMemory>
         ensures same { SameUse self.old self.new }
+        ensures keeps { KeepsParts self.old self.new }
         ensures key { IfOk result (MissesBy (key_of asked.now.query.now)) }
         ensures calls { CallsBy (key_of asked.now.query.now)
             (take_look (key_of asked.now.query.now)) (look_result result)
@@ -47,6 +48,7 @@ impl<J: Judge> CacheUse<J> {
         side: &mut S,
     ) -> Result<Found, NoMemory>
         ensures same { SameUse self.old self.new }
+        ensures keeps { KeepsParts self.old self.new }
         ensures key { IfOk result (MissesBy key) }
         ensures moment { IfOk result (λ found. (looked found).moment ≡ moment) }
         ensures calls { CallsBy key (take_looked key moment) (entry_found result)

@@ -12,7 +12,7 @@ ghost use Rattle.cache_shards.specs.Calls.{put_marks};
 ghost use Rattle.outside.specs.{EntryData};
 ghost use Rattle.outside.specs.declared.entry.Key.{Key};
 ghost use Rattle.outside.specs.declared.mark.Mark.TheVariants as mark;
-ghost use Rattle.cache_plugin.specs.Uses.{SameUse, use_logs};
+ghost use Rattle.cache_plugin.specs.Uses.{KeepsParts, SameUse, use_logs};
 
 use crate::cache_use::{CacheQuery, CacheUse, Decided, Missed};
 use cache_rules::{class_of, is_light};
@@ -36,6 +36,7 @@ impl<J: Judge> CacheUse<J> {
         requires fair { IsFair (J.just self.old.cache.judge) asked.now.plan.now asked.now.query.now
             missed.moment decided.answer decided.kept }
         ensures same { SameUse self.old self.new }
+        ensures keeps { KeepsParts self.old self.new }
         ensures calls { (inner : List InnerMark) → ArePast decided.kept inner
             → CallsBy (key_of asked.now.query.now)
             (put_or asked.now.plan.now missed.moment decided.answer
@@ -64,6 +65,7 @@ impl<J: Judge> CacheUse<J> {
         requires key { key ≡ key_of entry.origin }
         requires just { J.just self.old.cache.judge entry }
         ensures same { SameUse self.old self.new }
+        ensures keeps { KeepsParts self.old self.new }
         ensures entry { IfOk result (λ put. arc_value put ≡ entry) }
         ensures calls { (v : Decision) → CallsBy key (take_put entry v) (put_result v result)
             (state_at (S.state side.old) (use_logs self.old))

@@ -9,7 +9,8 @@ use Rattle.cache_shards.specs.Calls.{put_marks}
 use Rattle.cache_shards.specs.Seats.{AddsAt, CacheData, logs, views_of}
 use Rattle.outside.specs.Keys.{shard_of}
 use Rattle.cache_plugin.specs.Calling.{CallsBy, state_at}
-use Rattle.cache_plugin.specs.Uses.{UseData, use_logs}
+use Rattle.cache_plugin.specs.Uses.{KeepsParts, UseData, use_logs}
+use Rattle.cache_plugin.proofs.Kept.{keeps_added}
 use Rattle.cache_plugin.proofs.Calls.{put_starves, puts_so}
 use Rattle.cache_plugin.proofs.cache_use.CacheUse.put.Goals as goal
 
@@ -38,3 +39,14 @@ returns-clause-calls g c v =
     let adds = subst (λ (x : CacheData g.row.J.Denot). AddsAt x.capacities (g.J.Judge.just x.judge) (shard_of key) (views_of c.self.inside.seat.seats.items) (views_of c.put.new.seat.seats.items) (put_marks key (arc_value c.in_ok-shared.shared) c.put.result)) c.deref.ensures c.put.ensures.adds in
     subst (λ (u : UseData g.row.J.Denot). CallsBy key (take_put entry v) (Ok v) (state_at (g.S.Side.state c.args.side.now) (use_logs u)) (state_at (g.S.Side.state c.saw.new.self) (logs (views_of c.put.new.seat.seats.items)))) c.self.view_is
     (puts_so key entry c.requires.key (arc_value c.self.inside.cache) c.self.inside.seat.seats.items c.put.new.seat.seats.items c.self.invariant (g.J.Judge.just (arc_value c.self.inside.cache).judge) v kept (put_marks key (arc_value c.in_ok-shared.shared) c.put.result) marks adds told c.saw.ensures.counts.stays)
+
+pub returns-clause-keeps : goal.returns-clause-keeps
+returns-clause-keeps g c =
+    let key = c.args.key in
+    let cache = arc_value c.self.inside.cache in
+    let views = views_of c.self.inside.seat.seats.items in
+    let after = views_of c.put.new.seat.seats.items in
+    let marks = put_marks key (arc_value c.in_ok-shared.shared) c.put.result in
+    let adds = subst (λ (x : CacheData g.row.J.Denot). AddsAt x.capacities (g.J.Judge.just x.judge) (shard_of key) views after marks) c.deref.ensures c.put.ensures.adds in
+    subst (λ (u : UseData g.row.J.Denot). KeepsParts u (record { cache = cache; views = after })) c.self.view_is
+    (keeps_added cache (g.J.Judge.just cache.judge) (shard_of key) views after marks adds)

@@ -1,0 +1,15 @@
+pub mod Names
+pub mod Judging
+pub mod Uses
+pub mod Held
+pub mod Named
+pub mod Made
+pub mod Going
+pub mod Ledger
+pub mod Building
+pub mod ListLaws
+pub mod ApartLaws
+pub mod CountLaws
+pub mod LendingLaws
+pub mod RoomLaws
+pub mod LedgerLaws

@@ -27,7 +27,7 @@ use Rattle.forward_plugin.specs.declared.pool_use.PoolUse.{PoolUse}
 use Rattle.one_history.specs.Shared.{Logged, cache_calls_in, pool_calls_in}
 use Rattle.plugin_api.specs.{PlanData}
 use Rattle.chain_meaning.specs.Caching.{Look, cached, entry_for, entry_of, found, inners_in, kept_with, looked_at, put_or, take_look, take_looked, take_now, taken}
-use Rattle.chain_meaning.specs.Called.{CallNumbers, numbers_in, pool_in}
+use Rattle.chain_meaning.specs.CallsByRun.{CallNumbers, numbers_in, pool_in}
 use Rattle.chain_meaning.specs.Mean.{mean}
 use Rattle.chain_meaning.specs.Steps.{Step, cache_steps}
 use Rattle.zone_words.specs.{is_in}

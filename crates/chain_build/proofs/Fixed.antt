@@ -19,6 +19,14 @@ use Rattle.cache_rules.specs.declared.options.Seen.{Seen as CacheSeen}
 use Rattle.dns_data.specs.{addr_of, net_of}
 use Rattle.dns_data.specs.declared.directive.Directive.{Directive}
 use Rattle.dns_data.specs.declared.directive.Line.{Line}
+use Rattle.dns64_plugin.specs.Options.{seen_first}
+use Rattle.dns64_plugin.specs.Prefixes.{prefix_in}
+use Rattle.dns64_plugin.specs.Reading as dns64
+use Rattle.dns64_plugin.specs.Reading.{dns64_fault}
+use Rattle.dns64_plugin.specs.Options as dns64_options
+use Rattle.dns64_plugin.specs.declared.options.Opens.{Opens as Dns64Opens}
+use Rattle.dns64_plugin.specs.declared.options.Opens.TheVariants as dns64_opens
+use Rattle.dns64_plugin.specs.declared.options.Seen.{Seen as Dns64Seen}
 use Rattle.file_plugin.specs.{FileData}
 use Rattle.file_plugin.specs.Reading as file
 use Rattle.file_plugin.specs.Reading.{file_fault}
@@ -224,6 +232,35 @@ cache_no d zones =
     (cache_lines_no cache.none_seen d.body)
 
 -- those without a body
+prefix_no : (words : List (List ℕ)) → NoWhy (dns64.prefix_why words)
+prefix_no [] = tt
+prefix_no (word ∷ words) = why_or (unless (is_some (prefix_in word)) why.Net) (empty_why words) (why_if (is_some (prefix_in word)) None (Some why.Net) tt tt) (empty_no words)
+
+dns64_words_no : (words : List (List ℕ)) → NoWhy (dns64.words_why words)
+dns64_words_no [] = tt
+dns64_words_no (word ∷ words) = prefix_no (word ∷ words)
+
+dns64_opened_no : (seen : Dns64Seen) (o : Dns64Opens) (words : List (List ℕ)) → NoWhy (dns64.why_by seen o words)
+dns64_opened_no seen dns64_opens.Prefix words = why_if seen.prefix (Some why.Args) (dns64.prefix_why words) tt (prefix_no words)
+dns64_opened_no seen dns64_opens.AllowIpv4 words = why_if seen.allow_ipv4 (Some why.Args) (empty_why words) tt (empty_no words)
+dns64_opened_no seen dns64_opens.Ptr words = why_if seen.ptr (Some why.Args) (empty_why words) tt (empty_no words)
+dns64_opened_no seen dns64_opens.Nothing words = tt
+
+dns64_line_no : (seen : Dns64Seen) (words : List (List ℕ)) → NoWhy (dns64.line_why seen words)
+dns64_line_no seen [] = tt
+dns64_line_no seen (word ∷ words) = dns64_opened_no seen (dns64_options.opened word) words
+
+dns64_lines_no : (seen : Dns64Seen) (lines : List Line) → NoFault (dns64.lines_fault seen lines)
+dns64_lines_no seen [] = tt
+dns64_lines_no seen (line ∷ lines) =
+    fault_or (fault_at line.number (dns64.line_why seen line.words)) (dns64.lines_fault (dns64_options.seen_behind seen line.words) lines) (at line.number (dns64.line_why seen line.words) (dns64_line_no seen line.words))
+    (dns64_lines_no (dns64_options.seen_behind seen line.words) lines)
+
+dns64_no : (d : Directive) → NoFault (dns64_fault d)
+unfolding dns64_fault
+dns64_no d =
+    fault_or (fault_at d.line (dns64.words_why d.args)) (dns64.lines_fault (seen_first d.args) d.body) (at d.line (dns64.words_why d.args) (dns64_words_no d.args)) (dns64_lines_no (seen_first d.args) d.body)
+
 duration_no : (word : List ℕ) → NoWhy (duration_why word)
 duration_no word = why_if (is_some (duration_of word)) None (Some why.Number) tt tt
 
@@ -421,7 +458,7 @@ fixed_no : (r : Rank) (b : Behind) (d : Directive) → NoRefusal (fixed_refusal 
 fixed_no rank.Acl b d = refused_no (acl_fault d b.context.zones) (acl_no d b.context.zones)
 fixed_no rank.Hosts b d = refused_no (hosts_fault d b.context.zones) (hosts_no d b.context.zones)
 fixed_no rank.File b d = refused_file_no _ (file_no _ d b.context.zones (file_in b.context.files d))
-fixed_no rank.Dns64 b d = refl
+fixed_no rank.Dns64 b d = refused_no (dns64_fault d) (dns64_no d)
 fixed_no rank.Extra b d = refl
 fixed_no rank.Cache b d = refused_no (cache_fault d b.context.zones) (cache_no d b.context.zones)
 fixed_no rank.Forward b d = refused_no (forward_fault d b.context.files) (forward_no d b.context.files)

@@ -13,3 +13,4 @@ pub mod Logging
 pub mod PlacesOfParts
 pub mod LoggedWalks
 pub mod CachedWalks
+pub mod LoggedCalls

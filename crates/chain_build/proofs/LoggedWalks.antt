@@ -35,18 +35,17 @@ use Rattle.std.proofs.lemmas.Slice.Eq.{slice_eq-Decides}
 use Rattle.zone_words.specs.{is_in}
 use Rattle.chain_meaning.specs.declared.decision.Decision.TheVariants as decision
 use Rattle.chain_build.specs.declared.ended.Ended.TheVariants as end
-use Rattle.plugin_api.specs.{Sayings}
 use Rattle.rewrite_plugin.specs.{changed_by}
 use Rattle.rewrite_plugin.specs.declared.plan_data.Changed.{Changed}
-use Rattle.chain_meaning.specs.Called.{CallNumbers, numbers_in, pool_in}
+use Rattle.chain_meaning.specs.CallsByRun.{CallNumbers, Pools, Shards, Shared, number_in, numbers_in, pool_in, shard_in}
 use Rattle.cache_plugin.specs.{UseData}
 use Rattle.chain_build.specs.declared.block_uses.BlockUses.{BlockUses}
 use Rattle.chain_build.specs.declared.judge.CacheJudge.{CacheJudge}
 use Rattle.chain_meaning.specs.declared.decision.Decision.{Decision}
 use Rattle.chain_meaning.specs.Mean.{answer_of, error_noted, forward_answer, forward_answered, mean, or_rest, outcome_of, query_noted, reply_restored, take_note}
 use Rattle.chain_meaning.specs.MeanLaws.{answer_nothing, mean_nothing, or_rest_nothing}
-use Rattle.chain_meaning.specs.Steps.{Answerer, Forward, Step, Others, extra_steps}
-use Rattle.chain_build.specs.Compiled.{back_of, back_steps, front_of}
+use Rattle.chain_meaning.specs.Steps.{Answerer, Forward, Step, Others}
+use Rattle.chain_build.specs.Compiled.{back_of, back_steps, middle_of}
 use Rattle.chain_build.specs.LoggedWalks.{AsksBy, AskState, TakesBy, TakesQuietly, TakeState, UsesLogged, asking, taking}
 use Rattle.chain_build.specs.Logs.{pool_logs, shard_logs}
 use Rattle.chain_build.specs.Pools.{HasLoneForward, HasNoForward}
@@ -54,8 +53,7 @@ use Rattle.chain_build.specs.Walking.{Answered, Restored, answered, decided, dec
 use Rattle.chain_build.specs.declared.block_chain.BackAnswerer.{BackAnswerer}
 use Rattle.chain_build.specs.declared.block_chain.BackAnswerer.TheVariants as behind
 use Rattle.chain_build.specs.declared.block_chain.FrontAnswerer.TheVariants as before
-use Rattle.chain_build.specs.declared.block_chain.FrontStep.{FrontStep}
-use Rattle.chain_build.specs.declared.block_chain.FrontStep.TheVariants as front
+use Rattle.chain_build.specs.declared.block_chain.FrontAnswerer.{FrontAnswerer}
 use Rattle.chain_build.specs.declared.ended.Ended.{Ended}
 use Rattle.chain_build.proofs.Logging.{calls_then, inners_apart, inners_then, logged_any, logged_as, logged_by, logged_forward, logged_nothing, logged_quiet, logged_then, shards_then}
 use Rattle.chain_build.proofs.Walks.{decided-err, others}
@@ -182,20 +180,19 @@ pub behind_rules_pool : (ds : List Directive) (back : List BackAnswerer) (q : Qu
 behind_rules_pool [] back q h = absurd (omega (arith, h))
 behind_rules_pool (d ∷ ds) back q h = refl
 
--- whatever stands in front of them, and extras, take none
-front_numbers : (front : List FrontStep) (behind : List Step) (q : Query) → numbers_in (map front_of front ++ behind) q ≡ numbers_in behind q
-front_numbers [] behind q = refl
-front_numbers (front.Errors ∷ steps) behind q = front_numbers steps behind q
-front_numbers (front.Log plan ∷ steps) behind q = front_numbers steps behind q
-front_numbers (front.Answers (before.Acl plans) ∷ steps) behind q = front_numbers steps behind q
-front_numbers (front.Answers before.Any ∷ steps) behind q = front_numbers steps behind q
+-- what stands in front of the extras takes none
+middle_shard : (middle : List FrontAnswerer) (behind : List Step) (q : Query) → shard_in (map middle_of middle ++ behind) q ≡ shard_in behind q
+middle_shard [] behind q = refl
+middle_shard (plugin ∷ steps) behind q = middle_shard steps behind q
 
-extras_numbers : (said : Sayings) (ds : List Directive) (behind : List Step) (q : Query) → numbers_in (extra_steps said ds ++ behind) q ≡ numbers_in behind q
-extras_numbers said [] behind q = refl
-extras_numbers said (d ∷ ds) behind q = extras_numbers said ds behind q
+middle_pool : (middle : List FrontAnswerer) (behind : List Step) (q : Query) → pool_in (map middle_of middle ++ behind) q ≡ pool_in behind q
+middle_pool [] behind q = refl
+middle_pool (before.Acl plans ∷ steps) behind q = middle_pool steps behind q
+middle_pool (before.Any ∷ steps) behind q = middle_pool steps behind q
 
-pub whole_numbers : (said : Sayings) (front : List FrontStep) (extras : List Directive) (inner : List Step) (q : Query) → numbers_in inner q ≡ numbers_in (map front_of front ++ (extra_steps said extras ++ inner)) q
-whole_numbers said front extras inner q = sym (front_numbers front (extra_steps said extras ++ inner) q ∙ extras_numbers said extras inner q)
+pub middle_number : (which : Shared) (middle : List FrontAnswerer) (behind : List Step) (q : Query) → number_in which (map middle_of middle ++ behind) q ≡ number_in which behind q
+middle_number Shards middle behind q = middle_shard middle behind q
+middle_number Pools middle behind q = middle_pool middle behind q
 
 -- a plugin that takes no marks
 answered_so : (number : Option ℕ) (plugin : Answerer) (q : Query) (old new : AnswerData) (r : Result (Option Ended) NoMemory) {s : SideState} {k : Kept} {uses : List PoolUse}

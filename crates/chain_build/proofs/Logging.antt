@@ -17,14 +17,19 @@ use Rattle.one_history.specs.Shared.{Logged, cache_calls_in, called, is_of_cache
 use Rattle.pin_table.specs.{Grows}
 use Rattle.cache_plugin.specs.{UseData}
 use Rattle.cache_plugin.specs.Uses.{IsUncalled as uncalled}
-use Rattle.chain_meaning.specs.Called.{CallNumbers}
+use Rattle.chain_meaning.specs.CallsByRun.{CallNumbers, NumberedMark, Pools, Shards, Shared, numbered_mark, of_number, told_in}
 use Rattle.chain_build.specs.LoggedWalks.{UsesLogged}
 use Rattle.chain_build.specs.Shares.{AreUncalled, IfCached}
 use Rattle.cache_shards.specs.Seats.{own_marks}
 use Rattle.chain_build.specs.Uses.{CacheShape, SameCaches, SameUses, UseShape, cache_shape}
 use Rattle.chain_build.specs.declared.block_uses.BlockUses.{BlockUses}
 use Rattle.chain_build.specs.declared.judge.CacheJudge.{CacheJudge}
-use Rattle.chain_build.specs.Logs.{block_log, held_log, pool_logs, pool_mark, pool_marks, shard_logs, use_log}
+use Rattle.chain_build.specs.Logs.{LoggedCalls, at_number, block_log, held_log, logs_of, pool_logs, pool_mark, pool_marks, shard_logs, use_log}
+
+-- the number of a shard, or of a pool
+abbrev pub by_kind : CallNumbers → Shared → Option ℕ
+by_kind numbers Shards = numbers.shard
+by_kind numbers Pools = numbers.pool
 
 -- no call, one after another, and none behind or before
 same_if : (b : Bool) (x : List Mark) → (if b then x else x) ≡ x
@@ -130,9 +135,9 @@ differ x y apart same = let found : (x == y) ≡ true = eq-eqb x y same in absur
 
 -- a query that took the pool with this number called it as its marks tell
 module _ (old new : List PoolUse) (inners : List InnerMark) where
-  at_number : (k : ℕ) → SameBut (Some k) old new → calls_by (Some k) new ≡ calls_by (Some k) old ++ pool_calls inners → (pool : ℕ)
+  at_forward : (k : ℕ) → SameBut (Some k) old new → calls_by (Some k) new ≡ calls_by (Some k) old ++ pool_calls inners → (pool : ℕ)
       → log_at (pool_logs new) pool ≡ log_at (pool_logs old) pool ++ called (Some k) pool (pool_calls_in (map Inner inners))
-  at_number k but grew pool = by_test (k == pool) refl
+  at_forward k but grew pool = by_test (k == pool) refl
     where
       by_test : (t : Bool) → (k == pool) ≡ t → log_at (pool_logs new) pool ≡ log_at (pool_logs old) pool ++ (if t then pool_calls_in (map Inner inners) else [])
       by_test true is =
@@ -148,7 +153,7 @@ module _ (old new : List PoolUse) (inners : List InnerMark) where
     each = λ pool. ap (λ (us : List PoolUse). log_at (pool_logs us) pool) same ∙ sym (append-nil (log_at (pool_logs old) pool));
     none = λ is. sym (marks_told inners) ∙ ap pool_marks (sym grew);
   }
-  logged_forward (Some k) but grew = record { each = at_number k but grew; none = λ is. absurd cc }
+  logged_forward (Some k) but grew = record { each = at_forward k but grew; none = λ is. absurd cc }
 
 -- a log that grew so begins as it was
 pub grows_same : (log : List (List Mark)) → Grows log log
@@ -183,11 +188,54 @@ same_shards (Some u) (Some v) same =
     length-map v.views own_marks ∙ ap (λ (s : CacheShape). s.shards) shape ∙ sym (length-map u.views own_marks)
 
 -- the log of a block grows part by part
-pub block_grows : (old new : BlockUses) (numbers : CallNumbers) (marks : List Mark) → SameUses old new → UsesLogged numbers marks old new → Grows (block_log old) (block_log new)
-block_grows old new numbers marks same logged =
+pub block_grows : (old new : BlockUses) (calls : Shared → List NumberedMark) → SameUses old new → ((which : Shared) → LoggedCalls (calls which) (logs_of which old) (logs_of which new)) → Grows (block_log old) (block_log new)
+block_grows old new calls same logged =
     grows_both (shard_logs old.cache) (shard_logs new.cache) (pool_logs old.pools) (pool_logs new.pools)
-    (grows_each (λ i. called numbers.shard i (cache_calls_in marks)) (shard_logs old.cache) (shard_logs new.cache) (same_shards old.cache new.cache (ap (λ (s : UseShape). s.cache) same)) logged.shards.each)
-    (grows_each (λ i. called numbers.pool i (pool_calls_in marks)) (pool_logs old.pools) (pool_logs new.pools) (length-map new.pools use_log ∙ ap (λ (s : UseShape). s.pools) same ∙ sym (length-map old.pools use_log)) logged.pools.each)
+    (grows_each (λ i. at_number i (calls Shards)) (shard_logs old.cache) (shard_logs new.cache) (same_shards old.cache new.cache (ap (λ (s : UseShape). s.cache) same)) (logged Shards).each)
+    (grows_each (λ i. at_number i (calls Pools)) (pool_logs old.pools) (pool_logs new.pools) (length-map new.pools use_log ∙ ap (λ (s : UseShape). s.pools) same ∙ sym (length-map old.pools use_log)) (logged Pools).each)
+
+-- numbered calls, none and one after another
+at_both : (part : ℕ) (a b : List NumberedMark) → at_number part (a ++ b) ≡ at_number part a ++ at_number part b
+at_both part [] b = refl
+at_both part (c ∷ a) b = by_test (c.number == part) (at_both part a b)
+  where
+    by_test : (t : Bool) → at_number part (a ++ b) ≡ at_number part a ++ at_number part b
+        → (if t then c.mark ∷ at_number part (a ++ b) else at_number part (a ++ b)) ≡ (if t then c.mark ∷ at_number part a else at_number part a) ++ at_number part b
+    by_test true rest = ap (λ (ms : List Mark). c.mark ∷ ms) rest
+    by_test false rest = rest
+
+pub called_none : (logs : List (List Mark)) → LoggedCalls [] logs logs
+called_none logs = record { each = λ part. sym (append-nil (log_at logs part)) }
+
+pub called_then : {a b : List NumberedMark} {x y z : List (List Mark)} → LoggedCalls a x y → LoggedCalls b y z → LoggedCalls (a ++ b) x z
+called_then {a} {b} {x} {y} {z} p q = record {
+  each = λ part. q.each part ∙ ap (λ front. front ++ at_number part b) (p.each part) ∙ append_assoc (log_at x part) (at_number part a) (at_number part b)
+      ∙ ap (λ more. log_at x part ++ more) (sym (at_both part a b));
+}
+
+pub called_as : {a b : List NumberedMark} {x y : List (List Mark)} → a ≡ b → LoggedCalls a x y → LoggedCalls b x y
+called_as {x = x} {y = y} same p = subst (λ (m : List NumberedMark). LoggedCalls m x y) same p
+
+-- those of one number
+at_one : (k part : ℕ) (cs : List Mark) → at_number part (map (numbered_mark k) cs) ≡ called (Some k) part cs
+at_one k part cs = by_test (k == part) cs refl
+  where
+    by_test : (t : Bool) (ms : List Mark) → (k == part) ≡ t → at_number part (map (numbered_mark k) ms) ≡ (if t then ms else [])
+    by_test t [] is = sym (same_if t [])
+    by_test true (m ∷ ms) is =
+        ap (λ (t : Bool). if t then m ∷ at_number part (map (numbered_mark k) ms) else at_number part (map (numbered_mark k) ms)) is ∙ ap (λ (more : List Mark). m ∷ more) (by_test true ms is)
+    by_test false (m ∷ ms) is =
+        ap (λ (t : Bool). if t then m ∷ at_number part (map (numbered_mark k) ms) else at_number part (map (numbered_mark k) ms)) is ∙ by_test false ms is
+
+pub called_once : (number : Option ℕ) (calls : List Mark) {x y : List (List Mark)} → Logged number calls x y → LoggedCalls (of_number number calls) x y
+called_once None calls p = record { each = p.each }
+called_once (Some k) calls {x} {y} p = record { each = λ part. p.each part ∙ ap (λ more. log_at x part ++ more) (sym (at_one k part calls)) }
+
+-- those of one run
+pub called_by : (numbers : CallNumbers) (which : Shared) (number : Option ℕ) (marks : List Mark) {old new : BlockUses} → number ≡ by_kind numbers which → UsesLogged numbers marks old new
+    → LoggedCalls (of_number number (told_in which marks)) (logs_of which old) (logs_of which new)
+called_by numbers Shards number marks is p = called_as (ap (λ (n : Option ℕ). of_number n (cache_calls_in marks)) (sym is)) (called_once numbers.shard (cache_calls_in marks) p.shards)
+called_by numbers Pools number marks is p = called_as (ap (λ (n : Option ℕ). of_number n (pool_calls_in marks)) (sym is)) (called_once numbers.pool (pool_calls_in marks) p.pools)
 
 -- the log of a chain that called nothing is empty
 uses_empty : (uses : List PoolUse) (rest : List (List Mark)) → All IsUncalled uses → All (λ (part : List Mark). part ≡ []) rest → All (λ (part : List Mark). part ≡ []) (pool_logs uses ++ rest)

@@ -7,11 +7,10 @@ use Rattle.cache_plugin.specs.{UseData}
 use Rattle.one_history.specs.Calls.{Call, marks_at}
 use Rattle.one_history.specs.Logs.{GrowsBy, Place, is_place, part_at}
 use Rattle.one_history.specs.Runs.{SHARDS}
-use Rattle.one_history.specs.Shared.{Logged, cache_calls_in, call_at, called, log_at, placed, placed_calls, pool_calls_in}
+use Rattle.one_history.specs.Shared.{log_at}
 use Rattle.plugin_api.specs.{PlanData}
-use Rattle.chain_meaning.specs.Called.{CallNumbers, places_of, pool_part, shard_part}
-use Rattle.chain_build.specs.LoggedWalks.{UsesLogged}
-use Rattle.chain_build.specs.Logs.{block_log, block_places, held_log, numbered, places_from, pool_logs, shard_logs, shards_in, use_log}
+use Rattle.chain_meaning.specs.CallsByRun.{NumberedMark, Pools, Shards, Shared, block_calls, call_of, pool_part, shard_part}
+use Rattle.chain_build.specs.Logs.{LoggedCalls, at_number, block_log, block_places, held_log, numbered, places_from, logs_of, pool_logs, shard_logs, shards_in, use_log}
 use Rattle.chain_build.specs.Uses.{AreUsed, CacheShape, IsCached, IsUsed, UseShape, cache_shape, chain_pools, chain_shape, made_shape, use_shape}
 use Rattle.chain_build.specs.declared.block.BlockChain.{BlockChain}
 use Rattle.chain_build.specs.declared.block_uses.BlockUses.{BlockUses}
@@ -224,22 +223,6 @@ module _ (f : ℕ → ℕ → List Mark) (uses old : BlockUses) where
           ∙ rest
           ∙ ap (λ (l : List Mark). l ++ f block part) (sym (past_block b chain first (used_head chain first chains blocks used) (places_from (b + 1) chains) (held_log blocks) block part apart_it))
 
--- the marks of calls at a place
-module _ (serial : ℕ) (p : Place) where
-  marks_here : (block part : ℕ) (cs : List Mark) → is_place block part p ≡ true → marks_at serial block part (map (call_at serial p) cs) ≡ cs
-  marks_here block part [] is = refl
-  marks_here block part (m ∷ cs) is =
-      ap (λ (t : Bool). if t then m ∷ marks_at serial block part (map (call_at serial p) cs) else marks_at serial block part (map (call_at serial p) cs))
-      (both_true (serial == serial) (is_place block part p) (itself serial) is)
-      ∙ ap (λ (ms : List Mark). m ∷ ms) (marks_here block part cs is)
-
-  marks_there : (block part : ℕ) (cs : List Mark) → is_place block part p ≡ false → marks_at serial block part (map (call_at serial p) cs) ≡ []
-  marks_there block part [] is = refl
-  marks_there block part (m ∷ cs) is =
-      ap (λ (t : Bool). if t then m ∷ marks_at serial block part (map (call_at serial p) cs) else marks_at serial block part (map (call_at serial p) cs))
-      (right_false (serial == serial) (is_place block part p) is)
-      ∙ marks_there block part cs is
-
 marks_both : (serial block part : ℕ) (xs ys : List (Call Mark)) → marks_at serial block part (xs ++ ys) ≡ marks_at serial block part xs ++ marks_at serial block part ys
 marks_both serial block part [] ys = refl
 marks_both serial block part (x ∷ xs) ys = by_test (x.serial == serial && (x.block == block && x.part == part)) (marks_both serial block part xs ys)
@@ -250,27 +233,40 @@ marks_both serial block part (x ∷ xs) ys = by_test (x.serial == serial && (x.b
     by_test true rest = ap (λ (ms : List Mark). x.mark ∷ ms) rest
     by_test false rest = rest
 
--- calls at one of the parts of a block: those of another block, and those of each part
+-- calls of parts of a block: those of another block, and those of each part
 module _ (serial n : ℕ) (at : ℕ → Place) (in_it : (k : ℕ) → (at k).block ≡ n) where
-  other_block : (number : Option ℕ) (block part : ℕ) (cs : List Mark) → block ≢ n → marks_at serial block part (placed serial (option_map at number) cs) ≡ []
-  other_block None block part cs other = refl
-  other_block (Some k) block part cs other =
-      marks_there serial (at k) block part cs (left_false ((at k).block == block) ((at k).part == part) (apart (at k).block block (λ e. other (sym e ∙ in_it k))))
+  abbrev marks_of : ℕ → ℕ → List NumberedMark → List Mark
+  marks_of block part cs = marks_at serial block part (map (call_of serial at) cs)
 
-  other_part : (number : Option ℕ) (block part : ℕ) (cs : List Mark) → ((k : ℕ) → (at k).part ≢ part) → marks_at serial block part (placed serial (option_map at number) cs) ≡ []
-  other_part None block part cs other = refl
-  other_part (Some k) block part cs other = marks_there serial (at k) block part cs (right_false ((at k).block == block) ((at k).part == part) (apart (at k).part part (other k)))
+  marks_here : (block part : ℕ) (c : NumberedMark) (cs : List NumberedMark) → is_place block part (at c.number) ≡ true → marks_of block part (c ∷ cs) ≡ c.mark ∷ marks_of block part cs
+  marks_here block part c cs is =
+      ap (λ (t : Bool). if t then c.mark ∷ marks_of block part cs else marks_of block part cs) (both_true (serial == serial) (is_place block part (at c.number)) (itself serial) is)
 
-  own_part : (number : Option ℕ) (j part : ℕ) (cs : List Mark) → (at j).part ≡ part → ((k : ℕ) → (at k).part ≡ part → k ≡ j) → marks_at serial n part (placed serial (option_map at number) cs) ≡ called number j cs
-  own_part None j part cs here one = refl
-  own_part (Some k) j part cs here one = by_test (k == j) refl
+  marks_there : (block part : ℕ) (c : NumberedMark) (cs : List NumberedMark) → is_place block part (at c.number) ≡ false → marks_of block part (c ∷ cs) ≡ marks_of block part cs
+  marks_there block part c cs is =
+      ap (λ (t : Bool). if t then c.mark ∷ marks_of block part cs else marks_of block part cs) (right_false (serial == serial) (is_place block part (at c.number)) is)
+
+  other_block : (block part : ℕ) (cs : List NumberedMark) → block ≢ n → marks_of block part cs ≡ []
+  other_block block part [] other = refl
+  other_block block part (c ∷ cs) other =
+      marks_there block part c cs (left_false ((at c.number).block == block) ((at c.number).part == part) (apart (at c.number).block block (λ e. other (sym e ∙ in_it c.number)))) ∙ other_block block part cs other
+
+  other_part : (block part : ℕ) (cs : List NumberedMark) → ((k : ℕ) → (at k).part ≢ part) → marks_of block part cs ≡ []
+  other_part block part [] other = refl
+  other_part block part (c ∷ cs) other =
+      marks_there block part c cs (right_false ((at c.number).block == block) ((at c.number).part == part) (apart (at c.number).part part (other c.number))) ∙ other_part block part cs other
+
+  own_part : (j part : ℕ) (cs : List NumberedMark) → (at j).part ≡ part → ((k : ℕ) → (at k).part ≡ part → k ≡ j) → marks_of n part cs ≡ at_number j cs
+  own_part j part [] here one = refl
+  own_part j part (c ∷ cs) here one = by_test (c.number == j) (own_part j part cs here one) refl
     where
-      by_test : (t : Bool) → (k == j) ≡ t → marks_at serial n part (map (call_at serial (at k)) cs) ≡ (if t then cs else [])
-      by_test true is =
-          let it : k ≡ j = eqb-true k j is in
-          marks_here serial (at k) n part cs (both_true ((at k).block == n) ((at k).part == part) (same (at k).block n (in_it k)) (same (at k).part part (ap (λ (m : ℕ). (at m).part) it ∙ here)))
-      by_test false is =
-          marks_there serial (at k) n part cs (right_false ((at k).block == n) ((at k).part == part) (apart (at k).part part (λ e. differ k j is (one k e))))
+      by_test : (t : Bool) → marks_of n part cs ≡ at_number j cs → (c.number == j) ≡ t → marks_of n part (c ∷ cs) ≡ (if t then c.mark ∷ at_number j cs else at_number j cs)
+      by_test true rest is =
+          let it : c.number ≡ j = eqb-true c.number j is in
+          marks_here n part c cs (both_true ((at c.number).block == n) ((at c.number).part == part) (same (at c.number).block n (in_it c.number)) (same (at c.number).part part (ap (λ (m : ℕ). (at m).part) it ∙ here)))
+          ∙ ap (λ (ms : List Mark). c.mark ∷ ms) rest
+      by_test false rest is =
+          marks_there n part c cs (right_false ((at c.number).block == n) ((at c.number).part == part) (apart (at c.number).part part (λ e. differ c.number j is (one c.number e)))) ∙ rest
 
 -- nothing stands behind the last part
 log_behind : (logs : List (List Mark)) (k : ℕ) → length logs ≤ k → log_at logs k ≡ []
@@ -278,46 +274,52 @@ log_behind [] k long = refl
 log_behind (l ∷ logs) zero long = absurd (omega (arith, long))
 log_behind (l ∷ logs) (suc k) long = log_behind logs k (omega (arith, long))
 
-called_behind : (number : Option ℕ) (calls : List Mark) (old new : List (List Mark)) → Logged number calls old new → (k : ℕ) → length old ≤ k → length new ≤ k → called number k calls ≡ []
-called_behind number calls old new logged k long after = ap (λ (l : List Mark). l ++ called number k calls) (sym (log_behind old k long)) ∙ sym (logged.each k) ∙ log_behind new k after
+calls_behind : (calls : List NumberedMark) (old new : List (List Mark)) → LoggedCalls calls old new → (k : ℕ) → length old ≤ k → length new ≤ k → at_number k calls ≡ []
+calls_behind calls old new logged k long after = ap (λ (l : List Mark). l ++ at_number k calls) (sym (log_behind old k long)) ∙ sym (logged.each k) ∙ log_behind new k after
 
-module _ (serial n : ℕ) (numbers : CallNumbers) (marks : List Mark) (chain : BlockChain) (uses old : BlockUses) (used : IsUsed chain old) (after : IsUsed chain uses) (logged : UsesLogged numbers marks old uses) where
+module _ (serial n : ℕ) (calls : Shared → List NumberedMark) (chain : BlockChain) (uses old : BlockUses) (used : IsUsed chain old) (after : IsUsed chain uses)
+    (logged : (which : Shared) → LoggedCalls (calls which) (logs_of which old) (logs_of which uses)) where
+  abbrev shard_marks : ℕ → ℕ → List Mark
+  shard_marks block part = marks_of serial n (shard_part n) (λ k. refl) block part (calls Shards)
+
+  abbrev pool_marks : ℕ → ℕ → List Mark
+  pool_marks block part = marks_of serial n (pool_part n) (λ k. refl) block part (calls Pools)
+
   abbrev own_calls : ℕ → ℕ → List Mark
-  own_calls block part = marks_at serial block part (placed_calls serial (places_of n numbers) marks)
+  own_calls block part = marks_at serial block part (block_calls serial n (calls Shards) (calls Pools))
 
-  split_calls : (block part : ℕ) → own_calls block part
-      ≡ marks_at serial block part (placed serial (option_map (shard_part n) numbers.shard) (cache_calls_in marks)) ++ marks_at serial block part (placed serial (option_map (pool_part n) numbers.pool) (pool_calls_in marks))
-  split_calls block part = marks_both serial block part (placed serial (option_map (shard_part n) numbers.shard) (cache_calls_in marks)) (placed serial (option_map (pool_part n) numbers.pool) (pool_calls_in marks))
+  split_calls : (block part : ℕ) → own_calls block part ≡ shard_marks block part ++ pool_marks block part
+  split_calls block part = marks_both serial block part (map (call_of serial (shard_part n)) (calls Shards)) (map (call_of serial (pool_part n)) (calls Pools))
 
   calls_other : (block part : ℕ) → block ≢ 0 + n → own_calls block part ≡ []
   calls_other block part other =
       let apart_it : block ≢ n = λ e. other (omega (arith, e)) in
       split_calls block part
-      ∙ (λ i. other_block serial n (shard_part n) (λ k. refl) numbers.shard block part (cache_calls_in marks) apart_it i ++ other_block serial n (pool_part n) (λ k. refl) numbers.pool block part (pool_calls_in marks) apart_it i)
+      ∙ (λ i. other_block serial n (shard_part n) (λ k. refl) block part (calls Shards) apart_it i ++ other_block serial n (pool_part n) (λ k. refl) block part (calls Pools) apart_it i)
 
   grown_part : (part : ℕ) (kind : Kind part) → part_log uses part kind ≡ part_log old part kind ++ own_calls n part
   grown_part part (inl low) =
-      logged.shards.each part
+      (logged Shards).each part
       ∙ ap (λ (ms : List Mark). log_at (shard_logs old.cache) part ++ ms)
       (sym (split_calls n part
-      ∙ (λ i. own_part serial n (shard_part n) (λ k. refl) numbers.shard part part (cache_calls_in marks) refl (λ k e. e) i
-      ++ other_part serial n (pool_part n) (λ k. refl) numbers.pool n part (pool_calls_in marks) (λ k e. absurd (omega (arith, e, low))) i)
-      ∙ append-nil (called numbers.shard part (cache_calls_in marks))))
+      ∙ (λ i. own_part serial n (shard_part n) (λ k. refl) part part (calls Shards) refl (λ k e. e) i
+      ++ other_part serial n (pool_part n) (λ k. refl) n part (calls Pools) (λ k e. absurd (omega (arith, e, low))) i)
+      ∙ append-nil (at_number part (calls Shards))))
   grown_part part (inr found) =
       let is = found.1 in
       let before = shards_long chain old.cache (ap (λ (s : UseShape). s.cache) used) in
       let behind = shards_long chain uses.cache (ap (λ (s : UseShape). s.cache) after) in
       let few = few_shards chain.cache in
-      logged.pools.each found.0
+      (logged Pools).each found.0
       ∙ ap (λ (ms : List Mark). log_at (pool_logs old.pools) found.0 ++ ms)
       (sym (split_calls n part
-      ∙ (λ i. (own_part serial n (shard_part n) (λ k. refl) numbers.shard part part (cache_calls_in marks) refl (λ k e. e)
-      ∙ called_behind numbers.shard (cache_calls_in marks) (shard_logs old.cache) (shard_logs uses.cache) logged.shards part (omega (arith, is, before, few)) (omega (arith, is, behind, few))) i
-      ++ own_part serial n (pool_part n) (λ k. refl) numbers.pool found.0 part (pool_calls_in marks) (sym is) (λ k e. omega (arith, e, is)) i)))
+      ∙ (λ i. (own_part serial n (shard_part n) (λ k. refl) part part (calls Shards) refl (λ k e. e)
+      ∙ calls_behind (calls Shards) (shard_logs old.cache) (shard_logs uses.cache) (logged Shards) part (omega (arith, is, before, few)) (omega (arith, is, behind, few))) i
+      ++ own_part serial n (pool_part n) (λ k. refl) found.0 part (calls Pools) (sym is) (λ k e. omega (arith, e, is)) i)))
 
   -- where the uses of a block were called, the chain's log has grown by just these calls
   pub chain_grows : (chains : List BlockChain) (blocks : List BlockUses) → AreUsed chains blocks → AreUsed chains (slice_set blocks n uses) → slice_get blocks n ≡ Some old
-      → GrowsBy (places_from 0 chains) serial (placed_calls serial (places_of n numbers) marks) (held_log blocks) (held_log (slice_set blocks n uses))
+      → GrowsBy (places_from 0 chains) serial (block_calls serial n (calls Shards) (calls Pools)) (held_log blocks) (held_log (slice_set blocks n uses))
   chain_grows chains blocks are then_are at block part =
       let here : n ≡ 0 + n = omega arith in
       grows_at own_calls uses old 0 n chains blocks are then_are at calls_other (λ part kind. subst (λ (m : ℕ). part_log uses part kind ≡ part_log old part kind ++ own_calls m part) here (grown_part part kind)) block part

@@ -1,5 +1,5 @@
 -- Which chain a query goes through, and what serving took.
-use Rattle.std.proofs.Common.{◌≡◌, ◌<◌, ◌≤◌, ◌⊎◌, inl, inr, ℕ, ◌+◌, List, [], ◌∷◌, ◌++◌, map, length, Option, Some, None, true, false, nat_eq, option_map, slice_get, Bor, Ok, refl, sym, ap, subst, ◌∙◌, arith}
+use Rattle.std.proofs.Common.{◌≡◌, ◌<◌, ◌≤◌, ◌⊎◌, inl, inr, ℕ, ◌+◌, List, [], ◌∷◌, ◌++◌, map, length, Option, Some, None, true, false, nat_eq, option_map, slice_get, Bor, Ok, refl, sym, ap, subst, ◌∙◌, append_assoc, arith}
 use Rattle.std.proofs.lemmas.List.{append-nil, length-map}
 use Rattle.std.proofs.Common.{length-append}
 use Rattle.std.proofs.lemmas.Option.{slice_get-map}
@@ -37,25 +37,26 @@ use Rattle.outside.specs.States.{SideState}
 use Rattle.outside.specs.Journals.{adds-nothing}
 use Rattle.outside.specs.TakingLaws.{stays-nothing, took-as}
 use Rattle.dns_lists.specs.declared.memory.NoMemory.{NoMemory}
-use Rattle.one_history.specs.Logs.{GrowsBy, part_at}
-use Rattle.one_history.specs.Shared.{CallPlaces, placed_calls}
+use Rattle.one_history.specs.Calls.{Call}
+use Rattle.one_history.specs.Logs.{part_at}
 use Rattle.std.specs.Prelude.{Result, Err}
 use Rattle.plugin_api.specs.{picked}
-use Rattle.chain_meaning.specs.Called.{call_places, places_at, places_by, places_in}
+use Rattle.chain_meaning.specs.CallsByRun.{Shared, calls_by, chain_calls, picked_calls, run_calls, runs_once, turn_calls}
+use Rattle.chain_meaning.specs.CallsByRunLaws.{calls-extras}
 use Rattle.chain_build.specs.LoggedWalks.{ServeState, TakesAt, serving}
-use Rattle.chain_build.specs.Logs.{LogShape, chain_places, shape_of}
+use Rattle.chain_build.specs.Logs.{LogShape, shape_of}
 use Rattle.pin_table.specs.{Grows}
 use Rattle.chain_build.specs.Workers.{server_in}
 use Rattle.chain_build.proofs.Logging.{grows_same}
-use Rattle.plugin_api.specs.{Sayings, Takings}
+use Rattle.plugin_api.specs.{PlanData, Sayings, Takings}
 use Rattle.chain_meaning.specs.MeanLaws.{extras_say, mean-extras}
-use Rattle.chain_meaning.specs.Steps.{Step, Others, extra_step, extra_steps, none_said, steps_of}
-use Rattle.chain_build.specs.Plans.{PlansData, extras_in, steps_in, terms_in}
-use Rattle.chain_build.specs.Compiled.{front_of}
+use Rattle.chain_meaning.specs.Steps.{Step, Others, dns64_steps, extra_step, extra_steps, none_said, steps_of}
+use Rattle.chain_build.specs.Plans.{PlansData, extras_in, heads_in, inner_of, others_of, rest_of, steps_in, terms_in}
+use Rattle.chain_build.specs.Compiled.{back_of, back_steps, front_of, inner_steps, middle_of, whole_by}
+use Rattle.chain_build.specs.declared.block_chain.BackAnswerer.{BackAnswerer}
 use Rattle.chain_build.specs.declared.block.BlockChain.{BlockChain}
 use Rattle.chain_build.specs.declared.ended.Ended.{Ended}
 use Rattle.chain_build.specs.declared.ended.Ended.TheVariants as end
-use Rattle.chain_build.specs.declared.block_chain.FrontStep.{FrontStep}
 use Rattle.chain_build.specs.Replying.{Finishes, LogsServing, Server, TellsServing, lent_of, whole_answer, whole_message}
 
 pub by_number : (said : Sayings) (files : List FileText) (chains : List BlockChain) (blocks : List Block) (n : ℕ) → map (steps_in said) chains ≡ map (steps_of said files) blocks
@@ -75,47 +76,79 @@ no_extras : (extras : List Directive) → length extras ≤ 0 → extras ≡ []
 no_extras [] h = refl
 no_extras (d ∷ ds) h = absurd (omega (arith, h))
 
-module _ (said : Sayings) (front : List FrontStep) (extras : List Directive) (inner : List Step) (q : Query) where
+module _ (said : Sayings) (head : List Step) (extras : List Directive) (inner : List Step) (q : Query) where
   abbrev whole : List Step
-  whole = map front_of front ++ (extra_steps said extras ++ inner)
+  whole = whole_by said head extras inner
 
-  whole_length : length whole ≡ length front + (length extras + length inner)
+  whole_length : length whole ≡ length head + (length extras + length inner)
   whole_length =
       omega (
         arith,
-        length-append (map front_of front) (extra_steps said extras ++ inner),
+        length-append head (extra_steps said extras ++ inner),
         length-append (extra_steps said extras) inner,
-        length-map front front_of,
         length-map extras (extra_step said),
       )
 
-  runs : (0 < length front) ⊎ ((0 < length extras) ⊎ (0 < length inner)) → (marks : List Mark) → chain_decides whole q marks ≡ mean whole q marks
+  runs : (0 < length head) ⊎ ((0 < length extras) ⊎ (0 < length inner)) → (marks : List Mark) → chain_decides whole q marks ≡ mean whole q marks
   runs (inl h) = some_steps whole q (omega (arith, h, whole_length))
   runs (inr (inl h)) = some_steps whole q (omega (arith, h, whole_length))
   runs (inr (inr h)) = some_steps whole q (omega (arith, h, whole_length))
 
   -- with all extras as one step
-  pub runs_extras : (0 < length front) ⊎ ((0 < length extras) ⊎ (0 < length inner)) → (marks : List Mark)
-      → chain_decides whole q marks ≡ mean (map front_of front ++ (Others (extras_say said extras) ∷ inner)) q marks
-  runs_extras some marks = runs some marks ∙ sym (mean-extras said extras (map front_of front) inner q marks)
+  pub runs_extras : (0 < length head) ⊎ ((0 < length extras) ⊎ (0 < length inner)) → (marks : List Mark) → chain_decides whole q marks ≡ mean (head ++ (Others (extras_say said extras) ∷ inner)) q marks
+  runs_extras some marks = runs some marks ∙ sym (mean-extras said extras head inner q marks)
 
-  -- with none
-  pub runs_own : length extras ≤ 0 → 0 < length front → (marks : List Mark) → chain_decides whole q marks ≡ mean (map front_of front ++ (Others none_said ∷ inner)) q marks
-  runs_own none some marks = runs_extras (inl some) marks ∙ ap (λ (es : List Directive). mean (map front_of front ++ (Others (extras_say said es) ∷ inner)) q marks) (no_extras extras none)
+-- with nothing in front its steps are those behind its extras
+pub bare : (said : Sayings) (head : List Step) (extras : List Directive) (inner : List Step) → head ≡ [] → length extras ≤ 0 → whole_by said head extras inner ≡ inner
+bare said head extras inner none without = λ i. none i ++ (extra_steps said (no_extras extras without i) ++ inner)
 
 -- with no step at all it refuses
-pub runs_none : (said : Sayings) (front : List FrontStep) (extras : List Directive) (inner : List Step) (q : Query) → length front ≤ 0 → length extras ≤ 0 → inner ≡ [] → (marks : List Mark)
-    → chain_decides (map front_of front ++ (extra_steps said extras ++ inner)) q marks ≡ Done refused marks
-runs_none said [] [] inner q f x none marks = ap (λ (steps : List Step). chain_decides steps q marks) none
-runs_none said (step ∷ steps) extras inner q f x none marks = absurd (omega (arith, f))
-runs_none said [] (d ∷ extras) inner q f x none marks = absurd (omega (arith, x))
+pub runs_none : (said : Sayings) (head : List Step) (extras : List Directive) (inner : List Step) (q : Query) → head ≡ [] → length extras ≤ 0 → inner ≡ [] → (marks : List Mark)
+    → chain_decides (whole_by said head extras inner) q marks ≡ Done refused marks
+runs_none said head extras inner q none without nothing marks = ap (λ (steps : List Step). chain_decides steps q marks) (bare said head extras inner none without ∙ nothing)
 
--- with nothing in front it means what stands behind its extras
-pub runs_inner : (said : Sayings) (front : List FrontStep) (extras : List Directive) (inner : List Step) (q : Query) → length front ≤ 0 → length extras ≤ 0 → 0 < length inner → (marks : List Mark)
-    → chain_decides (map front_of front ++ (extra_steps said extras ++ inner)) q marks ≡ mean inner q marks
-runs_inner said [] [] inner q none without some marks = some_steps inner q some marks
-runs_inner said (step ∷ steps) extras inner q none without some marks = absurd (omega (arith, none))
-runs_inner said [] (d ∷ extras) inner q none without some marks = absurd (omega (arith, without))
+-- and so it means what they mean
+pub runs_inner : (said : Sayings) (head : List Step) (extras : List Directive) (inner : List Step) (q : Query) → head ≡ [] → length extras ≤ 0 → 0 < length inner → (marks : List Mark)
+    → chain_decides (whole_by said head extras inner) q marks ≡ mean inner q marks
+runs_inner said head extras inner q none without some marks = ap (λ (steps : List Step). chain_decides steps q marks) (bare said head extras inner none without) ∙ some_steps inner q some marks
+
+-- what stands behind the extras is one run
+once_answers : (back : List BackAnswerer) → runs_once (map back_of back) ≡ true
+once_answers [] = refl
+once_answers (plugin ∷ back) = refl
+
+once_behind : (ds : List Directive) (back : List BackAnswerer) → runs_once (back_steps ds back) ≡ true
+once_behind [] back = once_answers back
+once_behind (d ∷ ds) back = refl
+
+once_steps : (cache : Option PlanData) (ds : List Directive) (back : List BackAnswerer) → runs_once (inner_steps cache ds back) ≡ true
+once_steps None ds back = once_behind ds back
+once_steps (Some plan) ds back = refl
+
+pub once_inner : (chain : BlockChain) → runs_once (inner_of chain) ≡ true
+once_inner chain = once_steps chain.cache chain.rewrites chain.back
+
+-- all extras as one step, step by step
+pub stages : (says : Query → Option Decision) (chain : BlockChain) → heads_in chain ++ others_of says chain ≡ map front_of chain.front ++ rest_of says chain
+stages says chain =
+    append_assoc (map front_of chain.front) (dns64_steps chain.dns64 ++ map middle_of chain.middle) (others_of says chain)
+    ∙ ap (λ (rest : List Step). map front_of chain.front ++ rest) (append_assoc (dns64_steps chain.dns64) (map middle_of chain.middle) (others_of says chain))
+
+-- and so its calls
+pub extras_calls : (said : Sayings) (chain : BlockChain) (q : Query) (which : Shared) (marks : List Mark)
+    → run_calls which (steps_in said chain) q marks ≡ run_calls which (map front_of chain.front ++ rest_of (extras_say said chain.extras) chain) q marks
+extras_calls said chain q which marks =
+    sym (calls-extras said chain.extras (inner_of chain) (once_inner chain) which (heads_in chain) q marks)
+    ∙ ap (λ (steps : List Step). run_calls which steps q marks) (stages (extras_say said chain.extras) chain)
+
+pub extras_mean : (said : Sayings) (chain : BlockChain) (q : Query) → (0 < length (heads_in chain)) ⊎ ((0 < length chain.extras) ⊎ (0 < length (inner_of chain))) → (marks : List Mark)
+    → chain_decides (steps_in said chain) q marks ≡ mean (map front_of chain.front ++ rest_of (extras_say said chain.extras) chain) q marks
+extras_mean said chain q some marks =
+    runs_extras said (heads_in chain) chain.extras (inner_of chain) q some marks ∙ ap (λ (steps : List Step). mean steps q marks) (stages (extras_say said chain.extras) chain)
+
+-- a chain without extras says nothing of them
+pub own_says : (said : Sayings) (chain : BlockChain) → length chain.extras ≤ 0 → extras_say said chain.extras ≡ none_said
+own_says said chain none = ap (extras_say said) (no_extras chain.extras none)
 
 -- the block of a chain that was found, and that there is none where none was
 pub block_some : (chains : Block → List Step) (o : Option Block) (steps : List Step) (q : Query) → Some steps ≡ option_map chains o → (marks : List Mark)
@@ -205,38 +238,34 @@ module _ (taken : Takings) (said : Sayings) (plans : PlansData) (serial : ℕ) (
   }
 
   -- by what a chain took, with its calls
-  pub told_by : (places : CallPlaces) (old new : ServeState) → call_places (steps_of said plans.bundle.files) plans.blocks q ≡ places → TakesAt (shape_of plans serial) places decides (Ok v) old new
-      → Finishes d (asked_by q.name beside) v result → TellsServing (server_in taken said plans serial) d result old new
-  told_by places old new placed_is takes sent = record {
+  pub told_by : (calls : List Mark → List (Call Mark)) (old new : ServeState) → ((marks : List Mark) → turn_calls (steps_of said plans.bundle.files) plans.blocks serial q marks ≡ calls marks)
+      → TakesAt (shape_of plans serial) calls decides (Ok v) old new → Finishes d (asked_by q.name beside) v result → TellsServing (server_in taken said plans serial) d result old new
+  told_by calls old new are takes sent = record {
     marks = takes.takes.marks;
     told = takes.takes.told;
     stays = takes.takes.stays;
     serves = serves_it takes.takes.marks takes.takes.took sent;
-    logs = logs_by places takes.takes.marks old.log new.log placed_is takes.grown takes.follows;
+    logs = record {
+      calls = calls takes.takes.marks;
+      are = inr (record {
+        blocks = plans.blocks;
+        accepted = accepted;
+        asked = asked_by name beside;
+        queries = queries;
+        are = sym (are takes.takes.marks) ∙ ap (λ (x : Query). turn_calls (steps_of said plans.bundle.files) plans.blocks serial x takes.takes.marks) is;
+      });
+      grown = takes.grown;
+      follows = takes.follows;
+    };
   }
-    where
-      logs_by : (places : CallPlaces) (marks : List Mark) (before after : List (List Mark)) → call_places (steps_of said plans.bundle.files) plans.blocks q ≡ places
-          → GrowsBy (chain_places plans) serial (placed_calls serial places marks) before after → Grows before after → LogsServing (server_in taken said plans serial) d marks before after
-      logs_by places marks before after at grown follows = record {
-        calls = placed_calls serial places marks;
-        are = inr (record {
-          blocks = plans.blocks;
-          accepted = accepted;
-          asked = asked_by name beside;
-          queries = queries;
-          are = ap (λ (p : CallPlaces). placed_calls serial p marks) (sym at ∙ ap (call_places (steps_of said plans.bundle.files) plans.blocks) is);
-        });
-        grown = grown;
-        follows = follows;
-      }
 
 -- what memory ended in the middle of
-pub told_starved : (taken : Takings) (said : Sayings) (plans : PlansData) (serial : ℕ) (d : Datagram) (name : List (List ℕ)) (beside : AskedBeside) (q : Query) (places : CallPlaces) (e : NoMemory) (old new : ServeState)
+pub told_starved : (taken : Takings) (said : Sayings) (plans : PlansData) (serial : ℕ) (d : Datagram) (name : List (List ℕ)) (beside : AskedBeside) (q : Query) (calls : List Mark → List (Call Mark)) (e : NoMemory) (old new : ServeState)
     → IsAccepted (terms_in taken said plans) plans.bundle plans.blocks → QueriesThis d.bytes (asked_by name beside) → q ≡ query_of d (asked_by name beside)
-    → call_places (steps_of said plans.bundle.files) plans.blocks q ≡ places
-    → TakesAt (shape_of plans serial) places (query_decides beside.opt beside.class (steps_of said plans.bundle.files) plans.blocks q) (Err e) old new
+    → ((marks : List Mark) → turn_calls (steps_of said plans.bundle.files) plans.blocks serial q marks ≡ calls marks)
+    → TakesAt (shape_of plans serial) calls (query_decides beside.opt beside.class (steps_of said plans.bundle.files) plans.blocks q) (Err e) old new
     → TellsServing (server_in taken said plans serial) d served.NoMemory old new
-told_starved taken said plans serial d name beside q places e old new accepted queries is at takes = record {
+told_starved taken said plans serial d name beside q calls e old new accepted queries is are takes = record {
   marks = takes.takes.marks;
   told = takes.takes.told;
   stays = takes.takes.stays;
@@ -248,13 +277,13 @@ told_starved taken said plans serial d name beside q places e old new accepted q
     starved = subst (λ x. Starved (query_decides beside.opt beside.class (steps_of said plans.bundle.files) plans.blocks x takes.takes.marks)) is takes.takes.took;
   });
   logs = record {
-    calls = placed_calls serial places takes.takes.marks;
+    calls = calls takes.takes.marks;
     are = inr (record {
       blocks = plans.blocks;
       accepted = accepted;
       asked = asked_by name beside;
       queries = queries;
-      are = ap (λ (p : CallPlaces). placed_calls serial p takes.takes.marks) (sym at ∙ ap (call_places (steps_of said plans.bundle.files) plans.blocks) is);
+      are = sym (are takes.takes.marks) ∙ ap (λ (x : Query). turn_calls (steps_of said plans.bundle.files) plans.blocks serial x takes.takes.marks) is;
     });
     grown = takes.grown;
     follows = takes.follows;
@@ -262,24 +291,25 @@ told_starved taken said plans serial d name beside q places e old new accepted q
 }
 
 -- a chain's meaning as that of the query that goes through it
-pub takes_at : {A : Type 0} {shape : LogShape} {places : CallPlaces} (means same : List Mark → Meaning A) {result : Result A NoMemory} {old new : ServeState} → ((marks : List Mark) → same marks ≡ means marks)
-    → TakesAt shape places means result old new → TakesAt shape places same result old new
+pub takes_at : {A : Type 0} {shape : LogShape} {calls : List Mark → List (Call Mark)} (means same : List Mark → Meaning A) {result : Result A NoMemory} {old new : ServeState} → ((marks : List Mark) → same marks ≡ means marks)
+    → TakesAt shape calls means result old new → TakesAt shape calls same result old new
 takes_at means same {result = result} so p = record {
   takes = record { marks = p.takes.marks; told = p.takes.told; stays = p.takes.stays; took = took-as means same result p.takes.marks so p.takes.took };
   grown = p.grown;
   follows = p.follows;
 }
 
--- where the calls of a query stand that goes through a chain
-pub places_by_number : (said : Sayings) (files : List FileText) (chains : List BlockChain) (blocks : List Block) (n : ℕ) (chain : BlockChain) (q : Query) → map (steps_in said) chains ≡ map (steps_of said files) blocks
-    → slice_get chains n ≡ Some chain → picked blocks q.local q.name ≡ Some n → call_places (steps_of said files) blocks q ≡ places_in (steps_in said chain) n q
-places_by_number said files chains blocks n chain q same at is =
+-- the calls of a query that goes through a chain
+pub calls_by_number : (said : Sayings) (files : List FileText) (chains : List BlockChain) (blocks : List Block) (n : ℕ) (chain : BlockChain) (q : Query) → map (steps_in said) chains ≡ map (steps_of said files) blocks
+    → slice_get chains n ≡ Some chain → picked blocks q.local q.name ≡ Some n → (serial : ℕ) (marks : List Mark)
+    → turn_calls (steps_of said files) blocks serial q marks ≡ chain_calls (steps_in said chain) serial n q marks
+calls_by_number said files chains blocks n chain q same at is serial marks =
     let steps : option_map (steps_of said files) (slice_get blocks n) ≡ Some (steps_in said chain) = sym (by_number said files chains blocks n same) ∙ ap (option_map (steps_in said)) at in
-    ap (places_at (steps_of said files) blocks q) is ∙ by_block (slice_get blocks n) steps
+    ap (λ (o : Option ℕ). picked_calls (steps_of said files) blocks serial q o marks) is ∙ by_block (slice_get blocks n) steps
   where
-    by_block : (o : Option Block) → option_map (steps_of said files) o ≡ Some (steps_in said chain) → places_by (steps_of said files) q n o ≡ places_in (steps_in said chain) n q
+    by_block : (o : Option Block) → option_map (steps_of said files) o ≡ Some (steps_in said chain) → calls_by (steps_of said files) blocks serial q n o marks ≡ chain_calls (steps_in said chain) serial n q marks
     by_block None e = absurd cc
-    by_block (Some block) e = let one : steps_of said files block ≡ steps_in said chain = cc in ap (λ (s : List Step). places_in s n q) one
+    by_block (Some block) e = let one : steps_of said files block ≡ steps_in said chain = cc in ap (λ (s : List Step). chain_calls s serial n q marks) one
 
 -- by the version of EDNS and the class
 pub version_known : (opt : Option Opt) (class : ℕ) (chains : Block → List Step) (blocks : List Block) (q : Query) → is_known_version opt ≡ true → (marks : List Mark)

@@ -5,6 +5,7 @@ use Rattle.std.specs.List.{All}
 use Rattle.dns_data.specs.declared.block.Block.{Block}
 use Rattle.dns_data.specs.declared.file.FileText.{FileText}
 use Rattle.corefile_blocks.specs.declared.bundle.Bundle.{Bundle}
+use Rattle.block_readings.specs.Behind.{block_behind}
 use Rattle.pattern_judging.specs.{IsFault, IsWell}
 use Rattle.plugin_api.specs.{Sayings, Takings}
 use Rattle.chain_meaning.specs.Accepting.{IsAccepted, IsRefusedWith, block_task, blocks_task}
@@ -17,7 +18,8 @@ use Rattle.chain_build.specs.declared.block.BlockChain.{BlockChain}
 use Rattle.chain_build.specs.declared.fault.CheckFault.{CheckFault}
 use Rattle.chain_build.specs.declared.fault.CheckFault.TheVariants as fault
 use Rattle.chain_build.specs.Places.{AreTaken}
-use Rattle.chain_build.specs.Plans.{ArePlans, PlansData, extras_in, ground_of, steps_in}
+use Rattle.chain_build.specs.Plans.{ArePlans, PlansData, behind_of, block_cache, cache_in}
+use Rattle.chain_build.specs.Plans.{extras_in, ground_of, steps_in}
 
 -- the extras of a chain take its directives
 abbrev pub HasTaken : Takings → BlockChain → Type 0
@@ -29,6 +31,8 @@ pub record IsChain (brought : Brought) (patterns : ℕ) (files : List FileText) 
     (made : Made) : Type 0 where
   pub well : IsWell (block_task brought patterns files block)
   pub steps : (said : Sayings) → steps_in said made.chain ≡ steps_of said files block
+  pub behind : behind_of made.chain ≡ block_behind files block
+  pub cached : made.chain.cache ≡ block_cache block
   pub extras : made.chain.extras ≡ block_extras block
   pub taken : HasTaken brought.taken made.chain
   pub count : made.patterns ≡ patterns + length (patterns_in block.directives)
@@ -46,6 +50,8 @@ MakesBlock brought patterns files block last (Err fault.NoMemory) = Unit {0}
 pub record AreChains (taken : Takings) (files : List FileText) (blocks : List Block)
     (chains : List BlockChain) : Type 0 where
   pub steps : (said : Sayings) → map (steps_in said) chains ≡ map (steps_of said files) blocks
+  pub behind : map behind_of chains ≡ map (block_behind files) blocks
+  pub cached : map cache_in chains ≡ map block_cache blocks
   pub extras : map extras_in chains ≡ map block_extras blocks
   pub taken_are : All (HasTaken taken) chains
 

@@ -6,7 +6,7 @@ use Rattle.plugin_api.specs.{PlanData, Sayings}
 use Rattle.chain_meaning.specs.declared.decision.Decision.{Decision}
 use Rattle.chain_meaning.specs.Steps.{Answerer, Acl, Any, Template, Hosts, File, Forward, Whoami}
 use Rattle.chain_meaning.specs.Steps.{Step, Errors, Log, Answers, Others, cache_steps}
-use Rattle.chain_meaning.specs.Steps.{extra_steps, rewrite_steps}
+use Rattle.chain_meaning.specs.Steps.{dns64_steps, extra_steps, rewrite_steps}
 use Rattle.chain_build.specs.declared.block_chain.BackAnswerer.{BackAnswerer}
 use Rattle.chain_build.specs.declared.block_chain.BackAnswerer.TheVariants as behind
 use Rattle.chain_build.specs.declared.block_chain.FrontAnswerer.{FrontAnswerer}
@@ -21,7 +21,13 @@ front_answerer before.Any = Any
 abbrev pub front_of : FrontStep → Step
 front_of front.Errors = Errors
 front_of (front.Log plan) = Log plan
-front_of (front.Answers plugin) = Answers (front_answerer plugin)
+
+abbrev pub middle_of : FrontAnswerer → Step
+middle_of plugin = Answers (front_answerer plugin)
+
+-- what stands in front of the extras
+abbrev pub head_of : List FrontStep → Option Directive → List FrontAnswerer → List Step
+head_of front dns64 middle = map front_of front ++ (dns64_steps dns64 ++ map middle_of middle)
 
 abbrev pub back_answerer : BackAnswerer → Answerer
 back_answerer (behind.Template plans) = Template plans
@@ -42,23 +48,14 @@ abbrev pub inner_steps : Option PlanData → List Directive → List BackAnswere
 inner_steps cache rewrites back = cache_steps cache ++ back_steps rewrites back
 
 -- the whole chain, without extras
-abbrev pub whole : List FrontStep → Option PlanData → List Directive → List BackAnswerer
-    → List Step
-whole front cache rewrites back = map front_of front ++ inner_steps cache rewrites back
+abbrev pub whole : List Step → Option PlanData → List Directive → List BackAnswerer → List Step
+whole head cache rewrites back = head ++ inner_steps cache rewrites back
 
--- and with a step for each extra behind its front
-abbrev pub whole_by : Sayings → List FrontStep → List Directive → Option PlanData
-    → List Directive → List BackAnswerer → List Step
-whole_by said front extras cache rewrites back =
-    map front_of front ++ (extra_steps said extras ++ inner_steps cache rewrites back)
+-- and with a step for each extra behind its head
+abbrev pub whole_by : Sayings → List Step → List Directive → List Step → List Step
+whole_by said head extras inner = head ++ (extra_steps said extras ++ inner)
 
--- what stands behind its front, where all extras are one step
+-- what stands behind its head, where all extras are one step
 abbrev pub others_steps : (Query → Option Decision) → Option PlanData → List Directive
     → List BackAnswerer → List Step
 others_steps says cache rewrites back = Others says ∷ inner_steps cache rewrites back
-
--- the whole chain, where all extras are one step
-abbrev pub whole_with : (Query → Option Decision) → List FrontStep → Option PlanData
-    → List Directive → List BackAnswerer → List Step
-whole_with says front cache rewrites back =
-    map front_of front ++ others_steps says cache rewrites back

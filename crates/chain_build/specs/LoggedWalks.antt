@@ -8,12 +8,17 @@ use Rattle.outside.specs.Taking.{Asks, Takes}
 use Rattle.outside.specs.declared.kept.Kept.{Kept}
 use Rattle.outside.specs.declared.mark.Mark.{Mark}
 use Rattle.outside.specs.declared.mark.Mark.TheVariants.{Inner}
+use Rattle.one_history.specs.Calls.{Call}
 use Rattle.one_history.specs.Logs.{GrowsBy}
-use Rattle.one_history.specs.Shared.{CallPlaces, Logged, cache_calls_in, placed_calls}
-use Rattle.one_history.specs.Shared.{pool_calls_in}
-use Rattle.chain_meaning.specs.Called.{CallNumbers}
+use Rattle.one_history.specs.Shared.{Logged, cache_calls_in, pool_calls_in}
+use Rattle.dns_data.specs.declared.directive.Directive.{Directive}
+use Rattle.dns_data.specs.declared.query.Query.{Query}
+use Rattle.chain_meaning.specs.CallsByRun.{CallNumbers, NumberedMark, Shared, run_calls}
+use Rattle.chain_meaning.specs.Mean.{mean}
+use Rattle.chain_meaning.specs.Steps.{Step}
+use Rattle.chain_meaning.specs.TranslatingCalls.{dns64_calls, pointed_calls}
 use Rattle.pin_table.specs.{Grows}
-use Rattle.chain_build.specs.Logs.{LogShape, pool_logs, shard_logs}
+use Rattle.chain_build.specs.Logs.{LogShape, LoggedCalls, logs_of, pool_logs, shard_logs}
 use Rattle.chain_build.specs.declared.block_uses.BlockUses.{BlockUses}
 
 -- a side, what is kept of its inner marks, and a block's pools
@@ -54,6 +59,27 @@ pub record TakesBy {A : Type 0} (numbers : CallNumbers) (means : List Mark → M
   pub takes : Takes means result old.side new.side
   pub logged : UsesLogged numbers takes.marks old.uses new.uses
 
+-- the calls that a query makes in a chain, by what is called, and by the marks that it takes; those
+-- of both runs behind `dns64`; and those of a run for another name
+abbrev pub Runs : Type 0
+Runs = Shared → List Mark → List NumberedMark
+
+abbrev pub chain_runs : List Step → Query → Runs
+chain_runs steps q shared marks = run_calls shared steps q marks
+
+abbrev pub dns64_runs : List Step → Directive → Query → Runs
+dns64_runs steps d q shared marks = dns64_calls (run_calls shared steps) d q (mean steps) marks
+
+abbrev pub pointed_runs : List Step → Directive → Query → Option Query → Runs
+pointed_runs steps d q inner shared marks = pointed_calls (run_calls shared steps) d q inner marks
+
+-- it took so, and called what workers share as its marks tell, run by run
+pub record TakesCalls {A : Type 0} (calls : Runs) (means : List Mark → Meaning A)
+    (result : Result A NoMemory) (old new : TakeState) : Type 0 where
+  pub takes : Takes means result old.side new.side
+  pub logged : (shared : Shared) → LoggedCalls (calls shared takes.marks)
+      (logs_of shared old.uses) (logs_of shared new.uses)
+
 -- it took so, and called nothing that workers share
 pub record TakesQuietly {A : Type 0} (means : List Mark → Meaning A) (result : Result A NoMemory)
     (old new : SideState) : Type 0 where
@@ -69,11 +95,10 @@ pub record ServeState : Type 0 where
 abbrev pub serving : SideState → List (List Mark) → ServeState
 serving side log = record { side = side; log = log }
 
--- it took so, and the log has grown by the calls that its marks tell, all at these places
-pub record TakesAt {A : Type 0} (shape : LogShape) (places : CallPlaces)
-    (means : List Mark → Meaning A) (result : Result A NoMemory) (old new : ServeState)
-    : Type 0 where
-  pub takes : Takes means result old.side new.side
-  pub grown : GrowsBy shape.places shape.serial
-      (placed_calls shape.serial places takes.marks) old.log new.log
-  pub follows : Grows old.log new.log
+-- it took so, and the log has grown by these calls, which its marks tell
+pub record TakesAt {A : Type 0} (shape : LogShape) (calls : List Mark → List (Call Mark))
+    (means : List Mark → Meaning A) (result : Result A NoMemory) (old new : ServeState) : Type 0
+  where
+    pub takes : Takes means result old.side new.side
+    pub grown : GrowsBy shape.places shape.serial (calls takes.marks) old.log new.log
+    pub follows : Grows old.log new.log

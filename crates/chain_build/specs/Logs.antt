@@ -1,5 +1,6 @@
 -- The log of a chain: its own calls of what workers share, part by part. This server's own rule.
-use Rattle.std.specs.Prelude.{ℕ, zero, suc, ◌+◌, List, [], ◌∷◌, ◌++◌, map, Option, Some, None}
+use Rattle.std.specs.Prelude.{◌≡◌, ℕ, zero, suc, ◌+◌, ◌==◌, List, [], ◌∷◌, ◌++◌, map, Option}
+use Rattle.std.specs.Prelude.{Some, None, if◌then◌else◌}
 use Rattle.outside.specs.declared.entry.InnerMark.TheVariants.{Drawn, Reported}
 use Rattle.outside.specs.declared.mark.Mark.{Mark}
 use Rattle.outside.specs.declared.mark.Mark.TheVariants.{Inner}
@@ -10,9 +11,11 @@ use Rattle.forward_plugin.specs.PoolUses.{calls_of}
 use Rattle.forward_plugin.specs.declared.pool_use.PoolUse.{PoolUse}
 use Rattle.one_history.specs.Logs.{Place}
 use Rattle.one_history.specs.Runs.{SHARDS}
+use Rattle.one_history.specs.Shared.{log_at}
 use Rattle.plugin_api.specs.{PlanData}
 use Rattle.cache_plugin.specs.{UseData, use_logs}
-use Rattle.chain_meaning.specs.Called.{pool_part, shard_part}
+use Rattle.chain_meaning.specs.CallsByRun.{NumberedMark, Pools, Shards, Shared, pool_part}
+use Rattle.chain_meaning.specs.CallsByRun.{shard_part}
 use Rattle.chain_build.specs.declared.block.BlockChain.{BlockChain}
 use Rattle.chain_build.specs.Uses.{chain_pools}
 use Rattle.chain_build.specs.declared.block_uses.BlockUses.{BlockUses}
@@ -43,6 +46,11 @@ pool_logs uses = map use_log uses
 abbrev pub shard_logs : Option (UseData CacheJudge) → List (List Mark)
 shard_logs None = []
 shard_logs (Some u) = use_logs u
+
+-- of one of both
+abbrev pub logs_of : Shared → BlockUses → List (List Mark)
+logs_of Shards uses = shard_logs uses.cache
+logs_of Pools uses = pool_logs uses.pools
 
 abbrev pub block_log : BlockUses → List (List Mark)
 block_log uses = shard_logs uses.cache ++ pool_logs uses.pools
@@ -84,3 +92,13 @@ pub record LogShape : Type 0 where
 
 abbrev pub shape_of : PlansData → ℕ → LogShape
 shape_of plans serial = record { serial = serial; places = chain_places plans }
+
+-- of calls, the marks of those with a number
+abbrev pub at_number : ℕ → List NumberedMark → List Mark
+at_number part [] = []
+at_number part (c ∷ calls) =
+    if c.number == part then c.mark ∷ at_number part calls else at_number part calls
+
+-- each log has grown by its own of these calls
+pub record LoggedCalls (calls : List NumberedMark) (old new : List (List Mark)) : Type 0 where
+  pub each : (part : ℕ) → log_at new part ≡ log_at old part ++ at_number part calls

@@ -29,6 +29,7 @@ abbrev pub no_places : ℕ → Places
 no_places patterns = record {
   errors = false;
   logs = [];
+  dns64 = None;
   acls = [];
   any = false;
   extras = [];
@@ -56,6 +57,8 @@ placed_plain other plan places = places
 
 -- with the plan of one more directive of a rank; one without a rank is an extra's
 abbrev pub placed_by : Option Rank → Context → Directive → Places → Places
+placed_by (Some rank.Dns64) context d places =
+    record places { dns64 = option_or places.dns64 (Some d) }
 placed_by (Some rank.Acl) context d places =
     record places { acls = places.acls ++ plan_in context.zones d ∷ [] }
 placed_by (Some rank.Cache) context d places =
@@ -83,11 +86,12 @@ placed context [] places = places
 placed context (d ∷ directives) places =
     placed context directives (placed_by (rank_of d.name) context d places)
 
--- the steps of what was read, in front of a cache and behind it
+-- the steps of what was read, in front of the extras and behind these
 abbrev pub front_in : Places → List Step
-front_in places =
-    error_steps places.errors
-    ++ (log_steps places.logs ++ (acl_steps places.acls ++ any_steps places.any))
+front_in places = error_steps places.errors ++ log_steps places.logs
+
+abbrev pub middle_in : Places → List Step
+middle_in places = acl_steps places.acls ++ any_steps places.any
 
 abbrev pub answers_in : Places → List Step
 answers_in places =

@@ -7,22 +7,25 @@ use Rattle.std.specs.Option.{option_or}
 use Rattle.dns_data.specs.declared.block.Block.{Block}
 use Rattle.dns_data.specs.declared.directive.Directive.{Directive}
 use Rattle.dns_data.specs.declared.file.FileText.{FileText}
-use Rattle.plugin_api.specs.{PlanData, Sayings, rank_of}
+use Rattle.plugin_api.specs.{Sayings, rank_of}
 use Rattle.plugin_api.specs.declared.ranks.Rank.{Rank}
 use Rattle.plugin_api.specs.declared.ranks.Rank.TheVariants as rank
 use Rattle.chain_meaning.specs.Accepting.{patterns_in, rank_patterns}
-use Rattle.chain_meaning.specs.Steps.{Context, cache_plan, cache_steps, context_of, extra_steps, extras_of, file_plan, file_plans, forward_plan, forward_plans, has_rank, hosts_plan, hosts_plans, plan_in, plans_of, rewrite_steps, some_has, steps_of}
+use Rattle.chain_meaning.specs.Steps.{Context, Step, acl_steps, any_steps, cache_plan, cache_steps, context_of, dns64_in, dns64_steps, error_steps, extra_steps, extras_of, file_plan, file_plans, forward_plan, forward_plans, has_rank, hosts_plan, hosts_plans, log_steps, plan_in, plans_of, rewrite_steps, some_has, steps_of, key_zones}
 use Rattle.chain_build.specs.declared.block_chain.BackAnswerer.{BackAnswerer}
+use Rattle.chain_build.specs.declared.block_chain.FrontAnswerer.{FrontAnswerer}
 use Rattle.chain_build.specs.declared.block_chain.FrontStep.{FrontStep}
 use Rattle.chain_build.specs.declared.places.Places.{Places}
-use Rattle.chain_build.specs.Compiled.{back_of, front_of, whole_by}
-use Rattle.chain_build.specs.Places.{answers_in, back_in, front_in, no_places, placed, placed_by}
+use Rattle.block_readings.specs.Behind.{block_behind}
+use Rattle.chain_build.specs.Compiled.{back_steps, back_of, front_of, head_of, inner_steps, middle_of, whole_by}
+use Rattle.chain_build.specs.Places.{answers_in, back_in, front_in, middle_in, no_places, placed, placed_by}
 
 -- what was read before, with what further directives are
 abbrev with_all : Context → List Directive → Places → Places
 with_all c ds p = record {
   errors = p.errors || some_has rank.Errors ds;
   logs = p.logs ++ plans_of rank.Log c.zones ds;
+  dns64 = option_or p.dns64 (dns64_in ds);
   acls = p.acls ++ plans_of rank.Acl c.zones ds;
   any = p.any || some_has rank.Any ds;
   extras = p.extras ++ extras_of ds;
@@ -44,11 +47,11 @@ or_false : (b : Bool) → (b || false) ≡ b
 or_false true = refl
 or_false false = refl
 
-or_none : (o : Option PlanData) → option_or o None ≡ o
+or_none : {A : Type 0} (o : Option A) → option_or o None ≡ o
 or_none None = refl
 or_none (Some plan) = refl
 
-or_first : (o : Option PlanData) (plan : PlanData) (later : Option PlanData) → option_or (option_or o (Some plan)) later ≡ option_or o (Some plan)
+or_first : {A : Type 0} (o : Option A) (plan : A) (later : Option A) → option_or (option_or o (Some plan)) later ≡ option_or o (Some plan)
 or_first None plan later = refl
 or_first (Some first) plan later = refl
 
@@ -64,7 +67,7 @@ step c d ds p (Some rank.Passive) e = rw e refl
 step c d ds p (Some rank.Reload) e = rw e refl
 step c d ds p (Some rank.Errors) e = rw e (ap (λ x. record (with_all c ds p) { errors = x }) (sym (or_true p.errors)))
 step c d ds p (Some rank.Log) e = rw e (ap (λ x. record (with_all c ds p) { logs = x }) (append_assoc p.logs (plan_in c.zones d ∷ []) (plans_of rank.Log c.zones ds)))
-step c d ds p (Some rank.Dns64) e = rw e refl
+step c d ds p (Some rank.Dns64) e = rw e (ap (λ x. record (with_all c ds p) { dns64 = x }) (or_first p.dns64 d (dns64_in ds)))
 step c d ds p (Some rank.Acl) e = rw e (ap (λ x. record (with_all c ds p) { acls = x }) (append_assoc p.acls (plan_in c.zones d ∷ []) (plans_of rank.Acl c.zones ds)))
 step c d ds p (Some rank.Any) e = rw e (ap (λ x. record (with_all c ds p) { any = x }) (sym (or_true p.any)))
 step c d ds p (Some rank.Extra) e = rw e refl
@@ -86,6 +89,7 @@ all : (c : Context) (ds : List Directive) (p : Places) → placed c ds p ≡ wit
 all c [] p = λ i. record {
   errors = sym (or_false p.errors) i;
   logs = sym (append-nil p.logs) i;
+  dns64 = sym (or_none p.dns64) i;
   acls = sym (append-nil p.acls) i;
   any = sym (or_false p.any) i;
   extras = sym (append-nil p.extras) i;
@@ -122,16 +126,32 @@ placed-push c before d p = placed_more c before (d ∷ []) p
 
 -- the steps of what was read of a block are its chain
 pub places-steps : (said : Sayings) (files : List FileText) (block : Block) (n : ℕ) (places : Places) → places ≡ placed (context_of files block) block.directives (no_places n)
-    → front_in places ++ (extra_steps said places.extras ++ back_in places) ≡ steps_of said files block
+    → (front_in places ++ (dns64_steps places.dns64 ++ middle_in places)) ++ (extra_steps said places.extras ++ back_in places) ≡ steps_of said files block
 unfolding steps_of
 places-steps said files block n places is =
     let read = is ∙ all (context_of files block) block.directives (no_places n) in
-    λ i. ap front_in read i ++ (extra_steps said (read i).extras ++ ap back_in read i)
+    let zones = (context_of files block).zones in
+    let ds = block.directives in
+    (λ i. (ap front_in read i ++ (dns64_steps (read i).dns64 ++ ap middle_in read i)) ++ (extra_steps said (read i).extras ++ ap back_in read i))
+    ∙ ap (λ (head : List Step). head ++ (extra_steps said (extras_of ds) ++ back_in (with_all (context_of files block) ds (no_places n))))
+    (append_assoc (error_steps (some_has rank.Errors ds)) (log_steps (plans_of rank.Log zones ds)) (dns64_steps (dns64_in ds) ++ (acl_steps (plans_of rank.Acl zones ds) ++ any_steps (some_has rank.Any ds))))
 
 -- and so are the compiled ones
-pub steps-placed : (said : Sayings) (files : List FileText) (block : Block) (n : ℕ) (front : List FrontStep) (back : List BackAnswerer) (places : Places) → places ≡ placed (context_of files block) block.directives (no_places n)
-    → map front_of front ≡ front_in places → map back_of back ≡ answers_in places → whole_by said front places.extras places.cache places.rewrites back ≡ steps_of said files block
-steps-placed said files block n front back places is f b =
-    let compiled : whole_by said front places.extras places.cache places.rewrites back ≡ front_in places ++ (extra_steps said places.extras ++ back_in places)
-    = λ i. f i ++ (extra_steps said places.extras ++ (cache_steps places.cache ++ (rewrite_steps places.rewrites ++ b i))) in
-    compiled ∙ places-steps said files block n places is
+module _ (said : Sayings) (files : List FileText) (block : Block) (n : ℕ) (places : Places) (is : places ≡ placed (context_of files block) block.directives (no_places n)) where
+  pub steps-placed : (front : List FrontStep) (middle : List FrontAnswerer) (back : List BackAnswerer) → map front_of front ≡ front_in places → map middle_of middle ≡ middle_in places → map back_of back ≡ answers_in places
+      → whole_by said (head_of front places.dns64 middle) places.extras (inner_steps places.cache places.rewrites back) ≡ steps_of said files block
+  steps-placed front middle back f m b =
+      let compiled : whole_by said (head_of front places.dns64 middle) places.extras (inner_steps places.cache places.rewrites back)
+      ≡ (front_in places ++ (dns64_steps places.dns64 ++ middle_in places)) ++ (extra_steps said places.extras ++ back_in places)
+      = λ i. (f i ++ (dns64_steps places.dns64 ++ m i)) ++ (extra_steps said places.extras ++ (cache_steps places.cache ++ (rewrite_steps places.rewrites ++ b i))) in
+      compiled ∙ places-steps said files block n places is
+
+-- and so are those behind its cache
+module _ (files : List FileText) (block : Block) (n : ℕ) (places : Places) (is : places ≡ placed (context_of files block) block.directives (no_places n)) where
+  pub behind-placed : (back : List BackAnswerer) → map back_of back ≡ answers_in places → back_steps places.rewrites back ≡ block_behind files block
+  behind-placed back b =
+      let read = is ∙ all (context_of files block) block.directives (no_places n) in
+      (λ i. rewrite_steps places.rewrites ++ b i) ∙ (λ i. rewrite_steps (read i).rewrites ++ ap answers_in read i)
+
+  pub cache-placed : places.cache ≡ cache_plan (key_zones block) block.directives
+  cache-placed = ap (λ (p : Places). p.cache) (is ∙ all (context_of files block) block.directives (no_places n))

@@ -11,11 +11,12 @@ use Rattle.rewrite_plugin.specs.{changed_by}
 use Rattle.chain_meaning.specs.declared.decision.Decision.TheVariants as decision
 use Rattle.chain_meaning.specs.Mean.{answer_of, error_noted, mean, or_rest, query_noted, rewritten, rule}
 use Rattle.chain_meaning.specs.Caching.{cache_means, cached}
-use Rattle.chain_meaning.specs.MeanLaws.{mean-end, mean-step, rule-answers, rule-cache, rule-errors, rule-log, rule-rewrite}
-use Rattle.chain_meaning.specs.Steps.{Step, Cache, Rewrite, cache_steps}
+use Rattle.chain_meaning.specs.MeanLaws.{mean-end, mean-step, rule-answers, rule-cache, rule-dns64, rule-errors, rule-log, rule-rewrite}
+use Rattle.chain_meaning.specs.Steps.{Step, Dns64, Cache, Rewrite, cache_steps, dns64_steps}
+use Rattle.chain_meaning.specs.Translating.{dns64_means}
 use Rattle.cache_rules.specs.{cache_zones}
 use Rattle.zone_words.specs.{is_in}
-use Rattle.chain_build.specs.Compiled.{back_answerer, back_of, back_steps, front_answerer, front_of}
+use Rattle.chain_build.specs.Compiled.{back_answerer, back_of, back_steps, front_answerer, front_of, middle_of}
 use Rattle.chain_build.specs.declared.block_chain.BackAnswerer.{BackAnswerer}
 use Rattle.chain_build.specs.declared.block_chain.FrontAnswerer.{FrontAnswerer}
 use Rattle.chain_build.specs.declared.block_chain.FrontStep.{FrontStep}
@@ -72,6 +73,18 @@ module _ {steps : List FrontStep} (step : FrontStep) (rest : List FrontStep) (be
   pub front-log : (plan : PlanData) → step ≡ front.Log plan → (marks : List Mark) → mean (map front_of steps ++ behind) q marks ≡ onward (mean (map front_of rest ++ behind) q marks) (query_noted plan q)
   front-log plan f marks = step_is (front.Log plan) f marks ∙ rule-log plan (mean (map front_of rest ++ behind)) q marks
 
-  pub front-answers : (plugin : FrontAnswerer) → step ≡ front.Answers plugin → (marks : List Mark)
-      → mean (map front_of steps ++ behind) q marks ≡ onward (answer_of (front_answerer plugin) q marks) (or_rest (mean (map front_of rest ++ behind)) q)
-  front-answers plugin f marks = step_is (front.Answers plugin) f marks ∙ rule-answers (front_answerer plugin) (mean (map front_of rest ++ behind)) q marks
+-- and between these and the extras
+pub middle-end : (steps : List FrontAnswerer) (behind : List Step) (q : Query) → length steps ≡ 0 → (marks : List Mark) → mean (map middle_of steps ++ behind) q marks ≡ mean behind q marks
+middle-end steps behind q e marks = ap (λ s. mean (map middle_of s ++ behind) q marks) (empty steps e)
+
+pub middle-answers : {steps : List FrontAnswerer} (plugin : FrontAnswerer) (rest : List FrontAnswerer) (behind : List Step) (q : Query) → steps ≡ plugin ∷ rest → (marks : List Mark)
+    → mean (map middle_of steps ++ behind) q marks ≡ onward (answer_of (front_answerer plugin) q marks) (or_rest (mean (map middle_of rest ++ behind)) q)
+middle-answers plugin rest behind q e marks =
+    ap (λ s. mean (map middle_of s ++ behind) q marks) e ∙ mean-step (middle_of plugin) (map middle_of rest ++ behind) q marks ∙ rule-answers (front_answerer plugin) (mean (map middle_of rest ++ behind)) q marks
+
+-- at `dns64`, where it stands
+pub dns64-none : (dns64 : Option Directive) (behind : List Step) (q : Query) → dns64 ≡ None → (marks : List Mark) → mean (dns64_steps dns64 ++ behind) q marks ≡ mean behind q marks
+dns64-none dns64 behind q e marks = ap (λ (o : Option Directive). mean (dns64_steps o ++ behind) q marks) e
+
+pub dns64-some : (dns64 : Option Directive) (d : Directive) (behind : List Step) (q : Query) → dns64 ≡ Some d → (marks : List Mark) → mean (dns64_steps dns64 ++ behind) q marks ≡ dns64_means (mean behind) d q marks
+dns64-some dns64 d behind q e marks = ap (λ (o : Option Directive). mean (dns64_steps o ++ behind) q marks) e ∙ mean-step (Dns64 d) behind q marks ∙ rule-dns64 d (mean behind) q marks

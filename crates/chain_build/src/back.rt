@@ -3,7 +3,7 @@ ghost use Rattle.dns_data.specs.Message.{no_answer};
 ghost use Rattle.dns_write.specs.{with_tail};
 ghost use Rattle.forward_plugin.specs.{pool_count, pool_place};
 ghost use Rattle.rewrite_plugin.specs.{changed_by, restored};
-ghost use Rattle.chain_meaning.specs.Called.{pool_in};
+ghost use Rattle.chain_meaning.specs.CallsByRun.{pool_in};
 ghost use Rattle.chain_meaning.specs.Mean.{answer_of, mean, rewritten};
 ghost use Rattle.chain_meaning.specs.Steps.{Forward};
 ghost use Rattle.chain_build.specs.Compiled.{back_answerer, back_of, back_steps};

@@ -2,16 +2,21 @@ ghost use Rattle.std.specs.Prelude.{map};
 ghost use Rattle.chain_build.specs.Compiled.{back_of};
 ghost use Rattle.chain_build.specs.Pools.{HasLoneForward, HasOneForward};
 
-use crate::block_chain::{BackAnswerer, FrontStep};
+use crate::block_chain::{BackAnswerer, FrontAnswerer, FrontStep};
 use cache_rules::CachePlan;
 use dns_data::{Directives, Seq};
+use dns64_plugin::Dns64Plan;
 use rewrite_plugin::RewritePlan;
 
 /// The chain of a block, as it runs.
 #[derive(Drop)]
 pub struct BlockChain {
+    /// Those that note.
     pub front: Seq<FrontStep>,
-    /// The directives of extras, which stand behind the front.
+    pub dns64: Option<Dns64Plan>,
+    /// Those in front of a cache that answer or go on.
+    pub middle: Seq<FrontAnswerer>,
+    /// The directives of extras, which stand behind these.
     pub extras: Directives,
     /// The directive of the cache, which stands behind these.
     pub cache: Option<CachePlan>,

@@ -9,12 +9,11 @@ use hosts_plugin::HostsPlan;
 use plain_plugins::PlainPlan;
 use template_plugin::TemplatePlan;
 
-/// A step that stands in front of a cache.
+/// A step that notes what the steps behind it decide.
 #[derive(Debug, Drop)]
 pub enum FrontStep {
     Errors,
     Log(PlainPlan),
-    Answers(FrontAnswerer),
 }
 
 /// A plugin in front of a cache that answers or goes on.
@@ -35,10 +34,17 @@ pub enum BackAnswerer {
     Whoami,
 }
 
-/// What is left of a chain: steps in front of a cache, and then what stands behind one in the
-/// chain.
+/// What is left of a chain: steps that note, and then what stands behind these in the chain.
 #[derive(Clone, Copy)]
 pub struct ChainRest<'a> {
     pub front: &'a [FrontStep],
+    pub behind: &'a BlockChain,
+}
+
+/// What is left of a chain behind `dns64`: plugins in front of a cache, and then what stands behind
+/// one in the chain.
+#[derive(Clone, Copy)]
+pub struct MiddleRest<'a> {
+    pub middle: &'a [FrontAnswerer],
     pub behind: &'a BlockChain,
 }

@@ -6,7 +6,7 @@ ghost use Rattle.cache_rules.specs.{aged, cache_zones, key_of};
 ghost use Rattle.outside.specs.declared.entry.InnerMark.{InnerMark};
 ghost use Rattle.zone_words.specs.{is_in};
 ghost use Rattle.chain_meaning.specs.Caching.{cached, found, kept_with};
-ghost use Rattle.chain_meaning.specs.Called.{numbers_in};
+ghost use Rattle.chain_meaning.specs.CallsByRun.{numbers_in};
 ghost use Rattle.chain_meaning.specs.Mean.{mean};
 ghost use Rattle.chain_meaning.specs.declared.decision.Decision.TheVariants as decision;
 ghost use Rattle.chain_build.specs.Caches.{IsFairFor};

@@ -13,13 +13,14 @@ ghost use Rattle.chain_build.specs.Reading.{check_behind};
 
 use crate::block::BlockChain;
 use crate::compiling::compile;
+use crate::earlier::{Earlier, Sources};
 use crate::fault::CheckFault;
 use crate::judges::{Bench, Judges};
 use crate::places::read_block;
 use crate::plans::Plans;
 use chain_meaning::Refusal;
 use corefile_blocks::{Bundle, CorefileFault, ports, read_blocks};
-use dns_data::{Block, Blocks, Bytes, Directives, FileText, NoMemory, Seq, Strings};
+use dns_data::{Block, Blocks, Bytes, Directives, NoMemory, Seq, Strings};
 use outside::PatternMaker;
 use plugin_api::{BlockIndex, Extra, Rulebook};
 use std::alloc::Global;
@@ -40,11 +41,56 @@ pub fn check<B: Rulebook, E: Extra, M: PatternMaker>(
         (ground_at default_port (map E.title judges.now)) (M.last maker.new) result }
     ensures maker { M.state maker.new ≡ check_behind result (M.state maker.old) }
 {
+    check_over(
+        alloc,
+        &Earlier::none(alloc),
+        bundle,
+        default_port,
+        judges,
+        maker,
+    )
+}
+
+/// The same where plans are there that were made before. What these read of equal bytes or made of
+/// equal texts is shared, and not read or made again.
+pub fn recheck<B: Rulebook, E: Extra, M: PatternMaker>(
+    alloc: Global,
+    last: &Plans<B>,
+    bundle: Bundle,
+    default_port: u16,
+    judges: &[E],
+    maker: &mut M,
+) -> Result<Plans<B>, CheckFault>
+    requires readable { IsReadable bundle }
+    requires judges { Obey B.taken B.said E.title E.takes E.ruling judges.now }
+    ensures plans { MakesPlans B.taken B.said bundle
+        (ground_at default_port (map E.title judges.now)) (M.last maker.new) result }
+    ensures maker { M.state maker.new ≡ check_behind result (M.state maker.old) }
+{
+    let earlier = Earlier::of(alloc, last.chains.as_slice())?;
+    check_over(alloc, &earlier, bundle, default_port, judges, maker)
+}
+
+// The same behind plans of another configuration.
+fn check_over<B: Rulebook, E: Extra, M: PatternMaker>(
+    alloc: Global,
+    earlier: &Earlier<'_>,
+    bundle: Bundle,
+    default_port: u16,
+    judges: &[E],
+    maker: &mut M,
+) -> Result<Plans<B>, CheckFault>
+    requires readable { IsReadable bundle }
+    requires judges { Obey B.taken B.said E.title E.takes E.ruling judges.now }
+    ensures plans { MakesPlans B.taken B.said bundle
+        (ground_at default_port (map E.title judges.now)) (M.last maker.new) result }
+    ensures maker { M.state maker.new ≡ check_behind result (M.state maker.old) }
+{
     let bench: Bench<'_, B, E> = Bench {
         judges,
         of: PhantomData,
     };
-    let read = read_bundle(alloc, &bundle, default_port, &bench, maker)?;
+    let read = reread_bundle(alloc, earlier, &bundle, default_port, &bench, maker)?;
     let ReadBundle { blocks, chains } = read;
     let names = names_of(alloc, judges)?;
     let extras = extras_of(alloc, chains.as_slice())?;
@@ -115,6 +161,31 @@ pub fn read_bundle<J: Judges, M: PatternMaker>(
         (M.last maker.new) result }
     ensures maker { M.state maker.new ≡ check_behind result (M.state maker.old) }
 {
+    reread_bundle(
+        alloc,
+        &Earlier::none(alloc),
+        bundle,
+        default_port,
+        judges,
+        maker,
+    )
+}
+
+// The same behind plans of another configuration.
+fn reread_bundle<J: Judges, M: PatternMaker>(
+    alloc: Global,
+    earlier: &Earlier<'_>,
+    bundle: &Bundle,
+    default_port: u16,
+    judges: &J,
+    maker: &mut M,
+) -> Result<ReadBundle, CheckFault>
+    requires { IsReadable bundle.now }
+    ensures reads { (said : Sayings) → ReadsBundle bundle.now
+        (terms_by default_port (brought_of (J.named judges.now) (J.taken judges.now)) said)
+        (M.last maker.new) result }
+    ensures maker { M.state maker.new ≡ check_behind result (M.state maker.old) }
+{
     let blocks = match read_blocks(alloc, bundle, default_port) {
         Ok(blocks) => blocks,
         Err(fault) => match fault {
@@ -126,29 +197,32 @@ pub fn read_bundle<J: Judges, M: PatternMaker>(
     if u32::MAX as usize <= blocks.len() {
         return Err(CheckFault::NoMemory);
     }
-    let files = bundle.files.as_slice();
-    let chains = block_chains(alloc, judges, files, blocks.as_slice(), maker)?;
+    let sources = Sources {
+        files: bundle.files.as_slice(),
+        earlier,
+    };
+    let chains = block_chains(alloc, judges, &sources, blocks.as_slice(), maker)?;
     Ok(ReadBundle { blocks, chains })
 }
 
-/// The chains of blocks in a bundle with these files, or the first refusal of a directive.
-pub fn block_chains<J: Judges, M: PatternMaker>(
+// The chains of blocks in a bundle with these files, or the first refusal of a directive.
+fn block_chains<J: Judges, M: PatternMaker>(
     alloc: Global,
     judges: &J,
-    files: &[FileText],
+    sources: &Sources<'_>,
     blocks: &[Block],
     maker: &mut M,
 ) -> Result<Seq<BlockChain>, CheckFault>
-    requires { All HasShortBytes files.now }
-    ensures made { MakesBlocks (brought_of (J.named judges.now) (J.taken judges.now)) files.now
-        blocks.now (M.last maker.new) result }
+    requires { All HasShortBytes sources.now.files.now }
+    ensures made { MakesBlocks (brought_of (J.named judges.now) (J.taken judges.now))
+        sources.now.files.now blocks.now (M.last maker.new) result }
     ensures maker { M.state maker.new ≡ check_behind result (M.state maker.old) }
 {
     let mut chains = Seq::with_capacity(alloc, blocks.len())?;
     let mut patterns = 0;
     let mut rest = blocks;
     while let Some((block, behind)) = rest.split_first() {
-        let made = block_chain(alloc, judges, patterns, files, block, maker)?;
+        let made = block_chain(alloc, judges, patterns, sources, block, maker)?;
         chains.push(made.chain)?;
         patterns = made.patterns;
         rest = behind;
@@ -168,16 +242,16 @@ fn block_chain<J: Judges, M: PatternMaker>(
     alloc: Global,
     judges: &J,
     patterns: usize,
-    files: &[FileText],
+    sources: &Sources<'_>,
     block: &Block,
     maker: &mut M,
 ) -> Result<Made, CheckFault>
-    requires { All HasShortBytes files.now }
+    requires { All HasShortBytes sources.now.files.now }
     ensures made { MakesBlock (brought_of (J.named judges.now) (J.taken judges.now)) patterns
-        files.now block.now (M.last maker.new) result }
+        sources.now.files.now block.now (M.last maker.new) result }
     ensures maker { M.state maker.new ≡ check_behind result (M.state maker.old) }
 {
-    let places = read_block(alloc, judges, patterns, files, block, maker)?;
+    let places = read_block(alloc, judges, patterns, sources, block, maker)?;
     let patterns = places.patterns;
     let chain = compile(alloc, places)?;
     Ok(Made { chain, patterns })

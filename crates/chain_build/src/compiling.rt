@@ -3,8 +3,8 @@ ghost use Rattle.plugin_api.specs.{PlanData};
 ghost use Rattle.chain_meaning.specs.Steps.{acl_steps, any_steps, error_steps, log_steps};
 ghost use Rattle.chain_meaning.specs.Steps.{file_steps, forward_steps, hosts_steps, template_steps};
 ghost use Rattle.chain_meaning.specs.Steps.{whoami_steps};
-ghost use Rattle.chain_build.specs.Compiled.{back_of, front_of};
-ghost use Rattle.chain_build.specs.Places.{answers_in, front_in};
+ghost use Rattle.chain_build.specs.Compiled.{back_of, front_of, middle_of};
+ghost use Rattle.chain_build.specs.Places.{answers_in, front_in, middle_in};
 
 use crate::block::BlockChain;
 use crate::block_chain::{BackAnswerer, FrontAnswerer, FrontStep};
@@ -21,6 +21,8 @@ use template_plugin::TemplatePlan;
 /// Lists what was read rank by rank.
 pub fn compile(alloc: Global, places: Places) -> Result<BlockChain, NoMemory>
     ensures front { IfOk result (λ chain. map front_of chain.front ≡ front_in places) }
+    ensures dns64 { IfOk result (λ chain. chain.dns64 ≡ places.dns64) }
+    ensures middle { IfOk result (λ chain. map middle_of chain.middle ≡ middle_in places) }
     ensures extras { IfOk result (λ chain. chain.extras ≡ places.extras) }
     ensures cache { IfOk result (λ chain. chain.cache ≡ places.cache) }
     ensures rewrites { IfOk result (λ chain. chain.rewrites ≡ places.rewrites) }
@@ -29,6 +31,7 @@ pub fn compile(alloc: Global, places: Places) -> Result<BlockChain, NoMemory>
     let Places {
         errors,
         logs,
+        dns64,
         acls,
         any,
         extras,
@@ -44,12 +47,15 @@ pub fn compile(alloc: Global, places: Places) -> Result<BlockChain, NoMemory>
     let mut front = Seq::new(alloc);
     push_errors(&mut front, errors)?;
     push_logs(&mut front, logs)?;
-    push_acls(&mut front, acls)?;
-    push_any(&mut front, any)?;
+    let mut middle = Seq::new(alloc);
+    push_acls(&mut middle, acls)?;
+    push_any(&mut middle, any)?;
     let asks = forwards.len() > 0;
     let back = compile_back(alloc, templates, hosts, files, forwards, whoami)?;
     Ok(BlockChain {
         front,
+        dns64,
+        middle,
         extras,
         cache,
         rewrites,
@@ -103,20 +109,20 @@ fn push_logs(steps: &mut Seq<FrontStep>, logs: Seq<PlainPlan>) -> Result<(), NoM
     }
 }
 
-fn push_acls(steps: &mut Seq<FrontStep>, acls: Seq<AclPlan>) -> Result<(), NoMemory>
-    ensures { OnOk result (map front_of steps.new ≡ map front_of steps.old ++ acl_steps acls) }
+fn push_acls(steps: &mut Seq<FrontAnswerer>, acls: Seq<AclPlan>) -> Result<(), NoMemory>
+    ensures { OnOk result (map middle_of steps.new ≡ map middle_of steps.old ++ acl_steps acls) }
 {
     if acls.len() > 0 {
-        return steps.push(FrontStep::Answers(FrontAnswerer::Acl(acls)));
+        return steps.push(FrontAnswerer::Acl(acls));
     }
     Ok(())
 }
 
-fn push_any(steps: &mut Seq<FrontStep>, any: bool) -> Result<(), NoMemory>
-    ensures { OnOk result (map front_of steps.new ≡ map front_of steps.old ++ any_steps any) }
+fn push_any(steps: &mut Seq<FrontAnswerer>, any: bool) -> Result<(), NoMemory>
+    ensures { OnOk result (map middle_of steps.new ≡ map middle_of steps.old ++ any_steps any) }
 {
     if any {
-        return steps.push(FrontStep::Answers(FrontAnswerer::Any));
+        return steps.push(FrontAnswerer::Any);
     }
     Ok(())
 }

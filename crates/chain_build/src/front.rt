@@ -1,24 +1,24 @@
 ghost use Rattle.dns_data.specs.declared.limit.TheConstants as limits;
-ghost use Rattle.std.specs.Prelude.{◌≡◌, ◌<◌};
+ghost use Rattle.std.specs.Prelude.{◌≡◌, ◌<◌, ◌++◌, map};
 ghost use Rattle.dns_data.specs.Message.{no_answer};
 ghost use Rattle.acl_plugin.specs.{acl_say};
-ghost use Rattle.chain_meaning.specs.Called.{numbers_in};
+ghost use Rattle.chain_meaning.specs.CallsByRun.{numbers_in};
 ghost use Rattle.chain_meaning.specs.Mean.{mean, nothing};
-ghost use Rattle.chain_build.specs.Compiled.{front_answerer, others_steps};
-ghost use Rattle.chain_build.specs.Compiled.{whole_with};
-ghost use Rattle.chain_build.specs.LoggedWalks.{TakesBy, taking};
-ghost use Rattle.chain_build.specs.Plans.{inner_of};
+ghost use Rattle.chain_build.specs.Compiled.{front_answerer, front_of, middle_of};
+ghost use Rattle.chain_build.specs.LoggedWalks.{TakesBy, TakesCalls, chain_runs, taking};
+ghost use Rattle.chain_build.specs.Plans.{inner_of, others_of, rest_of};
 ghost use Rattle.chain_build.specs.Uses.{IsUsed, SameUses};
 ghost use Rattle.chain_build.specs.Walking.{Answered, decided};
 
 use crate::block::BlockChain;
-use crate::block_chain::{ChainRest, FrontAnswerer, FrontStep};
+use crate::block_chain::{ChainRest, FrontAnswerer, FrontStep, MiddleRest};
 use crate::block_uses::BlockUses;
 use crate::caching::run_inner;
 use crate::ended::Ended;
 use crate::extras::Extras;
 use crate::noting::{note_error, note_query};
-use crate::room::WalkRoom;
+use crate::room::{FrontRoom, WalkRoom};
+use crate::translating::run_dns64;
 use crate::walk::Walk;
 use acl_plugin::{AclSay, decide};
 use dns_data::{NoMemory, Query, Slot, kind, rcode};
@@ -27,31 +27,32 @@ use plain_plugins::any_answer;
 use std::alloc::Global;
 use std::sync::Wait;
 
-/// Runs what is left of a chain: its steps in front of a cache, plugins of others where these end,
-/// and then a cache, and what stands behind it. The slot is clear.
+/// Runs what is left of a chain: its steps that note, and then what stands behind these. The slot
+/// is clear.
 pub fn run_front<'a, R: Wait, S: Side, X: Extras>(
     walk: &Walk<'_, R>,
     steps: ChainRest<'a>,
     uses: &mut BlockUses,
     extras: &mut X,
     side: &mut S,
-    room: &mut WalkRoom,
+    room: &mut FrontRoom,
 ) -> Result<Ended<'a>, NoMemory>
-    requires clear { room.old.plugins.slot ≡ no_answer }
+    requires clear { room.old.walk.plugins.slot ≡ no_answer }
     requires used { IsUsed steps.behind.now uses.old }
     ensures same { SameUses uses.old uses.new }
-    ensures takes { TakesBy
-        (numbers_in (inner_of steps.entry.behind.now) walk.now.query.now)
-        (mean (whole_with (X.says extras.old) steps.entry.front.now steps.entry.behind.now.cache
-        steps.entry.behind.now.rewrites steps.entry.behind.now.back) walk.now.query.now)
-        (decided result room.new.plugins.slot) (taking (S.state side.old) uses.old)
+    ensures takes { TakesCalls
+        (chain_runs (map front_of steps.entry.front.now
+        ++ rest_of (X.says extras.old) steps.entry.behind.now) walk.now.query.now)
+        (mean (map front_of steps.entry.front.now
+        ++ rest_of (X.says extras.old) steps.entry.behind.now) walk.now.query.now)
+        (decided result room.new.walk.plugins.slot) (taking (S.state side.old) uses.old)
         (taking (S.state side.new) uses.new) }
     ensures stays { X.says extras.new ≡ X.says extras.old }
     ensures set { X.directives extras.new ≡ X.directives extras.old }
 {
     let behind = steps.behind;
     let Some((step, front)) = steps.front.split_first() else {
-        return run_others(walk, behind, uses, extras, side, room);
+        return run_dns64(walk, behind, uses, extras, side, room);
     };
     let rest = ChainRest { front, behind };
     match step {
@@ -66,15 +67,44 @@ pub fn run_front<'a, R: Wait, S: Side, X: Extras>(
                 plan,
                 walk.query,
                 ended,
-                &room.plugins.slot,
+                &room.walk.plugins.slot,
                 side,
             )
         }
-        FrontStep::Answers(plugin) => {
-            match front_answer(walk.alloc, plugin, walk.query, &mut room.plugins.slot)? {
-                Some(ended) => Ok(ended),
-                None => run_front(walk, rest, uses, extras, side, room),
-            }
+    }
+}
+
+/// Runs what is left of a chain behind `dns64`: its plugins in front of a cache, plugins of others
+/// where these end, and then a cache, and what stands behind it. The slot is clear.
+pub fn run_middle<'a, R: Wait, S: Side, X: Extras>(
+    walk: &Walk<'_, R>,
+    steps: MiddleRest<'a>,
+    uses: &mut BlockUses,
+    extras: &mut X,
+    side: &mut S,
+    room: &mut WalkRoom,
+) -> Result<Ended<'a>, NoMemory>
+    requires clear { room.old.plugins.slot ≡ no_answer }
+    requires used { IsUsed steps.behind.now uses.old }
+    ensures same { SameUses uses.old uses.new }
+    ensures takes { TakesBy
+        (numbers_in (inner_of steps.entry.behind.now) walk.now.query.now)
+        (mean (map middle_of steps.entry.middle.now
+        ++ others_of (X.says extras.old) steps.entry.behind.now) walk.now.query.now)
+        (decided result room.new.plugins.slot) (taking (S.state side.old) uses.old)
+        (taking (S.state side.new) uses.new) }
+    ensures stays { X.says extras.new ≡ X.says extras.old }
+    ensures set { X.directives extras.new ≡ X.directives extras.old }
+{
+    let behind = steps.behind;
+    let Some((plugin, middle)) = steps.middle.split_first() else {
+        return run_others(walk, behind, uses, extras, side, room);
+    };
+    match front_answer(walk.alloc, plugin, walk.query, &mut room.plugins.slot)? {
+        Some(ended) => Ok(ended),
+        None => {
+            let rest = MiddleRest { middle, behind };
+            run_middle(walk, rest, uses, extras, side, room)
         }
     }
 }
@@ -94,8 +124,7 @@ fn run_others<'a, R: Wait, S: Side, X: Extras>(
     requires used { IsUsed chain.now uses.old }
     ensures same { SameUses uses.old uses.new }
     ensures takes { TakesBy (numbers_in (inner_of chain.now) walk.now.query.now)
-        (mean (others_steps (X.says extras.old) chain.now.cache chain.now.rewrites
-        chain.now.back) walk.now.query.now)
+        (mean (others_of (X.says extras.old) chain.now) walk.now.query.now)
         (decided result room.new.plugins.slot) (taking (S.state side.old) uses.old)
         (taking (S.state side.new) uses.new) }
     ensures stays { X.says extras.new ≡ X.says extras.old }

@@ -16,6 +16,7 @@ ghost use Rattle.chain_build.specs.Reading.{check_behind};
 ghost use Rattle.chain_build.specs.declared.fault.CheckFault.TheVariants as fault;
 ghost use Rattle.chain_meaning.specs.declared.refusal.Refusal.TheVariants as refusal;
 
+use crate::earlier::{Earlier, Sources};
 use crate::fault::CheckFault;
 use crate::judges::Judges;
 use acl_plugin::AclPlan;
@@ -25,6 +26,7 @@ use corefile_blocks::{file_of, file_word, hosts_word};
 use dns_data::{
     Block, BlockKey, Copies, Directive, Directives, FileText, Names, NoMemory, Seq, Text,
 };
+use dns64_plugin::Dns64Plan;
 use file_plugin::{FileFault, FilePlan};
 use forward_plugin::ForwardPlan;
 use hosts_plugin::HostsPlan;
@@ -40,6 +42,7 @@ use template_plugin::TemplatePlan;
 pub struct Places {
     pub errors: bool,
     pub logs: Seq<PlainPlan>,
+    pub dns64: Option<Dns64Plan>,
     pub acls: Seq<AclPlan>,
     pub any: bool,
     /// The directives of extras.
@@ -56,14 +59,15 @@ pub struct Places {
     pub patterns: usize,
 }
 
-/// A directive, and what it is read in: the zones of its block's keys, the files of the bundle, and
-/// the directives of the block that stand before it.
+/// A directive, and what it is read in: the zones of its block's keys, the files of the bundle, the
+/// directives of the block that stand before it, and what was read before of another bundle.
 #[derive(Clone, Copy)]
 pub(crate) struct Reading<'a> {
     pub zones: &'a Names,
     pub files: &'a [FileText],
     pub before: &'a [Directive],
     pub directive: &'a Directive,
+    pub earlier: &'a Earlier<'a>,
 }
 
 impl Places {
@@ -74,6 +78,7 @@ impl Places {
         Places {
             errors: false,
             logs: Seq::new(alloc),
+            dns64: None,
             acls: Seq::new(alloc),
             any: false,
             extras: Seq::new(alloc),
@@ -90,17 +95,17 @@ impl Places {
 }
 
 /// Reads the directives of a block in a bundle with these files, behind so many patterns.
-pub fn read_block<J: Judges, M: PatternMaker>(
+pub(crate) fn read_block<J: Judges, M: PatternMaker>(
     alloc: Global,
     judges: &J,
     patterns: usize,
-    files: &[FileText],
+    sources: &Sources<'_>,
     block: &Block,
     maker: &mut M,
 ) -> Result<Places, CheckFault>
-    requires { All HasShortBytes files.now }
+    requires { All HasShortBytes sources.now.files.now }
     ensures reads { ReadsBlock (brought_of (J.named judges.now) (J.taken judges.now)) patterns
-        files.now block.now (M.last maker.new) result }
+        sources.now.files.now block.now (M.last maker.new) result }
     ensures maker { M.state maker.new ≡ check_behind result (M.state maker.old) }
 {
     let zones = key_zones(alloc, block.keys.as_slice())?;
@@ -109,9 +114,10 @@ pub fn read_block<J: Judges, M: PatternMaker>(
     for (index, directive) in all.iter().enumerate() {
         let reading = Reading {
             zones: &zones,
-            files,
+            files: sources.files,
             before: &all[..index],
             directive,
+            earlier: sources.earlier,
         };
         read_more(alloc, judges, &reading, maker, &mut places)?;
     }
@@ -205,7 +211,8 @@ fn read_rewrite<M: PatternMaker>(
         (context_at reading.now) reading.now.directive.now places.old) }
     ensures maker { M.state maker.new ≡ check_behind result (M.state maker.old) }
 {
-    match RewritePlan::read(alloc, reading.directive, places.patterns, maker) {
+    let there = reading.earlier.patterns.as_slice();
+    match RewritePlan::reread(alloc, there, reading.directive, places.patterns, maker) {
         Ok(plan) => {
             let count = plan.pattern_count();
             places.rewrites.push(plan)?;
@@ -229,7 +236,15 @@ fn read_template<M: PatternMaker>(
     ensures maker { M.state maker.new ≡ check_behind result (M.state maker.old) }
 {
     let zones = reading.zones;
-    match TemplatePlan::read(alloc, reading.directive, zones, places.patterns, maker) {
+    let there = reading.earlier.patterns.as_slice();
+    match TemplatePlan::reread(
+        alloc,
+        there,
+        reading.directive,
+        zones,
+        places.patterns,
+        maker,
+    ) {
         Ok(plan) => {
             let count = plan.pattern_count();
             places.templates.push(plan)?;
@@ -315,8 +330,26 @@ fn read_as(
                 }
                 Err(fault) => Err(refused(fault)),
             },
-        Rank::Dns64 | Rank::Extra => Err(unknown(reading.directive)),
+        Rank::Dns64 => read_dns64(alloc, reading, places),
+        Rank::Extra => Err(unknown(reading.directive)),
         Rank::Rewrite | Rank::Template => unreachable!(),
+    }
+}
+
+// Reads a directive `dns64`. Nothing but its own words matters to it. The first of a block counts;
+// another one is refused before.
+fn read_dns64(alloc: Global, reading: &Reading<'_>, places: &mut Places) -> Result<(), CheckFault>
+    ensures { ReadsAs rank.Dns64 (behind_at reading.now places.old) reading.now.directive.now
+        places.old places.new result }
+{
+    match Dns64Plan::read(alloc, reading.directive) {
+        Ok(plan) => {
+            if places.dns64.is_none() {
+                places.dns64 = Some(plan);
+            }
+            Ok(())
+        }
+        Err(fault) => Err(refused(fault)),
     }
 }
 
@@ -344,7 +377,8 @@ fn read_hosts(alloc: Global, reading: &Reading<'_>, places: &mut Places) -> Resu
 {
     let directive = reading.directive;
     let file = file_of(reading.files, hosts_word(directive.args.as_slice()));
-    match HostsPlan::read(alloc, directive, reading.zones, file) {
+    let last = reading.earlier.hosts.as_slice();
+    match HostsPlan::reread(alloc, last, directive, reading.zones, file) {
         Ok(plan) => {
             places.hosts.push(plan)?;
             Ok(())
@@ -376,8 +410,9 @@ fn read_file(alloc: Global, reading: &Reading<'_>, places: &mut Places) -> Resul
 {
     let directive = reading.directive;
     let file = file_of(reading.files, file_word(directive.args.as_slice()));
-    match FilePlan::read(
+    match FilePlan::reread(
         alloc,
+        reading.earlier.files.as_slice(),
         directive,
         reading.zones,
         places.files.as_slice(),

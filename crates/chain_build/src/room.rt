@@ -1,7 +1,7 @@
 ghost use Rattle.std.specs.Prelude.{◌≡◌, []};
 ghost use Rattle.dns_data.specs.Message.{no_answer};
 
-use dns_data::{Buffer, Query, Slot};
+use dns_data::{Buffer, Query, RecordRoom, Slot};
 use outside::Kept;
 use rewrite_plugin::{Changed, RewriteRoom};
 use std::alloc::Global;
@@ -14,10 +14,21 @@ use template_plugin::TemplateRoom;
 pub struct Room {
     pub query: Query,
     pub reply: Buffer,
+    pub front: FrontRoom,
+}
+
+/// What `dns64` writes in, and what the walk behind it does.
+#[derive(Drop)]
+pub struct FrontRoom {
+    /// The query that the rest is asked in place of the client's.
+    pub second: Query,
+    /// Changes places with the slot's answer.
+    pub spare: RecordRoom,
     pub walk: WalkRoom,
 }
 
-/// What the walk through a chain writes in. It keeps nothing that the next query reads.
+/// What the walk through a chain behind `dns64` writes in. It keeps nothing that the next query
+/// reads.
 #[derive(Drop)]
 pub struct WalkRoom {
     /// The query behind the rules of `rewrite`.
@@ -51,14 +62,18 @@ impl PluginRoom {
 impl Room {
     pub fn new(alloc: Global) -> Room
         ensures reply { result.reply ≡ [] }
-        ensures slot { result.walk.plugins.slot ≡ no_answer }
+        ensures slot { result.front.walk.plugins.slot ≡ no_answer }
     {
         Room {
             query: Query::blank(alloc),
             reply: Buffer::new(alloc),
-            walk: WalkRoom {
-                changed: Changed::new(alloc),
-                plugins: PluginRoom::new(alloc),
+            front: FrontRoom {
+                second: Query::blank(alloc),
+                spare: RecordRoom::new(alloc),
+                walk: WalkRoom {
+                    changed: Changed::new(alloc),
+                    plugins: PluginRoom::new(alloc),
+                },
             },
         }
     }

@@ -1,5 +1,5 @@
 ghost use Rattle.dns_data.specs.declared.limit.TheConstants as limits;
-ghost use Rattle.std.specs.Prelude.{◌≡◌, ◌≤◌, ◌<◌, List, [], Some, None, length};
+ghost use Rattle.std.specs.Prelude.{◌≡◌, ◌≤◌, ◌<◌, ℕ, List, [], Some, None, length};
 ghost use Rattle.std.specs.Prelude.{IfNone, IfOk, IfSome, IsTrue, IsFalse};
 ghost use Rattle.std.specs.Prelude.{option_map, slice_get};
 ghost use Rattle.dns_data.specs.Message.{AreCodes, no_answer};
@@ -8,15 +8,15 @@ ghost use Rattle.dns_write.specs.Assembled.{message_of};
 ghost use Rattle.dns_write.specs.Writes.{Writes};
 ghost use Rattle.outside.specs.Meanings.{Done};
 ghost use Rattle.outside.specs.declared.mark.Mark.{Mark};
-ghost use Rattle.chain_meaning.specs.Called.{call_places, numbers_in, places_in};
+ghost use Rattle.chain_meaning.specs.CallsByRun.{chain_calls, turn_calls};
 ghost use Rattle.chain_meaning.specs.Mean.{nothing};
 ghost use Rattle.chain_meaning.specs.Serving.{answer_in, block_of, chain_decides};
 ghost use Rattle.chain_meaning.specs.Serving.{query_decides, query_of};
 ghost use Rattle.chain_meaning.specs.Steps.{steps_of};
 ghost use Rattle.chain_meaning.specs.declared.decision.Decision.TheVariants as decision;
-ghost use Rattle.chain_build.specs.LoggedWalks.{TakesAt, TakesBy, serving, taking};
+ghost use Rattle.chain_build.specs.LoggedWalks.{TakesAt, TakesCalls, chain_runs, serving, taking};
 ghost use Rattle.chain_build.specs.Logs.{held_log, shape_of};
-ghost use Rattle.chain_build.specs.Plans.{inner_of, steps_in};
+ghost use Rattle.chain_build.specs.Plans.{heads_in, inner_of, steps_in};
 ghost use Rattle.chain_build.specs.Workers.{chain_identity, chain_log, server_in, server_of};
 ghost use Rattle.chain_build.specs.Replying.{Finishes, TellsServing};
 ghost use Rattle.chain_build.specs.Replying.{lent_of, whole_answer, whole_message};
@@ -38,7 +38,7 @@ use crate::extras::NoExtras;
 use crate::front::run_front;
 use crate::held::Held;
 use crate::plans::Plans;
-use crate::room::{Room, WalkRoom};
+use crate::room::{FrontRoom, Room, WalkRoom};
 use crate::walk::Walk;
 use chain_meaning::{Served, Silence, number};
 use dns_data::{Buffer, NoMemory, Query, Slot, class, rcode};
@@ -137,11 +137,11 @@ fn reply<R: Wait, B: Rulebook, E: Extra, S: Side>(
     let (alloc, datagram) = (arrived.alloc, arrived.datagram);
     plans.tell();
     fill_query(&mut room.query, datagram, beside);
-    let slot = &mut room.walk.plugins.slot;
+    let slot = &mut room.front.walk.plugins.slot;
     let Some(found) = chain_for(&room.query, beside, plans, slot) else {
         return finish_apart(alloc, datagram, beside, Ended::Reply, room);
     };
-    match try_chain::<B>(alloc, found.1, &room.query, &mut room.walk) {
+    match try_chain::<B>(alloc, found.1, &room.query, &mut room.front.walk) {
         Ok(Some(ended)) => finish(alloc, datagram, beside, ended, room),
         Ok(None) => {
             let walk = Walk {
@@ -149,7 +149,7 @@ fn reply<R: Wait, B: Rulebook, E: Extra, S: Side>(
                 alloc,
                 query: &room.query,
             };
-            match run_found(&walk, plans, found, held, side, &mut room.walk) {
+            match run_found(&walk, plans, found, held, side, &mut room.front) {
                 Ok(ended) => finish_apart(alloc, datagram, beside, ended, room),
                 Err(NoMemory) => Served::NoMemory,
             }
@@ -170,7 +170,7 @@ fn finish_apart(
     requires asked { room.old.query ≡ query_of datagram.now
         (asked_by room.old.query.name beside) }
     ensures { Finishes datagram.now (asked_by room.old.query.name beside)
-        (decision_of ended.entry room.old.walk.plugins.slot) result }
+        (decision_of ended.entry room.old.front.walk.plugins.slot) result }
 {
     finish(alloc, datagram, beside, ended, room)
 }
@@ -187,13 +187,13 @@ fn finish(
     requires asked { room.old.query ≡ query_of datagram.now
         (asked_by room.old.query.name beside) }
     ensures { Finishes datagram.now (asked_by room.old.query.name beside)
-        (decision_of ended.entry room.old.walk.plugins.slot) result }
+        (decision_of ended.entry room.old.front.walk.plugins.slot) result }
 {
-    if !settle(ended, &mut room.walk.plugins.slot) {
+    if !settle(ended, &mut room.front.walk.plugins.slot) {
         return Served::Silent(Silence::Dropped);
     }
     let free = room.take_reply(alloc);
-    let (class, slot) = (beside.class, &room.walk.plugins.slot);
+    let (class, slot) = (beside.class, &room.front.walk.plugins.slot);
     let opt = opt_reply(upper_code(beside.opt), beside.opt);
     let parts = reply_message(beside.id, class, opt, &room.query, slot);
     let limit = limit_of(datagram.by, beside.opt);
@@ -283,9 +283,9 @@ fn chain_for<'a, B: Rulebook>(
         plans.now.blocks query.now left
         ≡ chain_decides (steps_in B.said found.1.now) query.now left) }
     ensures clear { IfSome result (λ found. slot.new ≡ no_answer) }
-    ensures places { IfSome result (λ found.
-        call_places (steps_of B.said plans.now.bundle.files) plans.now.blocks query.now
-        ≡ places_in (steps_in B.said found.1.now) found.0 query.now) }
+    ensures calls { IfSome result (λ found. (serial : ℕ) → (marks : List Mark)
+        → turn_calls (steps_of B.said plans.now.bundle.files) plans.now.blocks serial query.now
+        marks ≡ chain_calls (steps_in B.said found.1.now) serial found.0 query.now marks) }
     ensures extras { IfSome result
         (λ found. slice_get plans.now.extras found.0 ≡ Some found.1.now.extras) }
     ensures chain { IfSome result (λ found. slice_get plans.now.chains found.0
@@ -314,9 +314,9 @@ fn chain_of<'a, B: Rulebook>(plans: &'a Plans<B>, query: &Query) -> Option<(usiz
     ensures steps { option_map (λ found. steps_in B.said found.1.now) result
         ≡ option_map (steps_of B.said plans.now.bundle.files)
         (block_of plans.now.blocks query.now) }
-    ensures places { IfSome result (λ found.
-        call_places (steps_of B.said plans.now.bundle.files) plans.now.blocks query.now
-        ≡ places_in (steps_in B.said found.1.now) found.0 query.now) }
+    ensures calls { IfSome result (λ found. (serial : ℕ) → (marks : List Mark)
+        → turn_calls (steps_of B.said plans.now.bundle.files) plans.now.blocks serial query.now
+        marks ≡ chain_calls (steps_in B.said found.1.now) serial found.0 query.now marks) }
     ensures extras { IfSome result
         (λ found. slice_get plans.now.extras found.0 ≡ Some found.1.now.extras) }
     ensures chain { IfSome result (λ found. slice_get plans.now.chains found.0
@@ -348,7 +348,7 @@ fn try_chain<'a, B: Rulebook>(
     if chain.extras.len() > 0 {
         return Ok(None);
     }
-    if chain.front.len() > 0 {
+    if has_head(chain) {
         return Ok(None);
     }
     if chain.rewrites.len() > 0 || chain.back.len() > 0 {
@@ -365,16 +365,17 @@ fn run_found<'a, R: Wait, B: Rulebook, E: Extra, S: Side>(
     found: (usize, &'a BlockChain),
     held: &mut Held<B, E>,
     side: &mut S,
-    room: &mut WalkRoom,
+    room: &mut FrontRoom,
 ) -> Result<Ended<'a>, NoMemory>
-    requires clear { room.old.plugins.slot ≡ no_answer }
+    requires clear { room.old.walk.plugins.slot ≡ no_answer }
     requires holds { IsHeld plans.now held.old }
     requires extras { slice_get plans.now.extras found.0 ≡ Some found.1.now.extras }
     requires chain { slice_get plans.now.chains found.0 ≡ Some found.1.now }
     ensures takes { TakesAt (shape_of plans.now held.old.serial)
-        (places_in (steps_in B.said found.entry.1.now) found.entry.0 walk.now.query.now)
+        (chain_calls (steps_in B.said found.entry.1.now) held.old.serial found.entry.0
+        walk.now.query.now)
         (chain_decides (steps_in B.said found.entry.1.now) walk.now.query.now)
-        (decided result room.new.plugins.slot)
+        (decided result room.new.walk.plugins.slot)
         (serving (S.state side.old) (held_log held.old.uses.items))
         (serving (S.state side.new) (held_log held.new.uses.items)) }
     ensures holds { IsHeld plans.now held.new }
@@ -385,23 +386,23 @@ fn run_found<'a, R: Wait, B: Rulebook, E: Extra, S: Side>(
     run_chain(walk, chain, seats, uses, side, room)
 }
 
-// Runs the chain of a block, which mostly has no extras and nothing in front. One without a step
-// refuses.
+// Runs the chain of a block, which mostly has no extras and nothing in front of these. One without
+// a step refuses.
 fn run_chain<'a, R: Wait, B: Rulebook, E: Extra, S: Side>(
     walk: &Walk<'_, R>,
     chain: &'a BlockChain,
     seats: &mut Seats<B, E>,
     uses: &mut BlockUses,
     side: &mut S,
-    room: &mut WalkRoom,
+    room: &mut FrontRoom,
 ) -> Result<Ended<'a>, NoMemory>
-    requires clear { room.old.plugins.slot ≡ no_answer }
+    requires clear { room.old.walk.plugins.slot ≡ no_answer }
     requires seated { seats.old ≡ chain.now.extras }
     requires used { IsUsed chain.now uses.old }
-    ensures takes { TakesBy
-        (numbers_in (steps_in B.said chain.now) walk.now.query.now)
+    ensures takes { TakesCalls
+        (chain_runs (steps_in B.said chain.now) walk.now.query.now)
         (chain_decides (steps_in B.said chain.now) walk.now.query.now)
-        (decided result room.new.plugins.slot) (taking (S.state side.old) uses.old)
+        (decided result room.new.walk.plugins.slot) (taking (S.state side.old) uses.old)
         (taking (S.state side.new) uses.new) }
     ensures seated { seats.new ≡ seats.old }
     ensures same { SameUses uses.old uses.new }
@@ -414,12 +415,27 @@ fn run_chain<'a, R: Wait, B: Rulebook, E: Extra, S: Side>(
     if 0 < chain.extras.len() {
         return run_front(walk, whole, uses, seats, side, room);
     }
-    if 0 < front.len() {
+    if has_head(chain) {
         return run_front(walk, whole, uses, &mut NoExtras, side, room);
     }
     if has_inner(chain) {
-        return run_inner(walk, chain, uses, side, room);
+        return run_inner(walk, chain, uses, side, &mut room.walk);
     }
-    set_code(&mut room.plugins.slot, rcode::REFUSED);
+    set_code(&mut room.walk.plugins.slot, rcode::REFUSED);
     Ok(Ended::Reply)
+}
+
+// Whether a chain has steps in front of its extras.
+#[inline(always)]
+fn has_head(chain: &BlockChain) -> bool
+    ensures some { IsTrue result → 0 < length (heads_in chain.now) }
+    ensures none { IsFalse result → heads_in chain.now ≡ [] }
+{
+    if chain.front.len() > 0 {
+        return true;
+    }
+    if chain.dns64.is_some() {
+        return true;
+    }
+    chain.middle.len() > 0
 }

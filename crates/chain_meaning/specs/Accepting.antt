@@ -18,6 +18,7 @@ use Rattle.file_plugin.specs.declared.fault.FileFault.{FileFault}
 use Rattle.file_plugin.specs.declared.fault.FileFault.TheVariants as file
 use Rattle.acl_plugin.specs.{acl_fault}
 use Rattle.cache_rules.specs.{cache_fault}
+use Rattle.dns64_plugin.specs.{dns64_fault}
 use Rattle.forward_plugin.specs.{forward_fault}
 use Rattle.hosts_plugin.specs.{hosts_fault}
 use Rattle.pattern_judging.specs.{IsFault, IsWell, Judgement, Task}
@@ -104,7 +105,7 @@ fixed_refusal rank.Hosts b d = refused_by (hosts_fault d b.context.zones)
 fixed_refusal rank.File b d =
     refused_by_file
     (file_fault (file_plans b.context b.before) d b.context.zones (file_in b.context.files d))
-fixed_refusal rank.Dns64 b d = Some (refusal.Unknown d.line)
+fixed_refusal rank.Dns64 b d = refused_by (dns64_fault d)
 fixed_refusal rank.Extra b d = Some (refusal.Unknown d.line)
 fixed_refusal rank.Cache b d = refused_by (cache_fault d b.context.zones)
 fixed_refusal rank.Forward b d = refused_by (forward_fault d b.context.files)

@@ -53,10 +53,11 @@ use Rattle.chain_meaning.specs.declared.decision.Decision.TheVariants as decisio
 use Rattle.chain_meaning.specs.Causes.{AskedCause, HasCause, IsServFail, answer_cause, block_cause, chain_cause, forward_cause, hosts_cause, others_cause, rest_alone, template_cause}
 use Rattle.chain_meaning.specs.CacheCauseLaws.{cache_fails, cache_gives}
 use Rattle.chain_meaning.specs.GivesLaws.{Gives, GivesAt, gives_as, gives_from, gives_if, gives_onward, if_same}
+use Rattle.chain_meaning.specs.TranslatingCauseLaws.{dns64_fails, dns64_gives}
 use Rattle.chain_meaning.specs.Serving.{asked_decides, block_decides, block_of, chain_decides, class_decides, is_known_version, query_of, refused}
 use Rattle.chain_meaning.specs.Mean.{acl_answer, answer_of, any_answer, error_noted, forward_answered, hosts_answer, mean, nothing, or_rest, outcome_of, query_noted, reply_restored, restored_in, rule, take_note, template_answer}
-use Rattle.chain_meaning.specs.Steps.{Answerer, Acl, Any, Template, Hosts, File, Forward, Whoami, Step, Errors, Log, Cache, Rewrite, Answers, Others}
-use Rattle.chain_meaning.specs.Steps.{acl_steps, back_steps, cache_plan, cache_steps, context_of, extra_steps, extras_of, file_plans, file_steps, forward_plans, forward_steps, front_steps, hosts_plans, hosts_steps, key_zones, log_steps, plans_of, rewrite_steps, some_has, steps_of, template_steps}
+use Rattle.chain_meaning.specs.Steps.{Answerer, Acl, Any, Template, Hosts, File, Forward, Whoami, Step, Errors, Log, Dns64, Cache, Rewrite, Answers, Others}
+use Rattle.chain_meaning.specs.Steps.{acl_steps, back_steps, cache_plan, cache_steps, context_of, dns64_in, dns64_steps, extra_steps, extras_of, file_plans, file_steps, forward_plans, forward_steps, front_steps, hosts_plans, hosts_steps, key_zones, log_steps, plans_of, rewrite_steps, some_has, steps_of, template_steps}
 
 -- a decision has a cause where it is SERVFAIL
 abbrev IsCaused : List Step → Query → List Mark → Decision → Type 0
@@ -222,29 +223,30 @@ rest_gives cause below rest q gives (Some v) left is = is
 rest_gives cause below rest q gives None left is =
     gives_as (λ v. IsServFail v → below left v) (λ v. IsServFail v → cause (λ marks. below marks v) v) (λ v h fails. is v (h fails)) (rest q left) (gives left)
 
-rule_gives : (step : Step) (steps : List Step) (rest : Query → List Mark → Meaning Decision) → ((q : Query) (marks : List Mark) → Gives (IsCaused steps q marks) (rest q marks)) → (q : Query) (marks : List Mark)
-    → Gives (IsCaused (step ∷ steps) q marks) (rule step rest q marks)
+rule_gives : (step : Step) (steps : List Step) → ((q : Query) (marks : List Mark) → Gives (IsCaused steps q marks) (mean steps q marks)) → (q : Query) (marks : List Mark)
+    → Gives (IsCaused (step ∷ steps) q marks) (rule step (mean steps) q marks)
 unfolding rule
-rule_gives Errors steps rest gives q marks =
-    gives_onward (IsCaused steps q marks) (IsCaused (Errors ∷ steps) q marks) (rest q marks) (error_noted q) (gives q marks) (errors_give (IsCaused (Errors ∷ steps) q marks) q)
-rule_gives (Log plan) steps rest gives q marks =
-    gives_onward (IsCaused steps q marks) (IsCaused (Log plan ∷ steps) q marks) (rest q marks) (query_noted plan q) (gives q marks)
+rule_gives Errors steps gives q marks =
+    gives_onward (IsCaused steps q marks) (IsCaused (Errors ∷ steps) q marks) (mean steps q marks) (error_noted q) (gives q marks) (errors_give (IsCaused (Errors ∷ steps) q marks) q)
+rule_gives (Log plan) steps gives q marks =
+    gives_onward (IsCaused steps q marks) (IsCaused (Log plan ∷ steps) q marks) (mean steps q marks) (query_noted plan q) (gives q marks)
     (λ v is left. if_noted (IsCaused (Log plan ∷ steps) q marks) (is_in q.name (plain_zones plan)) (log_line q (outcome_of v)) v is left)
-rule_gives (Cache plan) steps rest gives q marks = cache_gives (λ left v. HasCause steps q left v) rest plan q (gives q) marks
-rule_gives (Rewrite ds) steps rest gives q marks =
+rule_gives (Dns64 d) steps gives q marks = dns64_gives (λ p left w. HasCause steps p left w) (mean steps) d q gives marks
+rule_gives (Cache plan) steps gives q marks = cache_gives (λ left v. HasCause steps q left v) (mean steps) plan q (gives q) marks
+rule_gives (Rewrite ds) steps gives q marks =
     let changed = changed_by ds q in
-    gives_onward (IsCaused steps changed.query marks) (IsCaused (Rewrite ds ∷ steps) q marks) (rest changed.query marks) (reply_restored ds changed) (gives changed.query marks)
+    gives_onward (IsCaused steps changed.query marks) (IsCaused (Rewrite ds ∷ steps) q marks) (mean steps changed.query marks) (reply_restored ds changed) (gives changed.query marks)
     (λ v is left fails. record { rest = v; cause = is (unrestored_fails ds changed v fails); is = refl })
-rule_gives (Answers plugin) steps rest gives q marks =
-    gives_from (Answered (answer_cause plugin q marks) (HasCause steps q)) (IsCaused (Answers plugin ∷ steps) q marks) (answer_of plugin q marks) (or_rest rest q) (answers_give plugin (HasCause steps q) q marks)
-    (rest_gives (answer_cause plugin q marks) (HasCause steps q) rest q (gives q))
-rule_gives (Others says) steps rest gives q marks =
-    rest_gives (λ below. others_cause (says q) (below marks)) (HasCause steps q) rest q (gives q) (says q) marks (others_answered (HasCause steps q) marks (says q))
+rule_gives (Answers plugin) steps gives q marks =
+    gives_from (Answered (answer_cause plugin q marks) (HasCause steps q)) (IsCaused (Answers plugin ∷ steps) q marks) (answer_of plugin q marks) (or_rest (mean steps) q) (answers_give plugin (HasCause steps q) q marks)
+    (rest_gives (answer_cause plugin q marks) (HasCause steps q) (mean steps) q (gives q))
+rule_gives (Others says) steps gives q marks =
+    rest_gives (λ below. others_cause (says q) (below marks)) (HasCause steps q) (mean steps) q (gives q) (says q) marks (others_answered (HasCause steps q) marks (says q))
 
 mean_gives : (steps : List Step) (q : Query) (marks : List Mark) → Gives (IsCaused steps q marks) (mean steps q marks)
 unfolding mean
 mean_gives [] q marks = λ fails. refl
-mean_gives (step ∷ steps) q marks = rule_gives step steps (mean steps) (mean_gives steps) q marks
+mean_gives (step ∷ steps) q marks = rule_gives step steps (mean_gives steps) q marks
 
 -- and a decision that has a cause is SERVFAIL
 alone_fails : (o : Option Decision) (rest : Type 0) (v : Decision) → (rest → IsServFail v) → rest_alone o rest v → IsServFail v
@@ -286,6 +288,7 @@ cause_fails : (steps : List Step) (q : Query) (marks : List Mark) (v : Decision)
 cause_fails [] q marks v h = subst IsServFail (sym h) refl
 cause_fails (Errors ∷ steps) q marks v h = cause_fails steps q marks v h
 cause_fails (Log plan ∷ steps) q marks v h = cause_fails steps q marks v h
+cause_fails (Dns64 d ∷ steps) q marks v h = dns64_fails (λ p left w. HasCause steps p left w) d q marks v (λ p left w. cause_fails steps p left w) (mean steps q marks) h
 cause_fails (Cache plan ∷ steps) q marks v h = cache_fails (λ left v. HasCause steps q left v) plan q v (λ left v. cause_fails steps q left v) marks h
 cause_fails (Rewrite ds ∷ steps) q marks v h =
     subst IsServFail (sym h.is) (restored_fails ds (changed_by ds q) h.rest (cause_fails steps (changed_by ds q).query marks h.rest h.cause))
@@ -335,6 +338,7 @@ abbrev pub IsOwn : Step → Type 0
 IsOwn (Others says) = ⊥
 IsOwn Errors = Unit {0}
 IsOwn (Log plan) = Unit {0}
+IsOwn (Dns64 d) = Unit {0}
 IsOwn (Cache plan) = Unit {0}
 IsOwn (Rewrite ds) = Unit {0}
 IsOwn (Answers plugin) = Unit {0}
@@ -354,6 +358,10 @@ own_if false steps p = tt
 own_logs : (plans : List PlanData) → AreOwn (log_steps plans)
 own_logs [] = tt
 own_logs (plan ∷ plans) = (tt, own_logs plans)
+
+own_dns64 : (o : Option Directive) → AreOwn (dns64_steps o)
+own_dns64 None = tt
+own_dns64 (Some d) = (tt, tt)
 
 own_acls : (plans : List PlanData) → AreOwn (acl_steps plans)
 own_acls [] = tt
@@ -393,8 +401,9 @@ own_steps said files block none =
     own_append (front_steps zones ds) (extra_steps said (extras_of ds) ++ (cache_steps (cache_plan zones ds) ++ back_steps context ds))
     (own_append _ _ (own_if (some_has rank.Errors ds) (Errors ∷ []) (tt, tt))
     (own_append _ _ (own_logs (plans_of rank.Log zones ds))
+    (own_append _ _ (own_dns64 (dns64_in ds))
     (own_append _ _ (own_acls (plans_of rank.Acl zones ds))
-    (own_if (some_has rank.Any ds) (Answers Any ∷ []) (tt, tt)))))
+    (own_if (some_has rank.Any ds) (Answers Any ∷ []) (tt, tt))))))
     (own_append _ _ (subst (λ es. AreOwn (extra_steps said es)) (sym none) tt)
     (own_append _ _ (own_cache (cache_plan zones ds))
     (own_append _ _ (own_rewrites _)

@@ -25,11 +25,12 @@ use Rattle.template_plugin.specs.{Said as TemplateSaid, template_say}
 use Rattle.template_plugin.specs.Template as template
 use Rattle.chain_meaning.specs.declared.decision.Decision.{Decision}
 use Rattle.chain_meaning.specs.declared.decision.Decision.TheVariants as decision
-use Rattle.chain_meaning.specs.Mean.{acl_answer, any_answer, number, restored_in}
+use Rattle.chain_meaning.specs.Mean.{acl_answer, any_answer, mean, number, restored_in}
 use Rattle.chain_meaning.specs.Serving.{block_of, is_known_version, query_of}
 use Rattle.chain_meaning.specs.Steps.{Answerer, Acl, Any, Template, Hosts, File, Forward, Whoami}
 use Rattle.chain_meaning.specs.CacheCauses.{cache_cause}
-use Rattle.chain_meaning.specs.Steps.{Step, Errors, Log, Cache, Rewrite, Answers, Others}
+use Rattle.chain_meaning.specs.Steps.{Step, Errors, Log, Dns64, Cache, Rewrite, Answers, Others}
+use Rattle.chain_meaning.specs.TranslatingCauses.{dns64_cause}
 
 -- the RCODE of a decision is SERVFAIL
 abbrev pub IsServFail : Decision → Type 0
@@ -97,6 +98,8 @@ abbrev pub HasCause : List Step → Query → List Mark → Decision → Type 0
 HasCause [] q marks v = v ≡ decision.Code code.ServFail cause.EndOfChain
 HasCause (Errors ∷ steps) q marks v = HasCause steps q marks v
 HasCause (Log plan ∷ steps) q marks v = HasCause steps q marks v
+HasCause (Dns64 d ∷ steps) q marks v =
+    dns64_cause (λ p left w. HasCause steps p left w) d q marks v (mean steps q marks)
 HasCause (Cache plan ∷ steps) q marks v =
     cache_cause (λ left v. HasCause steps q left v) plan q v marks
 HasCause (Rewrite ds ∷ steps) q marks v =

@@ -2,16 +2,24 @@ pub mod RefusalTexts
 pub mod Steps
 pub mod Grounds
 pub mod Caching
+pub mod Translating
+pub mod TranslatingNothingLaws
 pub mod Mean
 pub mod MeanLaws
 pub mod Accepting
 pub mod AcceptingLaws
 pub mod Serving
 pub mod CacheCauses
+pub mod TranslatingCauses
 pub mod Causes
 pub mod GivesLaws
 pub mod CacheCauseLaws
+pub mod TranslatingCauseLaws
 pub mod CauseLaws
+pub mod TranslatingCalls
+pub mod TranslatingCallsLaws
+pub mod CallsByRun
+pub mod CallsByRunLaws
 pub mod Called
 -- what public clauses cite
 pub use Rattle.chain_meaning.specs.Accepting.{IsAccepted, IsRefused, IsRefusedWith}

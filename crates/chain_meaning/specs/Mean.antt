@@ -37,7 +37,8 @@ use Rattle.chain_meaning.specs.declared.decision.Decision.{Decision}
 use Rattle.chain_meaning.specs.declared.decision.Decision.TheVariants as decision
 use Rattle.chain_meaning.specs.Steps.{Answerer, Acl, Any, Template, Hosts, File, Forward, Whoami}
 use Rattle.chain_meaning.specs.Caching.{cache_means}
-use Rattle.chain_meaning.specs.Steps.{Step, Errors, Log, Cache, Rewrite, Answers, Others}
+use Rattle.chain_meaning.specs.Steps.{Step, Errors, Log, Dns64, Cache, Rewrite, Answers, Others}
+use Rattle.chain_meaning.specs.Translating.{dns64_means}
 
 -- an RCODE without records
 abbrev pub nothing : ℕ → AnswerData
@@ -151,6 +152,7 @@ unfoldable pub rule : Step → (Query → List Mark → Meaning Decision) → Qu
     → Meaning Decision
 rule Errors rest q marks = onward (rest q marks) (error_noted q)
 rule (Log plan) rest q marks = onward (rest q marks) (query_noted plan q)
+rule (Dns64 d) rest q marks = dns64_means rest d q marks
 rule (Cache plan) rest q marks = cache_means rest plan q marks
 rule (Rewrite ds) rest q marks = rewritten rest ds (changed_by ds q) marks
 rule (Answers plugin) rest q marks = onward (answer_of plugin q marks) (or_rest rest q)

@@ -20,7 +20,9 @@ use Rattle.chain_meaning.specs.declared.decision.Decision.{Decision}
 use Rattle.chain_meaning.specs.declared.decision.Decision.TheVariants as decision
 use Rattle.chain_meaning.specs.Caching.{cache_means, cached}
 use Rattle.chain_meaning.specs.Mean.{answer_of, error_noted, forward_answered, mean, or_rest, outcome_of, query_noted, reply_restored, rewritten, rule, take_note}
-use Rattle.chain_meaning.specs.Steps.{Answerer, Acl, Any, Template, Hosts, File, Forward, Whoami, Step, Errors, Log, Cache, Rewrite, Answers, Others, extra_says, extra_steps}
+use Rattle.chain_meaning.specs.Translating.{dns64_means}
+use Rattle.chain_meaning.specs.TranslatingNothingLaws.{dns64_nothing}
+use Rattle.chain_meaning.specs.Steps.{Answerer, Acl, Any, Template, Hosts, File, Forward, Whoami, Step, Errors, Log, Dns64, Cache, Rewrite, Answers, Others, extra_says, extra_steps}
 
 pub mean-end : (q : Query) (marks : List Mark) → mean [] q marks ≡ Done (decision.Code code.ServFail cause.EndOfChain) marks
 unfolding mean
@@ -38,6 +40,10 @@ pub rule-log : (plan : PlanData) (rest : Query → List Mark → Meaning Decisio
     → rule (Log plan) rest q marks ≡ onward (rest q marks) (query_noted plan q)
 unfolding rule
 rule-log plan rest q marks = refl
+
+pub rule-dns64 : (d : Directive) (rest : Query → List Mark → Meaning Decision) (q : Query) (marks : List Mark) → rule (Dns64 d) rest q marks ≡ dns64_means rest d q marks
+unfolding rule
+rule-dns64 d rest q marks = refl
 
 pub rule-cache : (plan : PlanData) (rest : Query → List Mark → Meaning Decision) (q : Query) (marks : List Mark)
     → rule (Cache plan) rest q marks ≡ cache_means rest plan q marks
@@ -95,6 +101,7 @@ rule_nothing : (step : Step) (rest : Query → List Mark → Meaning Decision) (
 unfolding rule
 rule_nothing Errors rest q none = starved_onward (rest q []) (error_noted q) (none q) (error_nothing q)
 rule_nothing (Log plan) rest q none = starved_onward (rest q []) (query_noted plan q) (none q) (query_nothing plan q)
+rule_nothing (Dns64 d) rest q none = dns64_nothing rest d q none
 rule_nothing (Cache plan) rest q none = cache_nothing rest plan q (none q) (is_in q.name (cache_zones plan))
 rule_nothing (Rewrite ds) rest q none = starved_onward (rest (changed_by ds q).query []) (reply_restored ds (changed_by ds q)) (none (changed_by ds q).query) (λ v. refl)
 rule_nothing (Answers plugin) rest q none = starved_onward (answer_of plugin q []) (or_rest rest q) (answer_nothing plugin q) (or_rest_nothing rest q (none q))
@@ -116,14 +123,14 @@ or_both rest says q (Some v) marks = refl
 or_both rest says q None marks = refl
 
 -- one step for all extras of a block is as good as one for each
-together : (said : Sayings) (ds : List Directive) (back : List Step) → mean (Others (extras_say said ds) ∷ back) ≡ mean (extra_steps said ds ++ back)
+pub together : (said : Sayings) (ds : List Directive) (back : List Step) → mean (Others (extras_say said ds) ∷ back) ≡ mean (extra_steps said ds ++ back)
 unfolding mean rule
 together said [] back = refl
 together said (d ∷ ds) back =
     (λ i q marks. or_both (mean back) (extras_say said ds) q (extra_says said d q) marks i)
     ∙ (λ i q marks. or_rest (together said ds back i) q (extra_says said d q) marks)
 
-behind_front : (a b front : List Step) → mean a ≡ mean b → mean (front ++ a) ≡ mean (front ++ b)
+pub behind_front : (a b front : List Step) → mean a ≡ mean b → mean (front ++ a) ≡ mean (front ++ b)
 unfolding mean
 behind_front a b [] same = same
 behind_front a b (step ∷ front) same = λ i q marks. rule step (behind_front a b front same i) q marks

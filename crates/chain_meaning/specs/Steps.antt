@@ -40,6 +40,7 @@ pub data Answerer : Type 0 where
 pub data Step : Type 0 where
   Errors : Step
   Log : PlanData → Step
+  Dns64 : Directive → Step
   Cache : PlanData → Step
   Rewrite : List Directive → Step
   Answers : Answerer → Step
@@ -100,6 +101,10 @@ file_in files d = file_of (file_word d.args) files
 abbrev pub hosts_plan : Context → Directive → HostsData
 hosts_plan context d = hosts_data d context.zones (file_of (hosts_word d.args) context.files)
 
+-- the directive `dns64`, which stands once
+abbrev pub dns64_in : List Directive → Option Directive
+dns64_in directives = find (has_rank rank.Dns64) directives
+
 -- the plan of the directive `cache`, which stands once
 abbrev pub cache_plan : List (List (List ℕ)) → List Directive → Option PlanData
 cache_plan zones directives = option_map (plan_in zones) (find (has_rank rank.Cache) directives)
@@ -142,6 +147,10 @@ error_steps stands = if stands then Errors ∷ [] else []
 
 abbrev pub log_steps : List PlanData → List Step
 log_steps plans = map Log plans
+
+abbrev pub dns64_steps : Option Directive → List Step
+dns64_steps None = []
+dns64_steps (Some d) = Dns64 d ∷ []
 
 abbrev pub acl_steps : List PlanData → List Step
 acl_steps [] = []
@@ -190,8 +199,9 @@ abbrev pub front_steps : List (List (List ℕ)) → List Directive → List Step
 front_steps zones directives =
     error_steps (some_has rank.Errors directives)
     ++ (log_steps (plans_of rank.Log zones directives)
+    ++ (dns64_steps (dns64_in directives)
     ++ (acl_steps (plans_of rank.Acl zones directives)
-    ++ any_steps (some_has rank.Any directives)))
+    ++ any_steps (some_has rank.Any directives))))
 
 abbrev pub back_steps : Context → List Directive → List Step
 back_steps context directives =

@@ -9,13 +9,14 @@ use Rattle.file_plugin.specs.{FileData}
 use Rattle.hosts_plugin.specs.{HostsData}
 use Rattle.plugin_api.specs.{PlanData, Sayings}
 use Rattle.plugin_api.specs.declared.ranks.Rank.TheVariants as rank
-use Rattle.chain_meaning.specs.Steps.{Context, Step, acl_steps, any_steps, back_steps, block_extras, cache_plan, cache_steps, plan_in, context_of, error_steps, extra_steps, file_plans, file_steps, forward_plan, forward_plans, forward_steps, front_steps, has_rank, hosts_plans, hosts_steps, key_zones, log_steps, plans_of, rewrite_steps, some_has, steps_of, template_steps, whoami_steps}
-use Rattle.chain_build.specs.Compiled.{back_of, front_of}
-use Rattle.chain_build.specs.Plans.{steps_in}
+use Rattle.chain_meaning.specs.Steps.{Context, Step, acl_steps, any_steps, back_steps, block_extras, cache_plan, cache_steps, plan_in, context_of, dns64_in, dns64_steps, error_steps, extra_steps, file_plans, file_steps, forward_plan, forward_plans, forward_steps, front_steps, has_rank, hosts_plans, hosts_steps, key_zones, log_steps, plans_of, rewrite_steps, some_has, steps_of, template_steps, whoami_steps}
+use Rattle.chain_build.specs.Compiled.{back_of, front_of, middle_of}
+use Rattle.chain_build.specs.Plans.{heads_in, steps_in}
 use Rattle.chain_build.specs.Pools.{AsksNothing}
 use Rattle.chain_build.specs.declared.block.BlockChain.{BlockChain}
 use Rattle.chain_build.specs.declared.block_chain.BackAnswerer.{BackAnswerer}
 use Rattle.chain_build.specs.declared.block_chain.BackAnswerer.TheVariants as behind
+use Rattle.chain_build.specs.declared.block_chain.FrontAnswerer.{FrontAnswerer}
 use Rattle.chain_build.specs.declared.block_chain.FrontAnswerer.TheVariants as before
 use Rattle.chain_build.specs.declared.block_chain.FrontStep.{FrontStep}
 use Rattle.chain_build.specs.declared.block_chain.FrontStep.TheVariants as front
@@ -30,6 +31,10 @@ past_errors false rest = refl
 past_logs : (plans : List PlanData) (rest : List Step) → asks_upstreams (log_steps plans ++ rest) ≡ asks_upstreams rest
 past_logs [] rest = refl
 past_logs (plan ∷ plans) rest = past_logs plans rest
+
+past_dns64 : (o : Option Directive) (rest : List Step) → asks_upstreams (dns64_steps o ++ rest) ≡ asks_upstreams rest
+past_dns64 None rest = refl
+past_dns64 (Some d) rest = refl
 
 past_acls : (plans : List PlanData) (rest : List Step) → asks_upstreams (acl_steps plans ++ rest) ≡ asks_upstreams rest
 past_acls [] rest = refl
@@ -90,10 +95,12 @@ past_front : (zones : List (List (List ℕ))) (ds : List Directive) (rest : List
 past_front zones ds rest =
     let errors = error_steps (some_has rank.Errors ds) in
     let logs = log_steps (plans_of rank.Log zones ds) in
+    let dns64 = dns64_steps (dns64_in ds) in
     let acls = acl_steps (plans_of rank.Acl zones ds) in
     let any = any_steps (some_has rank.Any ds) in
-    ap asks_upstreams (append_assoc errors (logs ++ (acls ++ any)) rest) ∙ past_errors (some_has rank.Errors ds) ((logs ++ (acls ++ any)) ++ rest)
-    ∙ ap asks_upstreams (append_assoc logs (acls ++ any) rest) ∙ past_logs (plans_of rank.Log zones ds) ((acls ++ any) ++ rest)
+    ap asks_upstreams (append_assoc errors (logs ++ (dns64 ++ (acls ++ any))) rest) ∙ past_errors (some_has rank.Errors ds) ((logs ++ (dns64 ++ (acls ++ any))) ++ rest)
+    ∙ ap asks_upstreams (append_assoc logs (dns64 ++ (acls ++ any)) rest) ∙ past_logs (plans_of rank.Log zones ds) ((dns64 ++ (acls ++ any)) ++ rest)
+    ∙ ap asks_upstreams (append_assoc dns64 (acls ++ any) rest) ∙ past_dns64 (dns64_in ds) ((acls ++ any) ++ rest)
     ∙ ap asks_upstreams (append_assoc acls any rest) ∙ past_acls (plans_of rank.Acl zones ds) (any ++ rest)
     ∙ past_any (some_has rank.Any ds) rest
 
@@ -126,12 +133,21 @@ past_read : (steps : List FrontStep) (rest : List Step) → asks_upstreams (map 
 past_read [] rest = refl
 past_read (front.Errors ∷ steps) rest = past_read steps rest
 past_read (front.Log plan ∷ steps) rest = past_read steps rest
-past_read (front.Answers (before.Acl plans) ∷ steps) rest = past_read steps rest
-past_read (front.Answers before.Any ∷ steps) rest = past_read steps rest
+
+past_middle : (plugins : List FrontAnswerer) (rest : List Step) → asks_upstreams (map middle_of plugins ++ rest) ≡ asks_upstreams rest
+past_middle [] rest = refl
+past_middle (before.Acl plans ∷ plugins) rest = past_middle plugins rest
+past_middle (before.Any ∷ plugins) rest = past_middle plugins rest
+
+past_heads : (chain : BlockChain) (rest : List Step) → asks_upstreams (heads_in chain ++ rest) ≡ asks_upstreams rest
+past_heads chain rest =
+    ap asks_upstreams (append_assoc (map front_of chain.front) (dns64_steps chain.dns64 ++ map middle_of chain.middle) rest) ∙ past_read chain.front ((dns64_steps chain.dns64 ++ map middle_of chain.middle) ++ rest)
+    ∙ ap asks_upstreams (append_assoc (dns64_steps chain.dns64) (map middle_of chain.middle) rest) ∙ past_dns64 chain.dns64 (map middle_of chain.middle ++ rest)
+    ∙ past_middle chain.middle rest
 
 pub chain-asks : (said : Sayings) (chain : BlockChain) → asks_upstreams (steps_in said chain) ≡ asks_outside chain
 chain-asks said chain =
-    past_read chain.front _ ∙ past_extras said chain.extras _ ∙ past_cache chain.cache _ ∙ ap (λ (b : Bool). is_some chain.cache || b) (past_rules chain.rewrites (map back_of chain.back))
+    past_heads chain _ ∙ past_extras said chain.extras _ ∙ past_cache chain.cache _ ∙ ap (λ (b : Bool). is_some chain.cache || b) (past_rules chain.rewrites (map back_of chain.back))
 
 -- without either a chain has no cache, and asks nothing behind one
 pub no-cache : (cache : Option PlanData) (b : Bool) → (is_some cache || b) ≡ false → cache ≡ None

@@ -1,7 +1,8 @@
 -- Of which block a query goes through the chain, and what a chain without a step decides.
-use Rattle.std.proofs.Common.{◌≡◌, ◌<◌, ◌≤◌, ℕ, true, false, nat_eq, nat_lt, Err, List, [], ◌∷◌, ◌++◌, map, length, Option, Some, None, option_map, slice_get, refl, sym, ap, ◌∙◌, arith}
+use Rattle.std.proofs.Common.{◌≡◌, ◌<◌, ◌≤◌, ℕ, ◌+◌, true, false, nat_eq, nat_lt, Err, List, [], ◌∷◌, ◌++◌, map, length, Option, Some, None, option_map, slice_get, refl, sym, ap, ◌∙◌, append_assoc, arith}
 use Rattle.std.proofs.lemmas.Bool.{lt-ltb}
-use Rattle.std.specs.Prelude.{Bool, ◌&&◌, option_and_then}
+use Rattle.std.proofs.lemmas.List.{length-append, length-map}
+use Rattle.std.specs.Prelude.{Bool, ◌&&◌, is_some, option_and_then}
 use Rattle.std.proofs.lemmas.Option.{slice_get-map}
 use Rattle.dns_data.specs.declared.block.Block.{Block}
 use Rattle.dns_data.specs.declared.class.TheConstants as classes
@@ -16,17 +17,16 @@ use Rattle.chain_meaning.specs.Mean.{mean, nothing}
 use Rattle.chain_meaning.specs.Serving.{block_decides, block_of, chain_decides, is_known_version, query_decides, refused}
 use Rattle.chain_meaning.specs.declared.decision.Decision.TheVariants as decision
 use Rattle.plugin_api.specs.{Sayings}
-use Rattle.chain_meaning.specs.Steps.{Step, block_extras, steps_of}
-use Rattle.chain_build.specs.Compiled.{front_of, whole, whole_by}
-use Rattle.chain_build.specs.Plans.{extras_in, steps_in}
-use Rattle.chain_build.specs.declared.block_chain.BackAnswerer.{BackAnswerer}
+use Rattle.chain_meaning.specs.Steps.{Step, block_extras, cache_steps, dns64_steps, extra_steps, rewrite_steps, steps_of}
+use Rattle.chain_build.specs.Compiled.{back_of, front_of, middle_of}
+use Rattle.chain_build.specs.Plans.{behind_of, extras_in, heads_in, steps_in}
 use Rattle.chain_build.specs.declared.block.BlockChain.{BlockChain}
-use Rattle.chain_build.specs.declared.block_chain.FrontStep.{FrontStep}
 use Rattle.corefile_blocks.specs.declared.bundle.Bundle.{Bundle}
 use Rattle.chain_build.specs.{ReadsBundle}
 use Rattle.chain_build.specs.declared.fault.CheckFault.{CheckFault}
 use Rattle.chain_build.specs.declared.fault.CheckFault.TheVariants as check
 use Rattle.plain_chain.specs.Reading.{ReadsPlain, has_extra, has_none, is_some_extra, plain_terms}
+use Rattle.plain_chain.specs.Steps.{plain_steps}
 
 -- what was read of the block of a number
 module _ (said : Sayings) (files : List FileText) (read : List BlockChain) (blocks : List Block) (same : map (steps_in said) read ≡ map (steps_of said files) blocks) where
@@ -112,9 +112,12 @@ both-true true true c p q e = e
 both-true false b c p q e = absurd cc
 both-true true false c p q e = absurd cc
 
--- a chain without extras is its own steps
-pub own-steps : (said : Sayings) (chain : BlockChain) → chain.extras ≡ [] → chain.cache ≡ None → steps_in said chain ≡ whole chain.front None chain.rewrites chain.back
-own-steps said chain none uncached = λ i. whole_by said chain.front (none i) (uncached i) chain.rewrites chain.back
+-- a chain without extras and a cache is its own steps
+pub own-steps : (said : Sayings) (chain : BlockChain) → chain.extras ≡ [] → chain.cache ≡ None → steps_in said chain ≡ plain_steps chain.front chain
+own-steps said chain none uncached =
+    (λ i. heads_in chain ++ (extra_steps said (none i) ++ (cache_steps (uncached i) ++ behind_of chain)))
+    ∙ append_assoc (map front_of chain.front) (dns64_steps chain.dns64 ++ map middle_of chain.middle) (behind_of chain)
+    ∙ ap (λ (rest : List Step). map front_of chain.front ++ rest) (append_assoc (dns64_steps chain.dns64) (map middle_of chain.middle) (behind_of chain))
 
 -- what a query of class IN is asked for
 pub asked-decides : (opt : Option Opt) (class : ℕ) (steps : Block → List Step) (blocks : List Block) (q : Query) (marks : List Mark) → is_known_version opt ≡ true → nat_eq class classes.IN ≡ true
@@ -140,23 +143,42 @@ some-mean [] q marks e = absurd cc
 some-mean (step ∷ steps) q marks e = refl
 
 -- whether a chain has a step
-pub some-front : (front : List FrontStep) (behind : List Step) → 0 < length front → false ≡ has_none (map front_of front ++ behind)
-some-front [] behind some = absurd (omega (arith, some))
-some-front (step ∷ front) behind some = refl
+pub some-steps : (steps : List Step) → 0 < length steps → false ≡ has_none steps
+some-steps [] some = absurd (omega (arith, some))
+some-steps (step ∷ steps) some = refl
 
-pub some-rules : (front : List FrontStep) (ds : List Directive) (back : List BackAnswerer) → length front ≤ 0 → 0 < length ds → false ≡ has_none (whole front None ds back)
-some-rules [] [] back none some = absurd (omega (arith, some))
-some-rules [] (d ∷ ds) back none some = refl
-some-rules (step ∷ front) ds back none some = absurd (omega (arith, none))
+pub no-steps : (steps : List Step) → length steps ≤ 0 → true ≡ has_none steps
+no-steps [] none = refl
+no-steps (step ∷ steps) none = absurd (omega (arith, none))
 
-pub some-back : (front : List FrontStep) (ds : List Directive) (back : List BackAnswerer) → length front ≤ 0 → length ds ≤ 0 → 0 < length back → false ≡ has_none (whole front None ds back)
-some-back [] [] [] none no_rules some = absurd (omega (arith, some))
-some-back [] [] (plugin ∷ back) none no_rules some = refl
-some-back [] (d ∷ ds) back none no_rules some = absurd (omega (arith, no_rules))
-some-back (step ∷ front) ds back none no_rules some = absurd (omega (arith, none))
+-- how many it has
+pub own-length : (said : Sayings) (chain : BlockChain) → chain.extras ≡ [] → chain.cache ≡ None
+    → length (steps_in said chain) ≡ length chain.front + (length (dns64_steps chain.dns64) + (length chain.middle + (length (rewrite_steps chain.rewrites) + length chain.back)))
+own-length said chain none uncached =
+    omega (
+      arith,
+      ap length (own-steps said chain none uncached),
+      length-append (map front_of chain.front) (dns64_steps chain.dns64 ++ (map middle_of chain.middle ++ behind_of chain)),
+      length-append (dns64_steps chain.dns64) (map middle_of chain.middle ++ behind_of chain),
+      length-append (map middle_of chain.middle) (behind_of chain),
+      length-append (rewrite_steps chain.rewrites) (map back_of chain.back),
+      length-map chain.front front_of,
+      length-map chain.middle middle_of,
+      length-map chain.back back_of,
+    )
 
-pub no-steps : (front : List FrontStep) (ds : List Directive) (back : List BackAnswerer) → length front ≤ 0 → length ds ≤ 0 → length back ≤ 0 → true ≡ has_none (whole front None ds back)
-no-steps [] [] [] none no_rules no_back = refl
-no-steps [] [] (plugin ∷ back) none no_rules no_back = absurd (omega (arith, no_back))
-no-steps [] (d ∷ ds) back none no_rules no_back = absurd (omega (arith, no_rules))
-no-steps (step ∷ front) ds back none no_rules no_back = absurd (omega (arith, none))
+pub some-rules : (ds : List Directive) → 0 < length ds → 0 < length (rewrite_steps ds)
+some-rules [] some = absurd (omega (arith, some))
+some-rules (d ∷ ds) some = omega arith
+
+pub no-rules : (ds : List Directive) → length ds ≤ 0 → length (rewrite_steps ds) ≡ 0
+no-rules [] none = refl
+no-rules (d ∷ ds) none = absurd (omega (arith, none))
+
+pub some-dns64 : (o : Option Directive) → is_some o ≡ true → 0 < length (dns64_steps o)
+some-dns64 None some = absurd cc
+some-dns64 (Some d) some = omega arith
+
+pub no-dns64 : (o : Option Directive) → is_some o ≡ false → length (dns64_steps o) ≡ 0
+no-dns64 None none = refl
+no-dns64 (Some d) none = absurd cc

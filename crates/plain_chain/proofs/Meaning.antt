@@ -5,7 +5,7 @@ use Rattle.dns_lists.specs.declared.memory.NoMemory.{NoMemory}
 use Rattle.outside.specs.Meanings.{Meaning, Done, More, onward}
 use Rattle.outside.specs.declared.mark.Mark.{Mark}
 use Rattle.chain_meaning.specs.declared.decision.Decision.{Decision}
-use Rattle.plain_chain.specs.Meant.{IsDone, IsOff, Means}
+use Rattle.plain_chain.specs.Meant.{IsAtOnce, IsDone, IsOff, Means}
 use Rattle.plain_chain.specs.declared.meant.Meant as declared
 use Rattle.plain_chain.specs.declared.meant.Meant.TheVariants as meant
 
@@ -23,6 +23,17 @@ means-as f g marks (meant.Off left) e h =
 pub meant-as : (result : Result declared.Meant NoMemory) (f g : List Mark → Meaning Decision) (marks : List Mark) → ((other : List Mark) → g other ≡ f other) → IfOk result (Means f marks) → IfOk result (Means g marks)
 meant-as (Ok m) f g marks e h = means-as f g marks m e h
 meant-as (Err x) f g marks e h = tt
+
+-- what takes no mark, by another name, and as what was meant
+pub once-as : (result : Result Decision NoMemory) (f g : List Mark → Meaning Decision) → ((other : List Mark) → g other ≡ f other) → IfOk result (IsAtOnce f) → IfOk result (IsAtOnce g)
+once-as (Ok v) f g e h = λ left. e left ∙ h left
+once-as (Err x) f g e h = tt
+
+-- what is made of such a decision
+pub once-then : (result : Result Decision NoMemory) (f g : List Mark → Meaning Decision) (made : Decision → Decision) {v : Decision} → ((other : List Mark) → g other ≡ onward (f other) (λ w left. Done (made w) left)) → IsAtOnce f v
+    → IfOk result (λ w. w ≡ made v) → IfOk result (IsAtOnce g)
+once-then (Ok w) f g made e h is = λ left. e left ∙ ap (λ x. onward x (λ w left. Done (made w) left)) (h left) ∙ ap (λ w. Done w left) (sym is)
+once-then (Err x) f g made e h is = tt
 
 module _ (f : List Mark → Meaning Decision) (next : Decision → List Mark → Meaning Decision) where
   abbrev whole : List Mark → Meaning Decision

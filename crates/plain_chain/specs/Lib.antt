@@ -1,5 +1,6 @@
 pub mod Meant
 pub mod Reading
+pub mod Steps
 pub mod Serving
 pub mod Turning
 -- what public clauses cite

@@ -30,6 +30,10 @@ Means means marks (meant.Done v left) = IsDone means marks v left.now
 Means means marks meant.More = means marks ≡ More
 Means means marks (meant.Off left) = IsOff means marks left.now
 
+-- what takes no mark decides so
+abbrev pub IsAtOnce : (List Mark → Meaning Decision) → Decision → Type 0
+IsAtOnce means v = (left : List Mark) → means left ≡ Done v left
+
 -- the first list is the end of the second
 pub record IsTail (left marks : List Mark) : Type 0 where
   pub taken : List Mark

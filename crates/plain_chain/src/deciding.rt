@@ -150,6 +150,13 @@ fn has_none(chain: &BlockChain) -> bool
     if 0 < front.len() {
         return false;
     }
+    if chain.dns64.is_some() {
+        return false;
+    }
+    let middle = chain.middle.as_slice();
+    if 0 < middle.len() {
+        return false;
+    }
     let rules = chain.rewrites.as_slice();
     if 0 < rules.len() {
         return false;

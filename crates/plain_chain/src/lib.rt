@@ -11,6 +11,7 @@ mod reading;
 mod restoring;
 mod saying;
 mod serving;
+mod translating;
 mod turning;
 
 pub use fault::PlainFault;

@@ -164,7 +164,7 @@ fn send<S: Side, B: Rulebook, E: Extra>(
 // Gives back what a long answer took. The room of others stays for the next query.
 #[inline]
 fn rest(alloc: Global, room: &mut Room) {
-    let slot = &room.walk.plugins.slot;
+    let slot = &room.front.walk.plugins.slot;
     if KEPT_RECORDS < slot.answer.len()
         || KEPT_RECORDS < slot.authority.len()
         || KEPT_RECORDS < slot.additional.len()

@@ -1,5 +1,5 @@
 use Rattle.std.proofs.Common.{map, refl, rules, ◌∙◌}
-use Rattle.chain_meaning.specs.Called.{pool_in}
+use Rattle.chain_meaning.specs.CallsByRun.{pool_in}
 use Rattle.chain_meaning.specs.Mean.{mean}
 use Rattle.chain_build.specs.Compiled.{back_answerer, back_of}
 use Rattle.chain_build.specs.WalkingLaws.{back-answers, back-end}

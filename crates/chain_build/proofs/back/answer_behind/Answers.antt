@@ -1,6 +1,6 @@
 use Rattle.std.proofs.Common.{refl}
 use Rattle.std.proofs.Common.{[], ◌∷◌}
-use Rattle.chain_meaning.specs.Called.{pool_in}
+use Rattle.chain_meaning.specs.CallsByRun.{pool_in}
 use Rattle.chain_build.specs.Compiled.{back_answerer, back_of}
 use Rattle.chain_build.proofs.LoggedWalks.{by_answered}
 use Rattle.chain_build.proofs.Walks.{answered_next}

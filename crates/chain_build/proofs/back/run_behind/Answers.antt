@@ -3,7 +3,7 @@ use Rattle.rewrite_plugin.specs.{changed_by}
 use Rattle.chain_meaning.specs.Mean.{mean, rewritten}
 use Rattle.chain_build.specs.Compiled.{back_of, back_steps}
 use Rattle.chain_build.specs.WalkingLaws.{behind-none, behind-rules}
-use Rattle.chain_meaning.specs.Called.{pool_in}
+use Rattle.chain_meaning.specs.CallsByRun.{pool_in}
 use Rattle.chain_build.proofs.LoggedWalks.{behind_none_pool, behind_rules_pool, by_as}
 use Rattle.chain_build.proofs.back.run_behind.Goals as goal
 

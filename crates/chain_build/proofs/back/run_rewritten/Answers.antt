@@ -1,5 +1,5 @@
 use Rattle.std.proofs.Common.{map, refl, sym}
-use Rattle.chain_meaning.specs.Called.{pool_in}
+use Rattle.chain_meaning.specs.CallsByRun.{pool_in}
 use Rattle.rewrite_plugin.specs.{changed_by}
 use Rattle.chain_meaning.specs.Mean.{mean, reply_restored, rewritten}
 use Rattle.chain_build.specs.Compiled.{back_of}

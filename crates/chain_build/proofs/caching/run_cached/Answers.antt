@@ -7,7 +7,7 @@ use Rattle.outside.specs.{EntryData}
 use Rattle.outside.specs.Keys.{shard_of}
 use Rattle.outside.specs.Meanings.{onward}
 use Rattle.chain_meaning.specs.Caching.{found, look_of, take_look}
-use Rattle.chain_meaning.specs.Called.{pool_in}
+use Rattle.chain_meaning.specs.CallsByRun.{pool_in}
 use Rattle.chain_meaning.specs.Mean.{mean}
 use Rattle.chain_meaning.specs.MeanLaws.{mean_nothing}
 use Rattle.chain_meaning.specs.declared.decision.Decision.TheVariants as decision

@@ -1,6 +1,6 @@
 use Rattle.std.proofs.Common.{◌≡◌, List, refl, ap, sym, ◌∙◌}
 use Rattle.outside.specs.declared.mark.Mark.{Mark}
-use Rattle.chain_meaning.specs.Called.{shard_in}
+use Rattle.chain_meaning.specs.CallsByRun.{shard_in}
 use Rattle.chain_meaning.specs.Mean.{mean}
 use Rattle.chain_meaning.specs.Caching.{cached}
 use Rattle.chain_build.specs.Plans.{behind_of, inner_of}

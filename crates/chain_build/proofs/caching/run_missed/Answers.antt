@@ -5,7 +5,7 @@ use Rattle.outside.specs.Keys.{shard_of}
 use Rattle.outside.specs.declared.entry.InnerMark.{InnerMark}
 use Rattle.outside.specs.declared.kept.Kept.TheVariants as kept
 use Rattle.chain_meaning.specs.Caching.{found}
-use Rattle.chain_meaning.specs.Called.{pool_in}
+use Rattle.chain_meaning.specs.CallsByRun.{pool_in}
 use Rattle.chain_meaning.specs.Mean.{mean}
 use Rattle.chain_build.specs.LoggedWalks.{AsksBy, TakesBy, asking, taking}
 use Rattle.chain_build.specs.Plans.{behind_of}

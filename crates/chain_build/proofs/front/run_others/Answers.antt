@@ -1,4 +1,4 @@
-use Rattle.chain_meaning.specs.Called.{numbers_in}
+use Rattle.chain_meaning.specs.CallsByRun.{numbers_in}
 use Rattle.chain_build.specs.Plans.{inner_of}
 use Rattle.chain_build.specs.Walking.{decided}
 use Rattle.chain_build.proofs.LoggedWalks.{others_go_by}

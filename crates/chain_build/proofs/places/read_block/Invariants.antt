@@ -8,8 +8,8 @@ use Rattle.chain_build.proofs.places.read_block.Given as goal
 
 abbrev pub invariant-loop-index : goal.invariant-loop-index
 invariant-loop-index g l = record {
-  carried : Carries told (directives_task (brought_of (g.J.Judges.named l.judges) (g.J.Judges.taken l.judges)) (behind_in (context_of l.files l.block) (take l.index l.all) l.places) (drop l.index l.all)) (block_task (brought_of (g.J.Judges.named l.judges) (g.J.Judges.taken l.judges)) l.patterns l.files l.block);
-  before : l.places ≡ placed (context_of l.files l.block) (take l.index l.all) (no_places l.patterns);
+  carried : Carries told (directives_task (brought_of (g.J.Judges.named l.judges) (g.J.Judges.taken l.judges)) (behind_in (context_of l.sources.files.now l.block) (take l.index l.all) l.places) (drop l.index l.all)) (block_task (brought_of (g.J.Judges.named l.judges) (g.J.Judges.taken l.judges)) l.patterns l.sources.files.now l.block);
+  before : l.places ≡ placed (context_of l.sources.files.now l.block) (take l.index l.all) (no_places l.patterns);
   taken : AreTaken (g.J.Judges.taken l.judges) l.places.extras;
   state : g.M.PatternMaker.state l.maker ≡ g.M.PatternMaker.state l.fn.maker;
 }

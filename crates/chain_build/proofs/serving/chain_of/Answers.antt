@@ -3,7 +3,7 @@ use Rattle.std.specs.Prelude.{option_and_then}
 use Rattle.plugin_api.specs.{IsIndexOf, picked}
 use Rattle.chain_meaning.specs.Steps.{steps_of}
 use Rattle.chain_build.specs.Plans.{PlansData, extras_in, steps_in}
-use Rattle.chain_build.proofs.Served.{by_number, extras_at, places_by_number}
+use Rattle.chain_build.proofs.Served.{by_number, extras_at, calls_by_number}
 use Rattle.chain_build.proofs.serving.chain_of.Goals as goal
 
 pub returns-clause-steps : goal.returns-clause-steps
@@ -26,10 +26,10 @@ returns-clause-chain g c =
     let chain = c.at.result.now in
     subst (λ (p : PlansData). slice_get p.chains n ≡ Some chain) c.plans.view_is c.at.ensures
 
-pub returns-clause-places : goal.returns-clause-places
-returns-clause-places g c =
+pub returns-clause-calls : goal.returns-clause-calls
+returns-clause-calls g c =
     let said = g.B.Rulebook.said in
     let index = subst (λ (p : PlansData). IsIndexOf c.plans.inside.index p.blocks) c.plans.view_is c.plans.invariant.index in
     let chains = subst (λ (p : PlansData). map (steps_in said) c.plans.inside.chains ≡ map (steps_of said p.bundle.files) p.blocks) c.plans.view_is c.plans.invariant.chains in
     let found : Some c.in_ok-number.field-0 ≡ picked c.args.plans.now.blocks c.args.query.now.local c.args.query.now.name = sym c.in_ok-number.was ∙ c.find.ensures c.args.plans.now.blocks index in
-    places_by_number said c.args.plans.now.bundle.files c.plans.inside.chains c.args.plans.now.blocks c.in_ok-number.field-0 c.at.result.now c.args.query.now chains c.at.ensures (sym found)
+    calls_by_number said c.args.plans.now.bundle.files c.plans.inside.chains c.args.plans.now.blocks c.in_ok-number.field-0 c.at.result.now c.args.query.now chains c.at.ensures (sym found)

@@ -7,7 +7,7 @@ use Rattle.chain_build.proofs.serving.finish.Goals as goal
 
 pub returns-in-Ok : goal.returns-in-Ok
 returns-in-Ok c =
-    let v = decision_of c.args.ended c.args.room.now.walk.plugins.slot in
+    let v = decision_of c.args.ended c.args.room.now.front.walk.plugins.slot in
     let says : answer_in v ≡ Some (whole_answer c.args.ended c.settle.new.slot) = search rules in
-    replied c.args.ended c.upper_code.ensures c.opt_reply-opt.ensures (ap (λ r. r.query) c.take_reply-free.ensures.rest ∙ c.requires.asked) (ap (λ r. r.walk.plugins.slot) c.take_reply-free.ensures.rest)
+    replied c.args.ended c.upper_code.ensures c.opt_reply-opt.ensures (ap (λ r. r.query) c.take_reply-free.ensures.rest ∙ c.requires.asked) (ap (λ r. r.front.walk.plugins.slot) c.take_reply-free.ensures.rest)
     c.limit_of-limit.ensures.value c.reply_message-parts.ensures.message says c.in-Ok.ensures

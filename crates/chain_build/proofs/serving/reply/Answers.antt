@@ -1,5 +1,5 @@
 use Rattle.std.proofs.Common.{◌∙◌}
-use Rattle.chain_meaning.specs.Called.{places_in}
+use Rattle.chain_meaning.specs.CallsByRun.{chain_calls}
 use Rattle.chain_meaning.specs.Serving.{chain_decides}
 use Rattle.chain_meaning.specs.declared.decision.Decision.TheVariants as decision
 use Rattle.chain_build.specs.Logs.{held_log}
@@ -26,14 +26,14 @@ returns-in-Ok-Some-clause-tells g c =
 pub returns-in-Ok-clause-tells : goal.returns-in-Ok-clause-tells
 returns-in-Ok-clause-tells g c =
     told_by g.B.Rulebook.taken g.B.Rulebook.said c.args.plans.now c.args.held.now.serial c.args.arrived.now.datagram.now c.args.room.now.query.name c.args.beside c.fill_query.new.query
-    (decision_of c.in-Ok.ended c.run_found.new.room.plugins.slot) c.finish_apart-in-Ok.result c.tell.ensures.accepted c.requires.asks c.fill_query.ensures
-    (places_in (steps_in g.B.Rulebook.said c.in-Some.found.1.now) c.in-Some.found.0 c.fill_query.new.query) _ _ c.in-Some.ensures.places
+    (decision_of c.in-Ok.ended c.run_found.new.room.walk.plugins.slot) c.finish_apart-in-Ok.result c.tell.ensures.accepted c.requires.asks c.fill_query.ensures
+    (chain_calls (steps_in g.B.Rulebook.said c.in-Some.found.1.now) c.args.held.now.serial c.in-Some.found.0 c.fill_query.new.query) _ _ (c.in-Some.ensures.calls c.args.held.now.serial)
     (takes_at (chain_decides (steps_in g.B.Rulebook.said c.in-Some.found.1.now) c.fill_query.new.query) _ c.in-Some.ensures.some c.in-Ok.ensures.takes) c.finish_apart-in-Ok.ensures
 
 pub returns-in-Err-run_found-clause-tells : goal.returns-in-Err-run_found-clause-tells
 returns-in-Err-run_found-clause-tells g c =
     told_starved g.B.Rulebook.taken g.B.Rulebook.said c.args.plans.now c.args.held.now.serial c.args.arrived.now.datagram.now c.args.room.now.query.name c.args.beside c.fill_query.new.query
-    (places_in (steps_in g.B.Rulebook.said c.in-Some.found.1.now) c.in-Some.found.0 c.fill_query.new.query) _ _ _ c.tell.ensures.accepted c.requires.asks c.fill_query.ensures c.in-Some.ensures.places
+    (chain_calls (steps_in g.B.Rulebook.said c.in-Some.found.1.now) c.args.held.now.serial c.in-Some.found.0 c.fill_query.new.query) _ _ _ c.tell.ensures.accepted c.requires.asks c.fill_query.ensures (c.in-Some.ensures.calls c.args.held.now.serial)
     (takes_at (chain_decides (steps_in g.B.Rulebook.said c.in-Some.found.1.now) c.fill_query.new.query) _ c.in-Some.ensures.some c.in-Err-run_found.ensures.takes)
 
 pub returns-in-Err-clause-tells : goal.returns-in-Err-clause-tells

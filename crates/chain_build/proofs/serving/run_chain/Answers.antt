@@ -1,69 +1,53 @@
-use Rattle.std.proofs.Common.{◌∙◌, inl, inr, sym, ap, arith}
+use Rattle.std.proofs.Common.{refl, ◌∙◌, ◌≤◌, length, inl, inr, sym, ap, arith}
 use Rattle.outside.specs.Meanings.{Done}
-use Rattle.chain_meaning.specs.Called.{numbers_in}
+use Rattle.chain_meaning.specs.CallsByRun.{run_calls}
+use Rattle.chain_meaning.specs.CallsByRunLaws.{calls_none}
 use Rattle.chain_meaning.specs.Mean.{mean}
 use Rattle.chain_meaning.specs.MeanLaws.{extras_say}
-use Rattle.chain_meaning.specs.Serving.{chain_decides}
 use Rattle.chain_meaning.specs.declared.decision.Decision.TheVariants as decision
 use Rattle.chain_meaning.specs.Steps.{none_said}
-use Rattle.chain_build.specs.Compiled.{whole_by, whole_with}
-use Rattle.chain_build.specs.Plans.{inner_of}
-use Rattle.chain_build.proofs.LoggedWalks.{tb_as, tb_nothing, whole_numbers}
-use Rattle.chain_build.proofs.Served.{runs_extras, runs_inner, runs_none, runs_own}
+use Rattle.chain_build.specs.Compiled.{front_of}
+use Rattle.chain_build.specs.LoggedWalks.{chain_runs}
+use Rattle.chain_build.specs.Plans.{heads_in, inner_of, steps_in}
+use Rattle.chain_build.proofs.LoggedCalls.{front_takes, tc_as, tc_nothing, tc_once}
+use Rattle.chain_build.proofs.Served.{bare, extras_calls, extras_mean, once_inner, own_says, runs_inner, runs_none}
 use Rattle.chain_build.proofs.serving.run_chain.Goals as goal
 
 pub returns-then-len-gt0-clause-takes : goal.returns-then-len-gt0-clause-takes
 returns-then-len-gt0-clause-takes g c =
     let said = g.B.Rulebook.said in
     let q = c.args.walk.now.query.now in
-    let f = c.as_slice-front.result.now in
-    let x = c.args.chain.now.extras in
-    let k = c.args.chain.now.cache in
-    let r = c.args.chain.now.rewrites in
-    let b = c.args.chain.now.back in
-    tb_as (mean (whole_with (extras_say said c.args.seats.now) f k r b) q) _ (whole_numbers said c.args.chain.now.front x (inner_of c.args.chain.now) q)
-    (λ marks. (λ i. chain_decides (whole_by said (sym c.as_slice-front.ensures i) x k r b) q marks) ∙ runs_extras said f x (inner_of c.args.chain.now) q (inr (inl (omega (arith, c.len.ensures, c.if-len-gt0.true)))) marks
-    ∙ (λ i. mean (whole_with (extras_say said (sym c.requires.seated i)) f k r b) q marks))
-    c.run_front.ensures.takes
+    let chain = c.args.chain.now in
+    front_takes chain q c.as_slice-front.ensures (ap (extras_say said) c.requires.seated) (steps_in said chain) (extras_calls said chain q)
+    (extras_mean said chain q (inr (inl (omega (arith, c.len.ensures, c.if-len-gt0.true))))) c.run_front.ensures.takes
 
-pub returns-then-front-gt0-clause-takes : goal.returns-then-front-gt0-clause-takes
-returns-then-front-gt0-clause-takes g c =
+pub returns-then-has_head-clause-takes : goal.returns-then-has_head-clause-takes
+returns-then-has_head-clause-takes g c =
     let said = g.B.Rulebook.said in
     let q = c.args.walk.now.query.now in
-    let f = c.as_slice-front.result.now in
-    let x = c.args.chain.now.extras in
-    let k = c.args.chain.now.cache in
-    let r = c.args.chain.now.rewrites in
-    let b = c.args.chain.now.back in
-    tb_as (mean (whole_with none_said f k r b) q) _ (whole_numbers said c.args.chain.now.front x (inner_of c.args.chain.now) q)
-    (λ marks. (λ i. chain_decides (whole_by said (sym c.as_slice-front.ensures i) x k r b) q marks) ∙ runs_own said f x (inner_of c.args.chain.now) q (omega (arith, c.len.ensures, c.if-len-gt0.false)) c.if-front-gt0.true marks)
-    c.run_front-then-front-gt0.ensures.takes
+    let chain = c.args.chain.now in
+    let none : length chain.extras ≤ 0 = omega (arith, c.len.ensures, c.if-len-gt0.false) in
+    front_takes chain q c.as_slice-front.ensures (sym (own_says said chain none)) (steps_in said chain) (extras_calls said chain q)
+    (extras_mean said chain q (inl (c.has_head.ensures.some c.if-has_head.true))) c.run_front-then-has_head.ensures.takes
 
 pub returns-clause-takes : goal.returns-clause-takes
 returns-clause-takes g c =
     let said = g.B.Rulebook.said in
     let q = c.args.walk.now.query.now in
-    let f = c.as_slice-front.result.now in
-    let x = c.args.chain.now.extras in
-    let k = c.args.chain.now.cache in
-    let r = c.args.chain.now.rewrites in
-    let b = c.args.chain.now.back in
-    tb_nothing (numbers_in (whole_by said c.args.chain.now.front x k r b) q) _
-    (λ left. (λ i. chain_decides (whole_by said (sym c.as_slice-front.ensures i) x k r b) q left)
-    ∙ runs_none said f x (inner_of c.args.chain.now) q (omega (arith, c.if-front-gt0.false)) (omega (arith, c.len.ensures, c.if-len-gt0.false)) (c.has_inner.ensures.none c.if-has_inner.false) left
+    let chain = c.args.chain.now in
+    let none : length chain.extras ≤ 0 = omega (arith, c.len.ensures, c.if-len-gt0.false) in
+    tc_nothing (chain_runs (steps_in said chain) q) _ (λ which. calls_none which (steps_in said chain) q)
+    (λ left. runs_none said (heads_in chain) chain.extras (inner_of chain) q (c.has_head.ensures.none c.if-has_head.false) none (c.has_inner.ensures.none c.if-has_inner.false) left
     ∙ ap (λ a. Done (decision.Reply a) left) (sym c.set_code.ensures))
 
 pub returns-then-has_inner-clause-takes : goal.returns-then-has_inner-clause-takes
 returns-then-has_inner-clause-takes g c =
     let said = g.B.Rulebook.said in
     let q = c.args.walk.now.query.now in
-    let f = c.as_slice-front.result.now in
-    let x = c.args.chain.now.extras in
-    let k = c.args.chain.now.cache in
-    let r = c.args.chain.now.rewrites in
-    let b = c.args.chain.now.back in
-    let inner = inner_of c.args.chain.now in
-    tb_as (mean inner q) _ (whole_numbers said c.args.chain.now.front x inner q)
-    (λ marks. (λ i. chain_decides (whole_by said (sym c.as_slice-front.ensures i) x k r b) q marks)
-    ∙ runs_inner said f x inner q (omega (arith, c.if-front-gt0.false)) (omega (arith, c.len.ensures, c.if-len-gt0.false)) (c.has_inner.ensures.some c.if-has_inner.true) marks)
-    c.run_inner.ensures.takes
+    let chain = c.args.chain.now in
+    let inner = inner_of chain in
+    let head = c.has_head.ensures.none c.if-has_head.false in
+    let none : length chain.extras ≤ 0 = omega (arith, c.len.ensures, c.if-len-gt0.false) in
+    tc_as (chain_runs inner q) _ (mean inner q) _ (λ which marks. ap (λ s. run_calls which s q marks) (bare said (heads_in chain) chain.extras inner head none))
+    (runs_inner said (heads_in chain) chain.extras inner q head none (c.has_inner.ensures.some c.if-has_inner.true))
+    (tc_once inner inner q (once_inner chain) (λ which. refl) c.run_inner.ensures.takes)

@@ -1,8 +1,6 @@
-use Rattle.std.proofs.Common.{◌∙◌, ap, map}
+use Rattle.std.proofs.Common.{◌∙◌}
 use Rattle.plugin_api.specs.{Sayings, picked}
 use Rattle.plugin_api.specs.declared.verdict.Verdict.TheVariants as verdict
-use Rattle.chain_build.specs.Compiled.{back_of}
-use Rattle.plain_chain.specs.Reading.{asks_upstreams}
 use Rattle.plain_chain.proofs.Asking.{none-forward, some-forward}
 use Rattle.plain_chain.proofs.deciding.has_forward.Goals as goal
 

@@ -1,6 +1,6 @@
 -- How a gathering goes on, read by read.
 use Rattle.std.proofs.Common.{Bool, true, false, nat_lt, length-append, ◌≡◌, ◌≤◌, ◌<◌, ◌^◌, ℕ, ◌+◌, List, [], ◌∷◌, ◌++◌, length, Option, Some, None, Result, Ok, Err, refl, sym, ap, subst, ◌∙◌, inl, inr, arith, append_assoc, append-nil}
-use Rattle.std.specs.Prelude.{IfSome, if◌then◌else◌}
+use Rattle.std.specs.Prelude.{IfSome, OnSome, if◌then◌else◌}
 use Rattle.dns_data.specs.declared.file.FileText.{FileText}
 use Rattle.dns_data.specs.declared.limit.Limit.TheVariants as limit
 use Rattle.corefile_words.specs.declared.word.Pair.{Pair}
@@ -13,19 +13,16 @@ use Rattle.outside.specs.declared.watch.ReadOut.{ReadOut}
 use Rattle.outside.specs.declared.watch.ReadOut.TheVariants as readout
 use Rattle.outside.specs.{AddsWatch, WatchState}
 use Rattle.outside.specs.Journals.{watch-adds-then}
+use Rattle.outside.specs.States.{WatchJournal}
+use Rattle.outside.specs.WatchMarks.{watch_added}
 use Rattle.corefile_blocks.specs.declared.bundle.Bundle.{Bundle}
-use Rattle.corefile_blocks.specs.{IsReadable, Seeks}
+use Rattle.corefile_blocks.specs.{Seeks}
 use Rattle.corefile_blocks.specs.SeekingLaws.{seeks-more}
 use Rattle.corefile_blocks.specs.declared.seeking.Seeker.{Seeker}
 use Rattle.corefile_bundle.specs.declared.fault.GatherFault.{GatherFault}
 use Rattle.corefile_bundle.specs.declared.fault.GatherFault.TheVariants as fault
-use Rattle.corefile_bundle.specs.Gathering.{Source, OneRead, Gathers, GathersFrom, GoesOn, TellsGathering, after_corefile, after_read, bare, bundle_bytes, unless_over, marks_of, next_file, over, size_of, with_file}
-use Rattle.corefile_bundle.specs.Steps.{Starved, TakesOne, TookOne}
-
--- a bundle within the limits of bytes
-pub record IsSmall (bundle : Bundle) : Type 0 where
-  pub bytes : bundle_bytes bundle ≤ limits.BUNDLE_BYTES
-  pub readable : IsReadable bundle
+use Rattle.corefile_bundle.specs.Gathering.{Source, OneRead, Gathers, GoesOn, TellsGathering, after_corefile, after_read, bare, bundle_bytes, unless_over, marks_of, next_file, over, size_of, with_file}
+use Rattle.corefile_bundle.specs.Steps.{IsSmall, Starved, TakesOne, TellsRest, TookOne}
 
 -- a read within the limits
 pub record IsWithinLimits (size total : ℕ) : Type 0 where
@@ -60,7 +57,7 @@ with_small bundle name bytes small few total =
       longer = length-append bundle.files (record { name = name; bytes = bytes } ∷ []);
     }
 
-unless_by : (bundle behind : Bundle) (met : Option GatherFault) → unless_over bundle met ≡ Ok behind → (met ≡ None) × (bundle ≡ behind)
+pub unless_by : (bundle behind : Bundle) (met : Option GatherFault) → unless_over bundle met ≡ Ok behind → (met ≡ None) × (bundle ≡ behind)
 unless_by bundle behind None is = (refl, cc)
 unless_by bundle behind (Some cause) is = absurd cc
 
@@ -109,23 +106,49 @@ first_small source start now behind took = behind_corefile source behind took.ou
 pub next_small : (bundle behind : Bundle) (name : List ℕ) (mid now : WatchState) → IsSmall bundle → TookOne name (after_read bundle name) mid now (Ok behind) → IsBehind bundle behind
 next_small bundle behind name mid now small took = behind_read bundle behind name took.out small took.is
 
--- the reads so far: whatever follows from the bundle follows from the source by these reads
-pub record HasGathered (source : Source) (start now : WatchState) (bundle : Bundle) : Type 0 where
+-- the reads so far: whatever follows from the bundle follows from the first by these reads
+pub record HasGathered (first : Bundle) (start now : WatchState) (bundle : Bundle) : Type 0 where
   pub done : List OneRead
   pub told : AddsWatch start now (marks_of done)
-  pub goes : (reads : List OneRead) (result : Result Bundle GatherFault) → Gathers bundle reads result → GathersFrom source (done ++ reads) result
+  pub goes : (reads : List OneRead) (result : Result Bundle GatherFault) → Gathers bundle reads result → Gathers first (done ++ reads) result
+
+marks-more : (done : List OneRead) (read : OneRead) → marks_of (done ++ read ∷ []) ≡ marks_of done ++ Read read.name read.out ∷ []
+marks-more [] read = refl
+marks-more (d ∷ done) read = ap (λ marks. Read d.name d.out ∷ marks) (marks-more done read)
+
+marks-both : (done reads : List OneRead) → marks_of (done ++ reads) ≡ marks_of done ++ marks_of reads
+marks-both [] reads = refl
+marks-both (d ∷ done) reads = ap (λ marks. Read d.name d.out ∷ marks) (marks-both done reads)
 
 -- nothing follows but want of memory
 starved_behind : (behind : Result Bundle GatherFault) → GoesOn (λ bundle. Gathers bundle [] (Err fault.NoMemory)) behind [] (Err fault.NoMemory)
 starved_behind (Ok bundle) = tt
 starved_behind (Err cause) = (refl, inr refl)
 
--- the Corefile was read
-pub begins : (source : Source) (start now : WatchState) (bundle : Bundle) → TookOne source.conf (after_corefile source) start now (Ok bundle) → HasGathered source start now bundle
-begins source start now bundle took = record {
-  done = record { name = source.conf; out = took.out } ∷ [];
-  told = took.told;
-  goes = λ reads result gathers. (refl, took.some, subst (λ behind. GoesOn (λ b. Gathers b reads result) behind reads result) (sym took.is) gathers);
+nothing_told : (journal : WatchJournal) → OnSome journal (journal ≡ watch_added journal [])
+nothing_told None = tt
+nothing_told (Some marks) = ap Some (sym (append-nil marks))
+
+-- nothing was read
+pub begins : (first : Bundle) (start : WatchState) → HasGathered first start start first
+begins first start = record { done = []; told = record { told = nothing_told start.journal }; goes = λ reads result gathers. gathers }
+
+-- the Corefile was read, and what follows it
+pub joins : (source : Source) (start mid now : WatchState) (bundle : Bundle) (result : Result Bundle GatherFault) → TookOne source.conf (after_corefile source) start mid (Ok bundle) → TellsRest bundle mid now result
+    → TellsGathering source start now result
+joins source start mid now bundle result took rest = record {
+  reads = record { name = source.conf; out = took.out } ∷ rest.reads;
+  told = watch-adds-then took.told rest.told;
+  gathers = (refl, took.some, subst (λ behind. GoesOn (λ b. Gathers b rest.reads result) behind rest.reads result) (sym took.is) rest.gathers);
+}
+
+-- further reads, and what follows them
+pub joins_rest : (first : Bundle) (start mid now : WatchState) (bundle : Bundle) (result : Result Bundle GatherFault) → HasGathered first start mid bundle → TellsRest bundle mid now result
+    → TellsRest first start now result
+joins_rest first start mid now bundle result h rest = record {
+  reads = h.done ++ rest.reads;
+  told = subst (AddsWatch start now) (sym (marks-both h.done rest.reads)) (watch-adds-then h.told rest.told);
+  gathers = h.goes rest.reads result rest.gathers;
 }
 
 -- the Corefile gave no bundle
@@ -150,27 +173,23 @@ no_bundle source start now (fault.ReadFailed name) takes = begins_not source sta
 no_bundle source start now (fault.TooMany what number) takes = begins_not source start now (fault.TooMany what number) takes
 no_bundle source start now fault.NoMemory takes = begins_starved source start now takes
 
-marks-more : (done : List OneRead) (read : OneRead) → marks_of (done ++ read ∷ []) ≡ marks_of done ++ Read read.name read.out ∷ []
-marks-more [] read = refl
-marks-more (d ∷ done) read = ap (λ marks. Read d.name d.out ∷ marks) (marks-more done read)
-
 -- a further read
-pub goes_on : (source : Source) (start mid now : WatchState) (bundle behind : Bundle) (name : List ℕ) → HasGathered source start mid bundle → next_file bundle ≡ Some name → length bundle.files < limits.FILES
-    → TookOne name (after_read bundle name) mid now (Ok behind) → HasGathered source start now behind
-goes_on source start mid now bundle behind name h wants few took =
+pub goes_on : (first : Bundle) (start mid now : WatchState) (bundle behind : Bundle) (name : List ℕ) → HasGathered first start mid bundle → next_file bundle ≡ Some name → length bundle.files < limits.FILES
+    → TookOne name (after_read bundle name) mid now (Ok behind) → HasGathered first start now behind
+goes_on first start mid now bundle behind name h wants few took =
     let read : OneRead = record { name = name; out = took.out } in
     record {
       done = h.done ++ read ∷ [];
       told = subst (AddsWatch start now) (sym (marks-more h.done read)) (watch-adds-then h.told took.told);
       goes = λ reads result gathers.
-          subst (λ all. GathersFrom source all result) (sym (append_assoc h.done (read ∷ []) reads))
+          subst (λ all. Gathers first all result) (sym (append_assoc h.done (read ∷ []) reads))
           (h.goes (read ∷ reads) result (record { wants = wants; few = few; told = took.some }, subst (λ b. GoesOn (λ b. Gathers b reads result) b reads result) (sym took.is) gathers));
     }
 
 -- a further read that ends the gathering
-ends_by : (source : Source) (start mid now : WatchState) (bundle : Bundle) (name : List ℕ) (cause : GatherFault) → HasGathered source start mid bundle → next_file bundle ≡ Some name → length bundle.files < limits.FILES
-    → TookOne name (after_read bundle name) mid now (Err cause) → TellsGathering source start now (Err cause)
-ends_by source start mid now bundle name cause h wants few took =
+ends_by : (first : Bundle) (start mid now : WatchState) (bundle : Bundle) (name : List ℕ) (cause : GatherFault) → HasGathered first start mid bundle → next_file bundle ≡ Some name → length bundle.files < limits.FILES
+    → TookOne name (after_read bundle name) mid now (Err cause) → TellsRest first start now (Err cause)
+ends_by first start mid now bundle name cause h wants few took =
     let read : OneRead = record { name = name; out = took.out } in
     record {
       reads = h.done ++ read ∷ [];
@@ -179,14 +198,14 @@ ends_by source start mid now bundle name cause h wants few took =
           (record { wants = wants; few = few; told = took.some }, subst (λ b. GoesOn (λ b. Gathers b [] (Err cause)) b [] (Err cause)) (sym took.is) (refl, inl refl));
     }
 
-starves : (source : Source) (start mid now : WatchState) (bundle : Bundle) (name : List ℕ) → HasGathered source start mid bundle → next_file bundle ≡ Some name → length bundle.files < limits.FILES
-    → Starved name mid now → TellsGathering source start now (Err fault.NoMemory)
-starves source start mid now bundle name h wants few (inl told) = record {
+starves : (first : Bundle) (start mid now : WatchState) (bundle : Bundle) (name : List ℕ) → HasGathered first start mid bundle → next_file bundle ≡ Some name → length bundle.files < limits.FILES
+    → Starved name mid now → TellsRest first start now (Err fault.NoMemory)
+starves first start mid now bundle name h wants few (inl told) = record {
   reads = h.done;
   told = subst (AddsWatch start now) (append-nil (marks_of h.done)) (watch-adds-then h.told told);
-  gathers = subst (λ all. GathersFrom source all (Err fault.NoMemory)) (append-nil h.done) (h.goes [] (Err fault.NoMemory) tt);
+  gathers = subst (λ all. Gathers first all (Err fault.NoMemory)) (append-nil h.done) (h.goes [] (Err fault.NoMemory) tt);
 }
-starves source start mid now bundle name h wants few (inr one) =
+starves first start mid now bundle name h wants few (inr one) =
     let read : OneRead = record { name = name; out = one.out } in
     record {
       reads = h.done ++ read ∷ [];
@@ -194,20 +213,20 @@ starves source start mid now bundle name h wants few (inr one) =
       gathers = h.goes (read ∷ []) (Err fault.NoMemory) (record { wants = wants; few = few; told = one.some }, starved_behind (after_read bundle name one.out));
     }
 
-pub read_ends : (source : Source) (start mid now : WatchState) (bundle : Bundle) (name : List ℕ) (cause : GatherFault) → HasGathered source start mid bundle → next_file bundle ≡ Some name → length bundle.files < limits.FILES
-    → TakesOne name (after_read bundle name) mid now (Err cause) → TellsGathering source start now (Err cause)
-read_ends source start mid now bundle name fault.NoCorefile h wants few takes = ends_by source start mid now bundle name fault.NoCorefile h wants few takes
-read_ends source start mid now bundle name (fault.ReadFailed other) h wants few takes = ends_by source start mid now bundle name (fault.ReadFailed other) h wants few takes
-read_ends source start mid now bundle name (fault.TooMany what number) h wants few takes = ends_by source start mid now bundle name (fault.TooMany what number) h wants few takes
-read_ends source start mid now bundle name fault.NoMemory h wants few takes = starves source start mid now bundle name h wants few takes
+pub read_ends : (first : Bundle) (start mid now : WatchState) (bundle : Bundle) (name : List ℕ) (cause : GatherFault) → HasGathered first start mid bundle → next_file bundle ≡ Some name → length bundle.files < limits.FILES
+    → TakesOne name (after_read bundle name) mid now (Err cause) → TellsRest first start now (Err cause)
+read_ends first start mid now bundle name fault.NoCorefile h wants few takes = ends_by first start mid now bundle name fault.NoCorefile h wants few takes
+read_ends first start mid now bundle name (fault.ReadFailed other) h wants few takes = ends_by first start mid now bundle name (fault.ReadFailed other) h wants few takes
+read_ends first start mid now bundle name (fault.TooMany what number) h wants few takes = ends_by first start mid now bundle name (fault.TooMany what number) h wants few takes
+read_ends first start mid now bundle name fault.NoMemory h wants few takes = starves first start mid now bundle name h wants few takes
 
 -- nothing more is read
-pub ends : (source : Source) (start now : WatchState) (bundle : Bundle) (result : Result Bundle GatherFault) → HasGathered source start now bundle → Gathers bundle [] result → TellsGathering source start now result
-ends source start now bundle result h is =
-    record { reads = h.done; told = h.told; gathers = subst (λ all. GathersFrom source all result) (append-nil h.done) (h.goes [] result is) }
+pub ends : (first : Bundle) (start now : WatchState) (bundle : Bundle) (result : Result Bundle GatherFault) → HasGathered first start now bundle → Gathers bundle [] result → TellsRest first start now result
+ends first start now bundle result h is =
+    record { reads = h.done; told = h.told; gathers = subst (λ all. Gathers first all result) (append-nil h.done) (h.goes [] result is) }
 
 -- a file more than a bundle may have
-pub too_many : (source : Source) (start now : WatchState) (bundle : Bundle) (name : List ℕ) → HasGathered source start now bundle → next_file bundle ≡ Some name → limits.FILES ≤ length bundle.files
-    → TellsGathering source start now (Err (fault.TooMany limit.Files (limits.FILES + 1)))
-too_many source start now bundle name h wants full =
-    ends source start now bundle (Err (fault.TooMany limit.Files (limits.FILES + 1))) h (record { wants = λ none. absurd (let e = sym wants ∙ none in cc); full = full; what_is = refl; number_is = refl })
+pub too_many : (first : Bundle) (start now : WatchState) (bundle : Bundle) (name : List ℕ) → HasGathered first start now bundle → next_file bundle ≡ Some name → limits.FILES ≤ length bundle.files
+    → TellsRest first start now (Err (fault.TooMany limit.Files (limits.FILES + 1)))
+too_many first start now bundle name h wants full =
+    ends first start now bundle (Err (fault.TooMany limit.Files (limits.FILES + 1))) h (record { wants = λ none. absurd (let e = sym wants ∙ none in cc); full = full; what_is = refl; number_is = refl })

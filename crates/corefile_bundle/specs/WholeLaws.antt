@@ -134,25 +134,25 @@ tracks_bare bundle none = record {
 }
 
 -- a bundle is no fault
-not_both : {whole : Bundle} {one other : GatherFault}
+pub not_both : {whole : Bundle} {one other : GatherFault}
     → (◌≡◌ {A = Result Bundle GatherFault} (Ok whole) (Err one))
     ⊎ (◌≡◌ {A = Result Bundle GatherFault} (Ok whole) (Err other)) → ⊥
 not_both (inl e) = absurd cc
 not_both (inr e) = absurd cc
 
 -- what a read came to
-over_goes : (bundle whole : Bundle) (met : Option GatherFault) (reads : List OneRead)
-    → (Gathers bundle reads (Ok whole) → AreWanted whole)
+pub over_goes : {P : Type 0} (bundle whole : Bundle) (met : Option GatherFault) (reads : List OneRead)
+    → (Gathers bundle reads (Ok whole) → P)
     → GoesOn (λ behind. Gathers behind reads (Ok whole)) (unless_over bundle met) reads (Ok whole)
-    → AreWanted whole
+    → P
 over_goes bundle whole None reads on gathers = on gathers
 over_goes bundle whole (Some cause) reads on gathers = absurd (not_both gathers.1)
 
-read_goes : (bundle whole : Bundle) (name : List ℕ) (reads : List OneRead) (out : ReadOut)
-    → ((bytes : Option (List ℕ)) → Gathers (with_file bundle name bytes) reads (Ok whole)
-    → AreWanted whole)
+pub read_goes : {P : Type 0} (bundle whole : Bundle) (name : List ℕ) (reads : List OneRead)
+    (out : ReadOut)
+    → ((bytes : Option (List ℕ)) → Gathers (with_file bundle name bytes) reads (Ok whole) → P)
     → GoesOn (λ behind. Gathers behind reads (Ok whole)) (after_read bundle name out) reads (Ok whole)
-    → AreWanted whole
+    → P
 read_goes bundle whole name reads (readout.Got bytes) on gathers =
     over_goes (with_file bundle name (Some bytes)) whole
     (over (length bytes) (bundle_bytes bundle + length bytes)) reads (on (Some bytes)) gathers

@@ -1,11 +1,14 @@
-ghost use Rattle.std.specs.Prelude.{◌≡◌, ◌≤◌, ℕ, List, Err, IfOk, OnOk};
+ghost use Rattle.std.specs.Prelude.{◌≡◌, ◌≤◌, ◌+◌, ℕ, List, Err, IfOk, OnOk};
+ghost use Rattle.dns_data.specs.declared.limit.Limit.TheVariants as limit;
 ghost use Rattle.dns_data.specs.declared.limit.TheConstants as limits;
 ghost use Rattle.outside.specs.{Rose, WatchStays};
 ghost use Rattle.corefile_blocks.specs.{IsReadable, Seeks};
+ghost use Rattle.corefile_bundle.specs.Again.{IsGathered};
 ghost use Rattle.corefile_bundle.specs.Gathering.{AreWanted, TellsGathering, after_corefile};
 ghost use Rattle.corefile_bundle.specs.Gathering.{after_read, bundle_bytes, next_file, over};
 ghost use Rattle.corefile_bundle.specs.Gathering.{size_of, source_of};
-ghost use Rattle.corefile_bundle.specs.Steps.{TakesOne};
+ghost use Rattle.corefile_bundle.specs.Steps.{IsSmall, TakesOne, TellsRest};
+ghost use Rattle.corefile_bundle.specs.declared.fault.GatherFault.TheVariants as fault;
 
 use crate::fault::GatherFault;
 use corefile_blocks::{Bundle, Seeker};
@@ -29,11 +32,28 @@ pub fn gather<W: Watch>(
         → Rose (W.state watch.old).counts.reads (W.state watch.new).counts.reads }
     ensures readable { IfOk result (λ bundle. IsReadable bundle) }
     ensures whole { IfOk result (λ bundle. AreWanted bundle) }
+    ensures gathered { IfOk result (λ bundle. IsGathered bundle) }
 {
-    let mut bundle = match read_corefile(alloc, watch, conf, env) {
-        Ok(bundle) => bundle,
-        Err(fault) => return Err(fault),
-    };
+    match read_corefile(alloc, watch, conf, env) {
+        Ok(bundle) => gather_rest(alloc, watch, bundle),
+        Err(fault) => Err(fault),
+    }
+}
+
+// Reads each file that is wanted and not there, until the bundle has all that it wants.
+pub(crate) fn gather_rest<W: Watch>(
+    alloc: Global,
+    watch: &mut W,
+    bundle: Bundle,
+) -> Result<Bundle, GatherFault>
+    requires small { IsSmall bundle }
+    ensures told { TellsRest bundle (W.state watch.old) (W.state watch.new) result }
+    ensures stays { WatchStays (W.state watch.old) (W.state watch.new) }
+    ensures failed { (name : List ℕ) → result ≡ Err (GatherFault.ReadFailed name)
+        → Rose (W.state watch.old).counts.reads (W.state watch.new).counts.reads }
+    ensures readable { IfOk result (λ bundle. IsReadable bundle) }
+{
+    let mut bundle = bundle;
     let mut seeker = match Seeker::new(alloc, &bundle) {
         Ok(seeker) => seeker,
         Err(NoMemory) => return Err(GatherFault::NoMemory),
@@ -45,10 +65,7 @@ pub fn gather<W: Watch>(
             Err(NoMemory) => return Err(GatherFault::NoMemory),
         };
         if limit::FILES <= bundle.files.len() {
-            return Err(GatherFault::TooMany {
-                what: Limit::Files,
-                number: limit::FILES as u64 + 1,
-            });
+            return Err(too_many_files());
         }
         bundle = match read_file(watch, bundle, name) {
             Ok(behind) => behind,
@@ -57,8 +74,18 @@ pub fn gather<W: Watch>(
     }
 }
 
+// More files than a bundle may have.
+pub(crate) fn too_many_files() -> GatherFault
+    ensures { result ≡ fault.TooMany limit.Files (limits.FILES + 1) }
+{
+    GatherFault::TooMany {
+        what: Limit::Files,
+        number: limit::FILES as u64 + 1,
+    }
+}
+
 // Reads the Corefile.
-fn read_corefile<W: Watch>(
+pub(crate) fn read_corefile<W: Watch>(
     alloc: Global,
     watch: &mut W,
     conf: &Text,
@@ -113,7 +140,11 @@ fn next_file(alloc: Global, seeker: &mut Seeker, bundle: &Bundle) -> Result<Opti
 }
 
 // Reads a file of a bundle.
-fn read_file<W: Watch>(watch: &mut W, bundle: Bundle, name: Text) -> Result<Bundle, GatherFault>
+pub(crate) fn read_file<W: Watch>(
+    watch: &mut W,
+    bundle: Bundle,
+    name: Text,
+) -> Result<Bundle, GatherFault>
     requires { bundle_bytes bundle ≤ limits.BUNDLE_BYTES }
     ensures takes { TakesOne name (after_read bundle name) (W.state watch.old)
         (W.state watch.new) result }

@@ -3,7 +3,9 @@
 
 mod fault;
 mod gathering;
+mod regathering;
 
 pub use corefile_blocks::Bundle;
 pub use fault::GatherFault;
 pub use gathering::gather;
+pub use regathering::{Regathered, regather};

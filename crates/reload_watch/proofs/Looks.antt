@@ -1,6 +1,6 @@
 -- How a look comes to its answer.
 use Rattle.std.specs.Prelude.{map}
-use Rattle.std.proofs.Common.{◌≡◌, ◌*◌, ℕ, true, List, [], ◌++◌, Result, append-nil, refl, sym, ap, subst, ◌∙◌, inl, inr}
+use Rattle.std.proofs.Common.{◌≡◌, ◌*◌, ◌+◌, ℕ, true, List, [], ◌++◌, length, Result, append-nil, refl, sym, ap, subst, ◌∙◌, inl, inr}
 use Rattle.outside.specs.declared.mark.WatchMark.{WatchMark}
 use Rattle.outside.specs.Journals.{watch-adds-then}
 use Rattle.outside.specs.States.{WatchState}
@@ -18,11 +18,15 @@ use Rattle.run_meaning.specs.declared.looking.Looking.{Looking}
 use Rattle.run_meaning.specs.declared.looking.Looking.TheVariants as looking
 use Rattle.chain_meaning.specs.Accepting.{IsAccepted}
 use Rattle.chain_meaning.specs.Steps.{block_extras}
-use Rattle.extra_stock.specs.{IsShort, asked_by, is_named}
+use Rattle.extra_stock.specs.{IsShort, asked_by, is_named, names_weigh}
 use Rattle.run_meaning.specs.Reloads.{reloads}
 use Rattle.dns_data.specs.declared.directive.Directive.{Directive}
-use Rattle.reload_watch.specs.Shortage.{Around, OfExtras, SaysStock, TellsStock}
-use Rattle.reload_watch.specs.States.{Serving}
+use Rattle.reload_watch.specs.Shortage.{Around, OfExtras, SaysStock, TellsStock, around_of, extras_at}
+use Rattle.reload_watch.specs.States.{Serving, serving_of}
+use Rattle.reload_watch.specs.declared.watcher.Watcher.{Watcher}
+use Rattle.corefile_bundle.specs.Gathering.{Source}
+use Rattle.pin_table.specs.{plan_of}
+use Rattle.std.specs.Arc.{arc_value}
 use Rattle.reload_watch.specs.Look.{standing_of, ServesBehind, ServesGathered, LooksOver, Starves}
 use Rattle.reload_watch.specs.Look.{LooksOnce, AnswersKept, IsNext, IsNoted, NotesLook}
 use Rattle.reload_watch.specs.Look.{PublishesNext}
@@ -149,3 +153,19 @@ module _ {B E : Type 0} {bk : rulebook.Ghosts B} {ex : extra.Ghosts E} where
         again = again;
       }
   next_looks around old new before mid after gives plans looking.NoMemory again read next is stock = rw is.0 (starves again read is.1)
+
+module _ {W B E : Type 0} {bk : rulebook.Ghosts B} {ex : extra.Ghosts E} where
+  -- what a look comes to behind a sweep, beside what was there before it
+  pub swept_looks : (state : W → WatchState) (source : Source) (old mid new : Watcher W B E bk ex) (answer : Looking) → (plan_of mid.publisher).past ≡ (plan_of old.publisher).past → mid.current ≡ old.current → mid.watch ≡ old.watch → mid.workers ≡ old.workers
+      → LooksOnce (around_of source mid new) (serving_of mid) (serving_of new) (state mid.watch) (state new.watch) answer
+      → LooksOnce (around_of source old new) (serving_of old) (serving_of new) (state old.watch) (state new.watch) answer
+  swept_looks state source old mid new answer past current watch workers h =
+      let around : around_of source mid new ≡ around_of source old new = λ i. record {
+        source = source;
+        workers = workers i;
+        found = λ name. names_weigh ex.title (is_named name) new.stock.spare.items + extras_at (plan_of new.publisher).past.filled name (length (past i).published);
+      } in
+      let serving : serving_of mid ≡ serving_of old = λ i. record { published = length (past i).published; filled = (past i).filled; plans = arc_value (current i) } in
+      subst (λ (w : W). LooksOnce (around_of source old new) (serving_of old) (serving_of new) (state w) (state new.watch) answer) watch
+      (subst (λ (s : Serving (Chain B E bk ex)). LooksOnce (around_of source old new) s (serving_of new) (state mid.watch) (state new.watch) answer) serving
+      (subst (λ (a : Around). LooksOnce a (serving_of mid) (serving_of new) (state mid.watch) (state new.watch) answer) around h))

@@ -17,7 +17,7 @@ use Rattle.corefile_blocks.specs.declared.bundle.Bundle.{Bundle}
 use Rattle.corefile_bundle.specs.declared.fault.GatherFault.{GatherFault}
 use Rattle.run_meaning.specs.declared.looking.Looking.{Looking}
 use Rattle.run_meaning.specs.declared.looking.Looking.TheVariants as looking
-use Rattle.reload_watch.specs.Look.{AnswersKept, Frees, LeavesSlot, NotesLook, SearchesFirst}
+use Rattle.reload_watch.specs.Look.{AnswersKept, Frees, LeavesSlot, NotesLook, Searches}
 use Rattle.plugin_api.specs.declared.extra.Extra as extra
 use Rattle.plugin_api.specs.declared.rulebook.Rulebook as rulebook
 use Rattle.reload_watch.specs.declared.watcher.Watcher.{Watcher}
@@ -54,34 +54,34 @@ short_less workers blocks had name asks has s =
     omega (arith, less_name, one, two)
 
 -- a look that found a free slot
-pub searched_free : {B E : Type 0} {bk : rulebook.Ghosts B} {ex : extra.Ghosts E} (before mid after : Plan (Chain B E bk ex)) (slot : ℕ) (answer : Looking) → Frees before (found.Free slot) mid → LeavesSlot mid after answer → SearchesFirst before after answer
-searched_free before mid after slot looking.NoReload frees leaves = tt
-searched_free before mid after slot (looking.ReadFailed name) frees leaves = tt
-searched_free before mid after slot looking.Same frees leaves = tt
-searched_free before mid after slot (looking.Refused why) frees leaves = tt
-searched_free before mid after slot (looking.PortsDiffer ports others) frees leaves = tt
-searched_free before mid after slot looking.SerialsSpent frees leaves = tt
+pub searched_free : {B E : Type 0} {bk : rulebook.Ghosts B} {ex : extra.Ghosts E} (before mid after : Plan (Chain B E bk ex)) (slot : ℕ) (answer : Looking) → Frees before (found.Free slot) mid → LeavesSlot mid after answer → Searches before after answer
+searched_free before mid after slot looking.NoReload frees leaves = absurd leaves
+searched_free before mid after slot (looking.ReadFailed name) frees leaves = absurd leaves
+searched_free before mid after slot looking.Same frees leaves = absurd leaves
+searched_free before mid after slot (looking.Refused why) frees leaves = absurd leaves
+searched_free before mid after slot (looking.PortsDiffer ports others) frees leaves = absurd leaves
+searched_free before mid after slot looking.SerialsSpent frees leaves = absurd leaves
 searched_free before mid after slot (looking.AllPinned one two three) frees leaves = absurd leaves
 searched_free before mid after slot (looking.StockShort name asked had) frees leaves = (slot, subst (λ (p : Plan _). Frees before (found.Free slot) p) (sym leaves) frees)
 searched_free before mid after slot (looking.Published serial) frees leaves = record { slot = slot; mid = mid; frees = frees; chains = leaves.0; adds = leaves.1; weighs = leaves.2 }
-searched_free before mid after slot looking.NoMemory frees leaves = tt
+searched_free before mid after slot looking.NoMemory frees leaves = inr (found.Free slot, subst (λ (p : Plan _). Frees before (found.Free slot) p) (sym leaves) frees)
 
-kept_search : {B E : Type 0} {bk : rulebook.Ghosts B} {ex : extra.Ghosts E} (before after : Plan (Chain B E bk ex)) (taken : Takings) (said : Sayings) (plans : PlansData) (gives : Result Bundle GatherFault) (answer : Looking) → AnswersKept taken said plans gives answer → SearchesFirst before after answer
-kept_search before after taken said plans gives looking.NoReload kept = absurd kept
-kept_search before after taken said plans gives (looking.ReadFailed name) kept = tt
-kept_search before after taken said plans gives looking.Same kept = tt
-kept_search before after taken said plans gives (looking.Refused why) kept = tt
-kept_search before after taken said plans gives (looking.PortsDiffer ports others) kept = tt
-kept_search before after taken said plans gives looking.SerialsSpent kept = absurd kept
-kept_search before after taken said plans gives (looking.AllPinned one two three) kept = absurd kept
-kept_search before after taken said plans gives (looking.StockShort name asked had) kept = absurd kept
-kept_search before after taken said plans gives (looking.Published serial) kept = absurd kept
-kept_search before after taken said plans gives looking.NoMemory kept = tt
+kept_search : {B E : Type 0} {bk : rulebook.Ghosts B} {ex : extra.Ghosts E} (before after : Plan (Chain B E bk ex)) (taken : Takings) (said : Sayings) (plans : PlansData) (gives : Result Bundle GatherFault) (answer : Looking) → after ≡ before → AnswersKept taken said plans gives answer → Searches before after answer
+kept_search before after taken said plans gives looking.NoReload same kept = absurd kept
+kept_search before after taken said plans gives (looking.ReadFailed name) same kept = same
+kept_search before after taken said plans gives looking.Same same kept = same
+kept_search before after taken said plans gives (looking.Refused why) same kept = same
+kept_search before after taken said plans gives (looking.PortsDiffer ports others) same kept = same
+kept_search before after taken said plans gives looking.SerialsSpent same kept = absurd kept
+kept_search before after taken said plans gives (looking.AllPinned one two three) same kept = absurd kept
+kept_search before after taken said plans gives (looking.StockShort name asked had) same kept = absurd kept
+kept_search before after taken said plans gives (looking.Published serial) same kept = absurd kept
+kept_search before after taken said plans gives looking.NoMemory same kept = inl same
 
--- a look that came to no search has none to tell of
+-- a look that came to no search left the slots as they were
 pub kept_searched : {B E : Type 0} {bk : rulebook.Ghosts B} {ex : extra.Ghosts E} (before after : Plan (Chain B E bk ex)) (taken : Takings) (said : Sayings) (plans : PlansData) (gives : Result Bundle GatherFault) (w w' : WatchState) (answer result : Looking)
-    → AnswersKept taken said plans gives answer → NotesLook w w' answer result → SearchesFirst before after result
-kept_searched before after taken said plans gives w w' answer result kept notes = elim notes.either [
-  | inl is ↦ rw is.0 (kept_search before after taken said plans gives answer kept)
-  | inr is ↦ rw is.0 tt
+    → after ≡ before → AnswersKept taken said plans gives answer → NotesLook w w' answer result → Searches before after result
+kept_searched before after taken said plans gives w w' answer result same kept notes = elim notes.either [
+  | inl is ↦ rw is.0 (kept_search before after taken said plans gives answer same kept)
+  | inr is ↦ rw is.0 (inl same)
 ]

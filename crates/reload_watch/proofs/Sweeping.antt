@@ -1,5 +1,5 @@
 -- What a search for a free slot swept.
-use Rattle.std.proofs.Common.{◌≡◌, ◌≢◌, ◌<◌, ℕ, true, false, List, [], ◌∷◌, refl, sym, ap, subst, ◌∙◌, inl, inr, arith}
+use Rattle.std.proofs.Common.{◌≡◌, ◌≢◌, ◌<◌, ℕ, true, false, List, [], ◌∷◌, length, refl, sym, ap, subst, ◌∙◌, inl, inr, arith}
 use Rattle.pin_core.specs.declared.slots.TheConstants.{SLOTS}
 use Rattle.pin_table.specs.declared.free_slots.FreeSlot.{FreeSlot}
 use Rattle.pin_table.specs.declared.free_slots.FreeSlot.TheVariants as found
@@ -17,10 +17,12 @@ use Rattle.run_meaning.specs.declared.looking.Looking.TheVariants as looking
 use Rattle.chain_build.specs.declared.chain.Chain.{Chain}
 use Rattle.plugin_api.specs.declared.extra.Extra as extra
 use Rattle.plugin_api.specs.declared.rulebook.Rulebook as rulebook
-use Rattle.reload_watch.specs.Look.{SearchesFirst}
+use Rattle.reload_watch.specs.Look.{Searches, SearchesFirst}
 use Rattle.reload_watch.specs.Placing.{IsPlaced}
 use Rattle.reload_watch.specs.Sweeps.{KeepsSweeps, SweptFor, SweptThree}
-use Rattle.reload_watch.proofs.Placed.{apart}
+use Rattle.reload_watch.proofs.Placed.{apart, placed_freed}
+use Rattle.reload_watch.proofs.Standing.{freed_past}
+use Rattle.pin_table.specs.declared.views.Past.{Past}
 
 -- a sweep more
 more : (sweep : Sweep) (before after : List Sweep) → after ≡ sweep ∷ before → KeepsSweeps before after
@@ -115,16 +117,22 @@ module _ {C : Type 0} where
 
 -- what a look swept, by its answer
 module _ {B E : Type 0} {bk : rulebook.Ghosts B} {ex : extra.Ghosts E} where
-  pub swept_by : (p p' : Plan (Chain B E bk ex)) (answer : Looking) → IsPlaced p → SearchesFirst p p' answer → SweptFor p'.sweeps (count_of p) answer
-  swept_by p p' looking.NoReload placed is = tt
-  swept_by p p' (looking.ReadFailed name) placed is = tt
-  swept_by p p' looking.Same placed is = tt
-  swept_by p p' (looking.Refused why) placed is = tt
-  swept_by p p' (looking.PortsDiffer ports others) placed is = tt
-  swept_by p p' looking.SerialsSpent placed is = tt
-  swept_by p p' (looking.AllPinned one two three) placed is =
+  swept_on : (p p' : Plan (Chain B E bk ex)) (answer : Looking) → IsPlaced p → Searches p p' answer → SweptFor p'.sweeps (count_of p) answer
+  swept_on p p' looking.NoReload placed is = tt
+  swept_on p p' (looking.ReadFailed name) placed is = tt
+  swept_on p p' looking.Same placed is = tt
+  swept_on p p' (looking.Refused why) placed is = tt
+  swept_on p p' (looking.PortsDiffer ports others) placed is = tt
+  swept_on p p' looking.SerialsSpent placed is = tt
+  swept_on p p' (looking.AllPinned one two three) placed is =
       let f = is.1 in
       by_three p f.a f.b f.c f.first f.second f.third f.home_1 f.home_2 is.0 f.plan_1 f.plan_2 p' one two three placed f.order f.sweep_1 f.sweep_2 f.sweep_3 f.others f.answers
-  swept_by p p' (looking.StockShort name asked had) placed is = tt
-  swept_by p p' (looking.Published serial) placed is = tt
-  swept_by p p' looking.NoMemory placed is = tt
+  swept_on p p' (looking.StockShort name asked had) placed is = tt
+  swept_on p p' (looking.Published serial) placed is = tt
+  swept_on p p' looking.NoMemory placed is = tt
+
+  pub swept_by : (p p' : Plan (Chain B E bk ex)) (answer : Looking) → IsPlaced p → SearchesFirst p p' answer → SweptFor p'.sweeps (count_of p) answer
+  swept_by p p' answer placed is =
+      let past = freed_past p is.mid [] is.swept is.frees.0 is.frees.1 in
+      subst (λ (q : Past (Chain B E bk ex)). SweptFor p'.sweeps (length q.published) answer) past
+      (swept_on is.mid p' answer (placed_freed p [] is.swept is.frees.0 is.mid is.frees.1 placed) is.searches)

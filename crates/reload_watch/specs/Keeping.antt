@@ -9,6 +9,7 @@ use Rattle.chain_build.specs.declared.chain.Chain.{Chain}
 use Rattle.plugin_api.specs.declared.extra.Extra as extra
 use Rattle.plugin_api.specs.declared.rulebook.Rulebook as rulebook
 use Rattle.chain_build.specs.{ArePlans, chain_identity, chain_log}
+use Rattle.corefile_bundle.specs.{IsGathered}
 use Rattle.plugin_api.specs.{Obey}
 use Rattle.reload_watch.specs.declared.watcher.Watcher.{Watcher}
 use Rattle.reload_watch.specs.Filled.{EndsWith}
@@ -39,6 +40,7 @@ module _ {B E : Type 0} {b : rulebook.Ghosts B} {e : extra.Ghosts E} where
     pub within : count_of (plan_of watcher.publisher) ≤ MOST_SERIALS
     pub current : EndsWith (plan_of watcher.publisher).past.filled (arc_value watcher.current)
     pub are : ArePlans b.taken b.said (arc_value watcher.current)
+    pub gathered : IsGathered (arc_value watcher.current).bundle
     pub names : (arc_value watcher.current).names ≡ map e.title watcher.stock.judges.items
     pub judges : Obey b.taken b.said e.title e.takes e.ruling watcher.stock.judges.items
     pub spare : Obey b.taken b.said e.title e.takes e.ruling watcher.stock.spare.items

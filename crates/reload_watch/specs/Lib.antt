@@ -21,8 +21,8 @@ pub use Rattle.reload_watch.specs.Filled.{AreFilledBy, EndsWith, IsOf}
 pub use Rattle.reload_watch.specs.Going.{CountsRefusals, RoseWithin, WatchGoesOn}
 pub use Rattle.reload_watch.specs.Going.{refusals_by, refusals_first}
 pub use Rattle.reload_watch.specs.Keeping.{IsCleared, IsKeeping}
-pub use Rattle.reload_watch.specs.Look.{LooksOnce, SearchesFirst, starved_by}
-pub use Rattle.reload_watch.specs.Looked.{HasLooked}
+pub use Rattle.reload_watch.specs.Look.{LooksOnce, Searches, SearchesFirst, starved_by}
+pub use Rattle.reload_watch.specs.Looked.{HasLooked, Looks}
 pub use Rattle.reload_watch.specs.Opening.{GathersThat, ReadsFirst, ReadsPlans}
 pub use Rattle.reload_watch.specs.Placing.{IsPlaced}
 pub use Rattle.reload_watch.specs.Shortage.{Around, SaysStock, TellsStock, around_of, found_in}

@@ -107,25 +107,39 @@ module _ {B E : Type 0} {b : rulebook.Ghosts B} {e : extra.Ghosts E} where
     pub weighs : (w : List ℕ → ℕ) → out_weighs w after
         ≡ out_weighs w mid + in_chains chain_extras w chains
 
+  -- the slots are as they were, but for what one search for a free slot brought home, if there was
+  -- one
+  abbrev pub SweptOnly : Plan (Chain B E b e) → Plan (Chain B E b e) → Type 0
+  SweptOnly before after = (after ≡ before) ⊎ ((found : FreeSlot) × Frees before found after)
+
   -- where no slot was free, that is what a search for one came to in this call. Where a slot was,
-  -- and the stock was looked at, each other slot but the current one was swept before that.
-  abbrev pub SearchesFirst : Plan (Chain B E b e) → Plan (Chain B E b e) → Looking → Type 0
-  SearchesFirst before after (looking.AllPinned first second third) =
+  -- and the stock was looked at, each other slot but the current one was swept before that. Want of
+  -- memory left the slots as a search left them, and any other answer left them as they were.
+  abbrev pub Searches : Plan (Chain B E b e) → Plan (Chain B E b e) → Looking → Type 0
+  Searches before after (looking.AllPinned first second third) =
       Frees before (found.AllPinned first second third) after
-  SearchesFirst before after (looking.StockShort name asked had) =
+  Searches before after (looking.StockShort name asked had) =
       (slot : ℕ) × Frees before (found.Free slot) after
-  SearchesFirst before after (looking.Published serial) = FreesNext before after
-  SearchesFirst before after answer = Unit {0}
+  Searches before after (looking.Published serial) = FreesNext before after
+  Searches before after looking.NoMemory = SweptOnly before after
+  Searches before after answer = after ≡ before
+
+  -- a look first sweeps each slot but the current one, whatever that finds, and goes on from there
+  pub record SearchesFirst (before after : Plan (Chain B E b e)) (answer : Looking) : Type 0 where
+    pub mid : Plan (Chain B E b e)
+    pub swept : FreeSlot
+    pub frees : Frees before swept mid
+    pub searches : Searches mid after answer
 
   -- what a look that found a free slot leaves of what stands in the table, by its answer
   abbrev pub LeavesSlot : Plan (Chain B E b e) → Plan (Chain B E b e) → Looking → Type 0
-  LeavesSlot before after (looking.AllPinned first second third) = ⊥
   LeavesSlot before after (looking.StockShort name asked had) = after ≡ before
   LeavesSlot before after (looking.Published serial) =
       (chains : List (Chain B E b e)) × AddsGeneration before chains after
       × ((w : List ℕ → ℕ)
       → out_weighs w after ≡ out_weighs w before + in_chains chain_extras w chains)
-  LeavesSlot before after answer = Unit {0}
+  LeavesSlot before after looking.NoMemory = after ≡ before
+  LeavesSlot before after answer = ⊥
 
 -- how the count of looks that met want of memory goes on
 abbrev pub starved_by : Looking → ℕ → ℕ

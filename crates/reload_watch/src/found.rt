@@ -2,15 +2,16 @@
 ghost use Rattle.std.specs.Prelude.{◌≡◌, ◌≢◌, map, IfOk, IsTrue, ◌↔◌, Ok};
 ghost use Rattle.plugin_api.specs.{Obey};
 ghost use Rattle.corefile_blocks.specs.{IsReadable};
+ghost use Rattle.corefile_bundle.specs.{IfOther, read_again};
 ghost use Rattle.chain_build.specs.{ArePlans, ground_of};
 ghost use Rattle.outside.specs.States.{WatchState};
 ghost use Rattle.reload_watch.specs.Going.{found_behind};
 ghost use Rattle.reload_watch.specs.Look.{Finds};
 
 use crate::fault::{answer_to, read_fault};
-use chain_build::{CheckFault, Plans, check};
+use chain_build::{CheckFault, Plans, recheck};
 use corefile_blocks::Bundle;
-use corefile_bundle::GatherFault;
+use corefile_bundle::{GatherFault, Regathered};
 use dns_data::{NoMemory, Seq};
 use outside::Watch;
 use plugin_api::{Extra, Rulebook};
@@ -25,19 +26,21 @@ pub(crate) enum Found<B: Rulebook> {
 
 pub(crate) fn find<W: Watch, B: Rulebook, E: Extra>(
     alloc: Global,
-    gathered: Result<Bundle, GatherFault>,
+    gathered: Result<Regathered, GatherFault>,
     current: &Plans<B>,
     judges: &[E],
     watch: &mut W,
 ) -> Found<B>
     requires current { current.now.names ≡ map E.title judges.now }
     requires judges { Obey B.taken B.said E.title E.takes E.ruling judges.now }
-    requires readable { IfOk gathered (λ bundle. IsReadable bundle) }
-    ensures finds { Finds B.taken B.said current.now gathered result }
+    requires readable { IfOther gathered (λ bundle. IsReadable bundle) }
+    ensures finds { Finds B.taken B.said current.now (read_again current.now.bundle gathered)
+        result }
     ensures watch { W.state watch.new ≡ found_behind result (W.state watch.old) }
 {
     match gathered {
-        Ok(bundle) => compare(alloc, bundle, current, judges, watch),
+        Ok(Regathered::Same) => Found::Kept(Looking::Same),
+        Ok(Regathered::Other(bundle)) => compare(alloc, bundle, current, judges, watch),
         Err(fault) => Found::Kept(answer_to(read_fault(fault))),
     }
 }
@@ -60,7 +63,8 @@ fn compare<W: Watch, B: Rulebook, E: Extra>(
         return Found::Kept(Looking::Same);
     }
     current.tell();
-    match check(alloc, bundle, current.default_port, judges, watch) {
+    let port = current.default_port;
+    match recheck(alloc, current, bundle, port, judges, watch) {
         Ok(plans) => compare_ports(alloc, plans, current),
         Err(CheckFault::Refused(refusal)) => Found::Kept(Looking::Refused(refusal)),
         Err(CheckFault::NoMemory) => Found::Kept(Looking::NoMemory),

@@ -1,6 +1,7 @@
 //! The publication of what was read, and the notes of looks.
 ghost use Rattle.std.specs.Prelude.{◌≡◌, ◌≤◌, ◌<◌, ◌+◌, ◌*◌, ℕ, List, [], ◌∷◌, length};
 ghost use Rattle.std.specs.Vec.{vec_len, vec_capacity};
+ghost use Rattle.corefile_bundle.specs.{IsGathered};
 ghost use Rattle.outside.specs.declared.mark.WatchMark.TheVariants as mark;
 ghost use Rattle.outside.specs.States.{WatchStays};
 ghost use Rattle.outside.specs.WatchMarks.{AddsWatch};
@@ -12,7 +13,7 @@ ghost use Rattle.pin_table.specs.{IsPublisherOf, SamePublisher, count_of, plan_o
 ghost use Rattle.std.specs.Arc.{arc_value};
 ghost use Rattle.reload_watch.specs.Keeping.{IsKeeping};
 ghost use Rattle.reload_watch.specs.Look.{Frees, LeavesSlot, NotesLine, NotesLook};
-ghost use Rattle.reload_watch.specs.Look.{PublishesNext, SearchesFirst};
+ghost use Rattle.reload_watch.specs.Look.{PublishesNext, Searches};
 ghost use Rattle.reload_watch.specs.Placing.{IsPlaced};
 ghost use Rattle.reload_watch.specs.Publishing.{AddsGeneration, KeepsPast};
 ghost use Rattle.reload_watch.specs.Shortage.{SaysStock, found_in};
@@ -53,6 +54,34 @@ fn note_line<W: Watch>(watch: &mut W, line: &[u8])
     }
 }
 
+// Sweeps the slots of replaced generations, and brings home what they have. What is free then is
+// no matter.
+pub(crate) fn sweep<W: Watch, B: Rulebook, E: Extra>(
+    watcher: &mut Watcher<W, B, E>,
+    table: &PinTable<Chain<B, E>>,
+)
+    requires keeping { IsKeeping table.now watcher.old }
+    ensures keeping { IsKeeping table.now watcher.new }
+    ensures own { SamePublisher watcher.old.publisher watcher.new.publisher }
+    ensures keeps { KeepsPast (plan_of watcher.old.publisher) (plan_of watcher.new.publisher) }
+    ensures swept { (swept : FreeSlot)
+        × Frees (plan_of watcher.old.publisher) swept (plan_of watcher.new.publisher) }
+    ensures sweeps { KeepsSweeps (plan_of watcher.old.publisher).sweeps
+        (plan_of watcher.new.publisher).sweeps }
+    ensures extras { KeepsStock watcher.old watcher.new }
+    ensures watch { watcher.new.watch ≡ watcher.old.watch }
+    ensures current { watcher.new.current ≡ watcher.old.current }
+    ensures workers { watcher.new.workers ≡ watcher.old.workers }
+    ensures starved { watcher.new.starved ≡ watcher.old.starved }
+{
+    let _ = free_slot(
+        table,
+        &mut watcher.publisher,
+        &mut watcher.home,
+        &mut watcher.stock,
+    );
+}
+
 // Publishes plans, unless serials are spent or all slots pinned. The slots are swept first, and the
 // extras that came home are spare again.
 pub(crate) fn publish_next<W: Watch, B: Rulebook, E: Extra>(
@@ -63,6 +92,7 @@ pub(crate) fn publish_next<W: Watch, B: Rulebook, E: Extra>(
 ) -> Looking
     requires keeping { IsKeeping table.now watcher.old }
     requires are { ArePlans B.taken B.said plans }
+    requires gathered { IsGathered plans.bundle }
     requires basis { ground_of plans ≡ ground_of (arc_value watcher.old.current) }
     ensures keeping { IsKeeping table.now watcher.new }
     ensures own { SamePublisher watcher.old.publisher watcher.new.publisher }
@@ -71,7 +101,7 @@ pub(crate) fn publish_next<W: Watch, B: Rulebook, E: Extra>(
         (W.state watcher.old.watch) (W.state watcher.new.watch) plans result }
     ensures stock { SaysStock watcher.old.workers plans.extras (found_in watcher.old watcher.new)
         result }
-    ensures searches { SearchesFirst (plan_of watcher.old.publisher)
+    ensures searches { Searches (plan_of watcher.old.publisher)
         (plan_of watcher.new.publisher) result }
     ensures sweeps { KeepsSweeps (plan_of watcher.old.publisher).sweeps
         (plan_of watcher.new.publisher).sweeps }
@@ -110,6 +140,7 @@ fn publish_in<W: Watch, B: Rulebook, E: Extra>(
     requires few { count_of (plan_of watcher.old.publisher) < MOST_SERIALS }
     requires free { IsFreeSlot (plan_of watcher.old.publisher) slot }
     requires are { ArePlans B.taken B.said plans }
+    requires gathered { IsGathered plans.bundle }
     requires basis { ground_of plans ≡ ground_of (arc_value watcher.old.current) }
     ensures keeping { IsKeeping table.now watcher.new }
     ensures own { SamePublisher watcher.old.publisher watcher.new.publisher }

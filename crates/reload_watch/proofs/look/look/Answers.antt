@@ -1,63 +1,28 @@
-use Rattle.std.proofs.Common.{true, ◌≡◌, ℕ, ap, subst, ◌∙◌, rules}
-use Rattle.outside.specs.States.{WatchState}
-use Rattle.chain_build.specs.{PlansData}
-use Rattle.reload_watch.specs.Going.{CountsRefusals}
-use Rattle.reload_watch.specs.Look.{AnswersKept, IsNext}
-use Rattle.run_meaning.specs.Reloads.{reloads}
-use Rattle.reload_watch.specs.States.{serving_of}
-use Rattle.reload_watch.proofs.Going.{goes_same, goes_then, kept_goes, next_counts, noted_counts, stays_goes, tells_kept, tells_same}
-use Rattle.reload_watch.proofs.Looks.{kept_looks, next_looks}
+use Rattle.std.proofs.Common.{subst, rules}
+use Rattle.outside.specs.Causes.{Rose}
 use Rattle.pin_table.specs.{plan_of}
-use Rattle.reload_watch.proofs.Stocked.{kept_searched}
+use Rattle.reload_watch.specs.Going.{CountsRefusals, WatchGoesOn}
+use Rattle.reload_watch.specs.States.{source_data}
+use Rattle.reload_watch.proofs.Looks.{swept_looks}
+use Rattle.reload_watch.proofs.Stocked.{keeps_both}
 use Rattle.reload_watch.proofs.look.look.Goals as goal
 
-pub returns-in-Kept-clause-look : goal.returns-in-Kept-clause-look
-returns-in-Kept-clause-look g c =
+pub returns-clause-look : goal.returns-clause-look
+returns-clause-look g c =
     let state = g.W.PatternMaker.state in
-    let old = serving_of c.args.watcher.now in
-    let before = state c.args.watcher.now.watch in
-    let mid = state c.gather-gathered.new.watch in
-    let found = state c.find-found.new.watch in
-    let after = state c.note_look.new.watch in
-    let again : reloads old.plans.blocks ≡ true = search rules in
-    let kept = subst (λ (x : PlansData). AnswersKept g.B.Rulebook.taken g.B.Rulebook.said x c.gather-gathered.result c.in-Kept.looking) c.deref-2.ensures c.in-Kept.ensures.finds in
+    let old = c.args.watcher.now in
+    let mid = c.sweep.new.watcher in
+    let new = c.look_on.new.watcher in
+    let swept = c.sweep.ensures in
+    let on = c.look_on.ensures.look in
     record {
       own = search rules;
       workers = search rules;
-      looks = kept_looks _ old before found after c.gather-gathered.result c.in-Kept.looking c.note_look.result again
-          (tells_kept c.in-Kept.looking c.in-Kept.ensures.watch c.gather-gathered.ensures.told) kept c.note_look.ensures.notes;
-      searches = kept_searched (plan_of c.args.watcher.now.publisher) (plan_of c.args.watcher.now.publisher) g.B.Rulebook.taken g.B.Rulebook.said old.plans c.gather-gathered.result found after c.in-Kept.looking c.note_look.result kept c.note_look.ensures.notes;
-      extras = search rules;
-      sweeps = search rules;
-      goes = goes_then (stays_goes c.gather-gathered.ensures.stays)
-          (goes_then (kept_goes c.in-Kept.looking mid found c.in-Kept.ensures.watch) (stays_goes c.note_look.ensures.stays));
-      refusals = subst (λ (n : ℕ). CountsRefusals c.note_look.result n after.refusals) c.gather-gathered.ensures.stays.refusals
-          (noted_counts c.in-Kept.looking c.note_look.result mid found after c.in-Kept.ensures.watch c.note_look.ensures.stays.refusals c.note_look.ensures.notes);
-      read = search rules;
-    }
-
-pub returns-in-Next-clause-look : goal.returns-in-Next-clause-look
-returns-in-Next-clause-look g c =
-    let state = g.W.PatternMaker.state in
-    let old = serving_of c.args.watcher.now in
-    let new = serving_of c.publish_next.new.watcher in
-    let before = state c.args.watcher.now.watch in
-    let mid = state c.gather-gathered.new.watch in
-    let found = state c.find-found.new.watch in
-    let after = state c.publish_next.new.watcher.watch in
-    let again : reloads old.plans.blocks ≡ true = search rules in
-    let next = subst (λ (x : PlansData). IsNext g.B.Rulebook.taken g.B.Rulebook.said x c.gather-gathered.result c.in-Next.plans) c.deref-2.ensures c.in-Next.ensures.finds in
-    record {
-      own = search rules;
-      workers = search rules;
-      looks = next_looks _ old new before found after c.gather-gathered.result c.in-Next.plans c.publish_next.result again
-          (tells_same c.in-Next.ensures.watch c.gather-gathered.ensures.told) next c.publish_next.ensures.publishes c.publish_next.ensures.stock;
-      searches = search rules;
-      extras = search rules;
-      sweeps = search rules;
-      goes = goes_then (stays_goes c.gather-gathered.ensures.stays)
-          (goes_then (goes_same mid found c.in-Next.ensures.watch) (stays_goes c.publish_next.ensures.stays));
-      refusals = next_counts old new found after c.in-Next.plans c.publish_next.result before.refusals after.refusals
-          (c.publish_next.ensures.stays.refusals ∙ ap (λ (s : WatchState). s.refusals) c.in-Next.ensures.watch ∙ c.gather-gathered.ensures.stays.refusals) c.publish_next.ensures.publishes;
-      read = search rules;
+      looks = swept_looks state (source_data c.args.source) old mid new c.look_on.result swept.keeps.past swept.current swept.watch swept.workers on.looks;
+      searches = λ _. record { mid = plan_of mid.publisher; swept = swept.swept.0; frees = swept.swept.1; searches = on.searches };
+      extras = keeps_both swept.extras on.extras;
+      sweeps = λ last serial left has. on.sweeps last serial left (swept.sweeps last serial left has);
+      goes = subst (λ w. WatchGoesOn (state w) (state new.watch)) swept.watch on.goes;
+      refusals = subst (λ w. CountsRefusals c.look_on.result (state w).refusals (state new.watch).refusals) swept.watch on.refusals;
+      read = λ name is. subst (λ w. Rose (state w).counts.reads (state new.watch).counts.reads) swept.watch (on.read name is);
     }

@@ -89,5 +89,5 @@ returns-in-Ok-build-clause-slot g c = (c.in-Ok-build.chains.items, c.publish.ens
 pub returns-in-Err-StockShort-clause-slot : goal.returns-in-Err-StockShort-clause-slot
 returns-in-Err-StockShort-clause-slot g c = elim c.note_look.ensures.notes.either [
   | inl w ↦ rw w.0 refl
-  | inr w ↦ rw w.0 tt
+  | inr w ↦ rw w.0 refl
 ]

@@ -10,6 +10,7 @@ use Rattle.corefile_blocks.specs.declared.bundle.Bundle.{Bundle}
 use Rattle.chain_build.specs.declared.chain.Chain.{Chain}
 use Rattle.plugin_api.specs.declared.extra.Extra as extra
 use Rattle.plugin_api.specs.declared.rulebook.Rulebook as rulebook
+use Rattle.corefile_bundle.specs.{IsGathered}
 use Rattle.chain_build.specs.{ArePlans, chain_identity, chain_log, ground_of, plans_of}
 use Rattle.chain_meaning.specs.{Ground}
 use Rattle.plugin_api.specs.{Obey}
@@ -152,11 +153,11 @@ module _ {B E : Type 0} {bk : rulebook.Ghosts B} {ex : extra.Ghosts E} where
   -- a watcher that has published the first chains
   pub watching : {W N K : Type 0} (table : PinTable (Chain B E bk ex) N K) (w : Watcher W B E bk ex) (chains : List (Chain B E bk ex)) → IsPublisherOf table w.publisher → IsOpened chains (plan_of w.publisher)
       → AreFilled chain_identity chain_log 0 (plan_of w.publisher).past.filled → w.workers ≡ length chains → (0 < length chains) × (length chains ≤ WORKERS)
-      → All (λ chain. plans_of chain ≡ arc_value w.current) chains → ArePlans bk.taken bk.said (arc_value w.current)
+      → All (λ chain. plans_of chain ≡ arc_value w.current) chains → ArePlans bk.taken bk.said (arc_value w.current) → IsGathered (arc_value w.current).bundle
       → (arc_value w.current).names ≡ map ex.title w.stock.judges.items → Obey bk.taken bk.said ex.title ex.takes ex.ruling w.stock.judges.items → Obey bk.taken bk.said ex.title ex.takes ex.ruling w.stock.spare.items
       → IsStanding chain_identity (plan_of w.publisher) → HasPlaces (vec_len w.stock.spare) (vec_capacity w.stock.spare) (plan_of w.publisher)
       → (w.home.items ≡ []) × (vec_len w.home ≡ 0) × (4 * length chains ≤ vec_capacity w.home) → w.starved ≡ 0 → IsWatching table w
-  watching table w chains own opened filled workers few serve are names judges spare stands places home starved =
+  watching table w chains own opened filled workers few serve are gathered names judges spare stands places home starved =
       let plan = opened.1 in
       let count : count_of (plan_of w.publisher) ≡ 1 = ap (λ (p : Plan (Chain B E bk ex)). count_of p) plan in
       let all : take (length chains) chains ≡ chains = take_all (length chains) chains (omega arith) in
@@ -178,6 +179,7 @@ module _ {B E : Type 0} {bk : rulebook.Ghosts B} {ex : extra.Ghosts E} where
             serve = serve;
           };
           are = are;
+          gathered = gathered;
           names = names;
           judges = judges;
           spare = spare;

@@ -4,6 +4,8 @@ pub mod Ended
 pub mod Holding
 pub mod Joining
 pub mod Leaving
+pub mod LoadSides
+pub mod Loads
 pub mod Opened
 pub mod Openings
 pub mod Starting

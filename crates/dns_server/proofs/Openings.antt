@@ -1,6 +1,6 @@
 -- How a run opens and ends.
-use Rattle.std.proofs.Common.{◌≡◌, ◌≤◌, ◌≢◌, ℕ, suc, List, [], ◌∷◌, ◌++◌, length, map, get_or, Option, Some, None, Result, Ok, Err, append-nil, refl, sym, ap, subst, ◌∙◌, inl, inr, arith, ◌⊎◌}
-use Rattle.std.specs.Prelude.{IfSome, codes}
+use Rattle.std.proofs.Common.{◌≡◌, ◌≤◌, ◌≢◌, ℕ, suc, List, [], ◌∷◌, ◌++◌, length, map, Option, Some, None, Result, Ok, Err, append-nil, refl, sym, ap, subst, ◌∙◌, inl, inr, arith, ◌⊎◌}
+use Rattle.std.specs.Prelude.{IfSome}
 use Rattle.std.specs.List.{flat_map, AllByRecursion}
 use Rattle.std.proofs.lemmas.List.Concat.{flat_map-cons}
 use Rattle.dns_data.specs.declared.block.Block.{Block}
@@ -13,7 +13,6 @@ use Rattle.outside.specs.Journals.{host-adds-nothing, host-adds-then, rose_faile
 use Rattle.outside.specs.Script.{SideScriptData}
 use Rattle.outside.specs.States.{SideState, WatchState}
 use Rattle.outside.specs.WatchMarks.{AddsWatch}
-use Rattle.command_line.specs.Command.{ServeData, IsCommand, serve, load}
 use Rattle.corefile_blocks.specs.declared.bundle.Bundle.{Bundle}
 use Rattle.corefile_bundle.specs.declared.fault.GatherFault.{GatherFault}
 use Rattle.corefile_bundle.specs.declared.fault.GatherFault.TheVariants as unread
@@ -51,18 +50,6 @@ use Rattle.dns_server.specs.Report.{RunData, CauseOf, Finishes, IsEndStatus, IsF
 use Rattle.dns_server.specs.States.{RunSetup, SideRun}
 use Rattle.dns_server.specs.WatchRun.{Tells}
 use Rattle.dns_server.proofs.Opened.{none_taken, sides_count}
-
-first_byte : List (List ℕ) → ℕ
-first_byte [] = 0
-first_byte (word ∷ words) = get_or word 0 0
-
--- words that ask for a load ask for no serving
-pub no_serving : (words : List (List ℕ)) (number : ℕ) (how : ServeData) → IsCommand words (load number) → IsCommand words (serve how) → ⊥
-unfolding first_byte
-no_serving words number how one two =
-    let same : codes "load" ∷ one.others ≡ codes "serve" ∷ two.others = sym one.words_are ∙ two.words_are in
-    let first = ap first_byte same in
-    omega (arith, first)
 
 -- nothing was published and nothing pinned
 no_pins : OnePinRun 0 0 (side_pins [])
@@ -124,7 +111,7 @@ stops {stock} {setup} {before} {after} how watch back script refused opening tol
     stops_open how watch back [] [] script refused opening (inl refl) refl told (none_taken before.supply after.supply supply) cause
 
 end_cause : (stock : StockData) (setup : RunSetup) (before after : HostCounts) (watch : Option WatchState) (sides : List SideRun) (published starving : ℕ) (how : Status) → published ≢ 0 → IsEndStatus sides starving how
-    → CauseOf how setup (record { status = how; sides = sides; watch = watch; published = published; stock = stock; starved = starving }) before after
+    → CauseOf how setup (record { status = how; sides = sides; watch = watch; published = published; stock = stock; starved = starving; load = None }) before after
 end_cause stock setup before after watch sides published starving status.Usage some is = absurd is
 end_cause stock setup before after watch sides published starving (status.ReadFailed name) some is = absurd is
 end_cause stock setup before after watch sides published starving status.OpenFailed some is = absurd is
@@ -195,7 +182,7 @@ pub serves : (setup : RunSetup) (before after : HostState) (how : Status) (fresh
     → AddsWatch read published (Published 0 ∷ []) → RefusesNone read published
     → places ≡ sides_of setup.workers plans.ports → OpensAll before after places sides
     → Finishes setup plans.bundle sides published left → IsEndStatus left.sides left.starved how
-    → RunsBehind setup (record { status = how; sides = left.sides; watch = Some left.watch; published = left.published; stock = left.stock; starved = left.starved }) fresh before after
+    → RunsBehind setup (record { status = how; sides = left.sides; watch = Some left.watch; published = left.published; stock = left.stock; starved = left.starved; load = None }) fresh before after
 serves setup before after how fresh read published plans places sides left is_fresh script reads some_ports few publishes kept places_are opens by stands =
     let accepted : IsAccepted (run_terms setup) plans.bundle plans.blocks = subst (λ (g : Ground). IsAccepted (terms_on setup.footing.taken setup.footing.said g) plans.bundle plans.blocks) reads.ground_is reads.are.accepted in
     let count : length (bundles_of plans.bundle by.looks) ≡ left.published = by.count in

@@ -16,7 +16,6 @@ use Rattle.outside.specs.States.{SideState, WatchState}
 use Rattle.outside.specs.WatchMarks.{AddsWatch}
 use Rattle.corefile_blocks.specs.declared.bundle.Bundle.{Bundle}
 use Rattle.dns_data.specs.declared.block.Block.{Block}
-use Rattle.corefile_words.specs.declared.word.Pair.{Pair}
 use Rattle.corefile_blocks.specs.Ports.{ArePorts}
 use Rattle.corefile_bundle.specs.declared.fault.GatherFault.{GatherFault}
 use Rattle.corefile_bundle.specs.declared.fault.GatherFault.TheVariants as unread
@@ -43,7 +42,6 @@ use Rattle.dns_server.specs.declared.report.Ran.{Ran}
 use Rattle.chain_meaning.specs.declared.refusal.Refusal.{Refusal}
 use Rattle.dns_server.specs.declared.status.Status.{Status}
 use Rattle.dns_server.specs.declared.status.Status.TheVariants as status
-use Rattle.command_line.specs.Command.{ServeData, IsCommand, serve}
 use Rattle.chain_meaning.specs.{Terms}
 use Rattle.chain_meaning.specs.Accepting.{IsAccepted}
 use Rattle.chain_meaning.specs.Steps.{block_extras}
@@ -52,8 +50,8 @@ use Rattle.dns_server.specs.Holding.{AreHeld, AreHeldBehind}
 use Rattle.dns_server.specs.Lending.{AreLent, AreLentBehind, lent_by}
 use Rattle.dns_server.specs.Opening.{BeginsSides, RefusesSides, TakesSides, WantsSides}
 use Rattle.dns_server.specs.Opening.{scripts_of, side_count}
-use Rattle.dns_server.specs.States.{RunSetup, SideRun, run_terms, setup_of, side_runs}
-use Rattle.dns_server.specs.Stocking.{Program, StockData, count_name, stock_data}
+use Rattle.dns_server.specs.States.{LoadData, RunSetup, SideRun, run_terms, side_runs}
+use Rattle.dns_server.specs.Stocking.{StockData, count_name, stock_data}
 use Rattle.dns_server.specs.WatchRun.{WatchRun}
 
 -- what a report has; of its stock the names alone
@@ -64,8 +62,9 @@ pub record RunData : Type 0 where
   pub published : ℕ
   pub stock : StockData
   pub starved : ℕ
+  pub load : Option LoadData
 
--- what a run leaves, by what the types of its sides, its watch and its extras tell
+-- what a run leaves, by what the types of its sides, its watch and its extras tell. It is no load.
 abbrev pub run_data : {S W E : Type 0} → (S → SideState) → (W → WatchState) → (E → List ℕ)
     → Ran S W E → RunData
 run_data side watch title ran = record {
@@ -75,6 +74,7 @@ run_data side watch title ran = record {
   published = ran.published;
   stock = stock_data title ran.stock;
   starved = ran.starved;
+  load = None;
 }
 
 -- a side that tells its journal tells a worker's run by the published bundles, under pins of these
@@ -213,10 +213,6 @@ pub record ServesBy (setup : RunSetup) (run : RunData) (before after : HostState
   pub held : AreHeldBehind pinned bundles looks
   pub lent : AreLentBehind (lent_by setup (length run.sides) run.stock) pinned bundles looks
   pub pins : OnePinRun (length run.sides) run.published (side_pins pinned)
-
--- the words ask for no serving: they are no command, or `load`, which isn't built
-abbrev pub IsUsage : List (List ℕ) → Type 0
-IsUsage words = (how : ServeData) → IsCommand words (serve how) → ⊥
 
 -- nothing was published
 pub record IsRefused (run : RunData) (P : Type 0) : Type 0 where
@@ -376,23 +372,6 @@ pub record RunsCommand (setup : RunSetup) (run : RunData) (before after : HostSt
   pub refused : IsRefusing run
   pub cause : CauseOf run.status setup run before.counts after.counts
 
--- words that are no command open nothing and tell nothing
-pub record IsIdle (words : List (List ℕ)) (run : RunData) (before after : HostState) : Type 0 where
-  pub usage : IsUsage words
-  pub status_is : run.status ≡ status.Usage
-  pub sides : run.sides ≡ []
-  pub watch : run.watch ≡ None
-  pub published : run.published ≡ 0
-  pub starved : run.starved ≡ 0
-  pub host : after ≡ before
-
--- the words ask to serve so, and the run is by that
-pub record IsByCommand (program : Program) (words : List (List ℕ)) (env : List Pair)
-    (run : RunData) (before after : HostState) : Type 0 where
-  pub how : ServeData
-  pub words_are : IsCommand words (serve how)
-  pub runs : RunsCommand (setup_of program env how) run before after
-
 -- the status of a run by how its workers ended and how often they and the looks met want of memory
 abbrev pub IsEndStatus : List SideRun → ℕ → Status → Type 0
 IsEndStatus sides looking status.Usage = ⊥
@@ -412,11 +391,6 @@ IsFirstStatus (fault.Refused why) how = how ≡ status.Refused why
 IsFirstStatus (fault.ReadFailed name) how = how ≡ status.ReadFailed name
 IsFirstStatus fault.NoMemory how = how ≡ status.NoMemory
 
--- what a run is, by its words, before its status is told
-abbrev pub IsRunOf : Program → List (List ℕ) → List Pair → RunData → HostState → HostState → Type 0
-IsRunOf program words env run before after =
-    IsIdle words run before after ⊎ IsByCommand program words env run before after
-
 -- a run that ended before anything was served, with this stock
 abbrev pub stopped_run : Status → Option WatchState → StockData → RunData
 stopped_run how watch stock = record {
@@ -426,6 +400,7 @@ stopped_run how watch stock = record {
   published = 0;
   stock = stock;
   starved = 0;
+  load = None;
 }
 
 -- the status of a run whose first chains could not be built

@@ -1,6 +1,7 @@
 -- What a run is set to, and what its sides are behind it. Relations speak of these records.
 use Rattle.std.specs.Prelude.{ℕ, List, map}
-use Rattle.outside.specs.States.{SideState}
+use Rattle.load_maker.specs.declared.load.Load.{Load}
+use Rattle.outside.specs.States.{SideState, WatchState}
 use Rattle.command_line.specs.Command.{ServeData}
 use Rattle.corefile_words.specs.declared.word.Pair.{Pair}
 use Rattle.corefile_bundle.specs.Gathering.{Source}
@@ -56,3 +57,11 @@ side_run state done = record {
 
 abbrev pub side_runs : {S : Type 0} → (S → SideState) → List (Done S) → List SideRun
 side_runs state sides = map (side_run state) sides
+
+-- what the run of a load leaves: the load's data, the sides and the watch that were made of it, and
+-- how many generations were published
+pub record LoadData : Type 0 where
+  pub load : Load
+  pub sides : List SideRun
+  pub watch : WatchState
+  pub published : ℕ

@@ -8,8 +8,9 @@ use Rattle.outside.specs.Hosts.{HostState, TellsOneLine}
 use Rattle.dns_server.specs.declared.status.Status.{Status}
 use Rattle.dns_server.specs.declared.status.Status.TheVariants as status
 use Rattle.dns_server.specs.Messages.{status_text}
-use Rattle.dns_server.specs.Report.{RunData, IsRunOf}
+use Rattle.dns_server.specs.Report.{RunData}
 use Rattle.dns_server.specs.Stocking.{Program}
+use Rattle.dns_server.specs.Words.{IsRunOf}
 
 -- the status where its line could not be told: a cause that comes before serving stays
 abbrev pub untold : Status → Status

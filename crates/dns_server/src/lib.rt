@@ -5,6 +5,7 @@
 
 mod ending;
 mod finishing;
+mod loading;
 mod report;
 mod roles;
 mod rooms;
@@ -14,10 +15,11 @@ mod sides;
 mod status;
 mod stocking;
 mod telling;
+mod words;
 
 pub use chain_meaning::Refusal;
-pub use report::{Done, Report};
+pub use report::{Done, LoadRun, Report};
 pub use run_meaning::WorkEnd;
-pub use running::{run, run_with};
 pub use status::Status;
 pub use telling::tell_status;
+pub use words::{run, run_with};

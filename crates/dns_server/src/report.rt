@@ -1,6 +1,8 @@
 use crate::status::Status;
 use extra_stock::Stock;
+use load_maker::Load;
 use outside::Host;
+use outside_mem::{MemSide, MemWatch};
 use run_meaning::WorkEnd;
 
 /// A side whose worker has ended.
@@ -40,4 +42,16 @@ pub struct Report<H: Host, E> {
     pub stock: Stock<E>,
     /// In how many looks for a changed configuration it met want of memory.
     pub starved: u64,
+    /// The run of a load that published its first configuration. Any other command has none.
+    pub load: Option<LoadRun>,
+}
+
+/// The run of a load: its UDP side and its TCP side, its watch, and how many generations were
+/// published.
+#[derive(Drop)]
+pub struct LoadRun {
+    pub load: Load,
+    pub sides: Vec<Done<MemSide>>,
+    pub watch: MemWatch,
+    pub published: u64,
 }

@@ -1,36 +1,32 @@
+//! A run by a command, until its workers have ended.
 ghost use Rattle.dns_data.specs.declared.limit.TheConstants as limits;
 ghost use Rattle.std.specs.Prelude.{◌≡◌, ◌≢◌, ◌≤◌, ◌<◌, [], map, option_map};
 ghost use Rattle.dns_server.specs.Opening.{side_count};
 ghost use Rattle.chain_build.specs.{ArePlans, ground_of};
+ghost use Rattle.corefile_bundle.specs.{IsGathered};
 ghost use Rattle.chain_meaning.specs.{ground_at};
 ghost use Rattle.plugin_api.specs.{Obey};
 ghost use Rattle.command_line.specs.declared.bounds.TheConstants as defaults;
 ghost use Rattle.outside.specs.Causes.{HostNoneFell};
 ghost use Rattle.outside.specs.Hosts.{IsFreshWatch};
-ghost use Rattle.dns_server.specs.Report.{IsFirstStatus, IsRunOf, RunData, RunsBehind, RunsPlans};
+ghost use Rattle.dns_server.specs.Report.{IsFirstStatus, RunsBehind, RunsCommand, RunsPlans};
 ghost use Rattle.dns_server.specs.Report.{build_status, open_status, run_data, stopped_run};
-ghost use Rattle.dns_server.specs.Stocking.{HasEachName, SameNames, brings, stock_data};
-ghost use Rattle.dns_server.specs.States.{run_setup, side_runs};
-ghost use Rattle.dns_server.specs.Telling.{IsToldRun};
+ghost use Rattle.dns_server.specs.Stocking.{SameNames, stock_data};
+ghost use Rattle.dns_server.specs.States.{run_setup};
 
 use crate::ending::end_status;
 use crate::finishing::{Opened, finish};
-use crate::report::{Ran, Report};
+use crate::report::Ran;
 use crate::rooms::Rooms;
 use crate::setup::Setup;
 use crate::sides::{open_places, refused_sides};
 use crate::status::Status;
-use crate::stocking::{sorted, unsorted};
-use crate::telling::tell_status;
 use chain_build::{BuildFault, Plans, take_back};
-use command_line::{Command, read_command};
-use corefile_words::Pair;
-use dns_data::Text;
 use extra_stock::Stock;
 use outside::{Host, OpenFault, Side, Watch};
 use pin_table::PinTable;
 use plugin_api::{Extra, Rulebook};
-use reload_watch::{ReadFault, Source, Watcher, read_first};
+use reload_watch::{ReadFault, Watcher, read_first};
 use seeded_hash::Seed;
 use std::alloc::Global;
 use std::sync::Wait;
@@ -44,115 +40,31 @@ struct Begun<W, E> {
     seed: Seed,
 }
 
-/// Runs the command that the words ask for, over what the host opens, until its sides have ended
-/// and no look comes any more, and tells the line of its status. The words are those behind the
-/// program's own name. The extras are the program's own plugins: the first of each name judges
-/// directives, and all others are spare.
-pub fn run<R: Threads + Wait + Sync, H: Host, B: Rulebook + Send + Sync>(
+/// Opens the watch of a host, and runs a command over it.
+pub(crate) fn run_opened<
+    R: Threads + Wait + Sync,
+    H: Host,
+    B: Rulebook + Send + Sync,
+    E: Extra + Send,
+>(
     rt: &R,
     alloc: Global,
-    words: &[Text],
-    env: &[Pair],
+    setup: Setup<'_>,
     host: &mut H,
-    extras: Vec<Box<dyn Extra + Send>>,
-) -> Report<H, Box<dyn Extra + Send>>
-    requires obey { Obey B.taken B.said (λ e. title e) (λ e. takes e) (λ e. ruling e) extras.items }
-    ensures runs { let run : RunData = record {
-      status = result.status;
-      sides = side_runs H.Side.state result.sides.items;
-      watch = option_map H.Watch.state result.watch;
-      published = result.published;
-      stock = stock_data (λ e. title e) result.stock;
-      starved = result.starved;
-    } in
-        IsToldRun (brings B.taken B.said (map (λ e. title e) extras.items)) words.now env.now run
-        (H.state host.old) (H.state host.new) }
-    ensures extras { HasEachName (map (λ e. title e) extras.items)
-        (stock_data (λ e. title e) result.stock) }
-    ensures counts { HostNoneFell (H.state host.old).counts (H.state host.new).counts }
-{
-    run_with::<R, H, B, Box<dyn Extra + Send>>(rt, alloc, words, env, host, extras)
-}
-
-/// The same with extras of any one type.
-pub fn run_with<R: Threads + Wait + Sync, H: Host, B: Rulebook + Send + Sync, E: Extra + Send>(
-    rt: &R,
-    alloc: Global,
-    words: &[Text],
-    env: &[Pair],
-    host: &mut H,
-    extras: Vec<E>,
-) -> Report<H, E>
-    requires obey { Obey B.taken B.said E.title E.takes E.ruling extras.items }
-    ensures runs { let run : RunData = record {
-      status = result.status;
-      sides = side_runs H.Side.state result.sides.items;
-      watch = option_map H.Watch.state result.watch;
-      published = result.published;
-      stock = stock_data E.title result.stock;
-      starved = result.starved;
-    } in
-        IsToldRun (brings B.taken B.said (map E.title extras.items)) words.now env.now run
-        (H.state host.old) (H.state host.new) }
-    ensures extras { HasEachName (map E.title extras.items) (stock_data E.title result.stock) }
-    ensures counts { HostNoneFell (H.state host.old).counts (H.state host.new).counts }
-{
-    let Ran {
-        status,
-        sides,
-        watch,
-        published,
-        stock,
-        starved,
-    } = run_words::<R, H, B, E>(rt, alloc, words, env, host, extras);
-    Report {
-        status: tell_status(alloc, host, status),
-        sides,
-        watch,
-        published,
-        stock,
-        starved,
-    }
-}
-
-// Runs the command that the words ask for, before its status is told.
-fn run_words<R: Threads + Wait + Sync, H: Host, B: Rulebook + Send + Sync, E: Extra + Send>(
-    rt: &R,
-    alloc: Global,
-    words: &[Text],
-    env: &[Pair],
-    host: &mut H,
-    extras: Vec<E>,
+    stock: Stock<E>,
 ) -> Ran<H::Side, H::Watch, E>
-    requires obey { Obey B.taken B.said E.title E.takes E.ruling extras.items }
-    ensures runs { IsRunOf (brings B.taken B.said (map E.title extras.items)) words.now env.now
-        (run_data H.Side.state H.Watch.state E.title result)
-        (H.state host.old) (H.state host.new) }
-    ensures extras { HasEachName (map E.title extras.items) (stock_data E.title result.stock) }
+    requires workers { (0 < setup.workers) × (setup.workers ≤ defaults.WORKERS) }
+    requires some { 0 < setup.most }
+    requires most { setup.most ≤ limits.TURNS }
+    requires judges { Obey B.taken B.said E.title E.takes E.ruling stock.judges.items }
+    requires spare { Obey B.taken B.said E.title E.takes E.ruling stock.spare.items }
+    ensures runs { RunsCommand
+        (run_setup setup.entry B.taken B.said (map E.title stock.judges.items))
+        (run_data H.Side.state H.Watch.state E.title result) (H.state host.old)
+        (H.state host.new) }
+    ensures extras { SameNames (stock_data E.title stock) (stock_data E.title result.stock) }
     ensures counts { HostNoneFell (H.state host.old).counts (H.state host.new).counts }
 {
-    let serve = match read_command(words) {
-        Some(Command::Serve(serve)) => serve,
-        Some(Command::Load(_)) => {
-            return stopped(alloc, Status::Usage, None, unsorted(alloc, extras));
-        }
-        None => return stopped(alloc, Status::Usage, None, unsorted(alloc, extras)),
-    };
-    let Ok(conf) = Text::from_str(alloc, serve.conf) else {
-        return stopped(alloc, Status::NoMemory, None, unsorted(alloc, extras));
-    };
-    let stock = match sorted::<B, E>(alloc, extras) {
-        Ok(stock) => stock,
-        Err(extras) => {
-            return stopped(alloc, Status::NoMemory, None, unsorted(alloc, extras));
-        }
-    };
-    let setup = Setup {
-        source: Source { conf: &conf, env },
-        port: serve.port,
-        workers: serve.workers,
-        most: serve.most,
-    };
     match host.open_watch() {
         Ok(watch) => run_command::<R, H, B, E>(rt, alloc, setup, host, watch, stock),
         Err(OpenFault::Failed) => stopped(alloc, Status::OpenFailed, None, stock),
@@ -221,6 +133,7 @@ fn run_plans<R: Threads + Wait + Sync, H: Host, B: Rulebook + Send + Sync, E: Ex
     begun: Begun<H::Watch, E>,
 ) -> Ran<H::Side, H::Watch, E>
     requires are { ArePlans B.taken B.said plans }
+    requires gathered { IsGathered plans.bundle }
     requires basis { ground_of plans ≡ ground_at setup.port (map E.title begun.stock.judges.items) }
     requires workers { (0 < setup.workers) × (setup.workers ≤ defaults.WORKERS) }
     requires ports { plans.ports ≢ [] }
@@ -293,8 +206,8 @@ fn run_plans<R: Threads + Wait + Sync, H: Host, B: Rulebook + Send + Sync, E: Ex
     }
 }
 
-// A run that ended before anything was served.
-fn stopped<S: Side, W: Watch, E: Extra>(
+/// A run that ended before anything was served.
+pub(crate) fn stopped<S: Side, W: Watch, E: Extra>(
     alloc: Global,
     status: Status,
     watch: Option<W>,

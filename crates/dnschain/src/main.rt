@@ -1,6 +1,6 @@
 //! The program: `dnschain serve --conf FILE [--port N] [--workers N] [--queries N]`, over the
-//! sockets, files and streams of the system. It ends with a number that says how the run ended:
-//! README.md.
+//! sockets, files and streams of the system, and `dnschain load N`, which needs of them the stream
+//! of its lines alone. It ends with a number that says how the run ended: README.md.
 #![tactic(auto)]
 
 ghost use Rattle.std.specs.Prelude.{◌≡◌};

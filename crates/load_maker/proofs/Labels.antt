@@ -1,5 +1,5 @@
 -- How long the first label of a name is.
-use Rattle.std.proofs.Common.{◌≡◌, ◌<◌, ◌≤◌, ◌+◌, ◌++◌, ℕ, refl, List, [], ◌∷◌, length, ap, arith, codes, length-append}
+use Rattle.std.proofs.Common.{◌≡◌, ◌<◌, ◌≤◌, ◌+◌, ℕ, refl, List, length, ap, arith, codes, length-append}
 use Rattle.std.specs.Fmt.{decimal}
 use Rattle.std.proofs.lemmas.Fmt.{length-decimal-le}
 use Rattle.load_maker.specs.Queries.{label_of}

@@ -4,6 +4,7 @@ use Rattle.chain_meaning.specs.{ground_at}
 use Rattle.outside.specs.Causes.{HostNoneFell}
 use Rattle.outside.specs.Hosts.{HostState}
 use Rattle.reload_watch.specs.declared.fault.ReadFault.{ReadFault}
+use Rattle.corefile_bundle.specs.{gathered-in-order}
 use Rattle.reload_watch.specs.{ReadsFirst, footing_on, source_data}
 use Rattle.dns_server.specs.Report.{RunData, RunsBehind, run_data}
 use Rattle.dns_server.specs.Stocking.{data_weighs}
@@ -69,3 +70,9 @@ returns-in-Some-clause-extras g c = λ w. ap (λ (d : RunData). data_weighs w d.
 pub run_plans-requires-clause-basis : goal.run_plans-requires-clause-basis
 run_plans-requires-clause-basis g c = λ κs b.
     c.in-Ok.ensures.reads.ground_is ∙ (λ k. ground_at c.args.setup.port (map g.E.Extra.title (c.as_slice.ensures.value k)))
+
+-- the first bundle came in order, as it was read
+pub run_plans-requires-clause-gathered : goal.run_plans-requires-clause-gathered
+run_plans-requires-clause-gathered g c = λ κs b.
+    let told = c.in-Ok.ensures.reads.tells in
+    gathered-in-order (source_data c.args.setup.source) told.reads c.in-Ok.plans.bundle told.gathers

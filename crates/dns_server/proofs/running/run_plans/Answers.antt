@@ -1,6 +1,7 @@
 use Rattle.std.proofs.Common.{◌≡◌, ℕ, List, [], length, map, Err, append-nil, refl, sym, ap, subst, ◌∙◌, arith}
 use Rattle.std.specs.List.{All}
 use Rattle.outside.specs.Hosts.{OpenedSide}
+use Rattle.corefile_bundle.specs.{IsGathered}
 use Rattle.chain_build.specs.{ArePlans, Builds, PlansData, chain_extras, ground_of, plans_of}
 use Rattle.chain_meaning.specs.{Ground, ground_at}
 use Rattle.extra_stock.specs.{in_chains, is_named, names_weigh}
@@ -115,6 +116,7 @@ finish-finished-requires-clause-opened g c = λ κs b.
     record {
       watcher = watching c.in-Ok-new.table w chains made.own made.plan made.filled workers few
           (subst (λ (p : PlansData). All (λ chain. plans_of chain ≡ p) chains) (sym rooms.plans) rooms.chains) (subst (ArePlans g.B.Rulebook.taken g.B.Rulebook.said) (sym rooms.plans) c.requires.are)
+          (subst (λ (p : PlansData). IsGathered p.bundle) (sym rooms.plans) c.requires.gathered)
           names judges spare made.stands places' (rooms.none.3, rooms.none.4, let r = room.3 in omega (arith, r, each)) refl;
       ground_is = ap ground_of rooms.plans ∙ (c.requires.basis ∙ (λ k. ground_at c.args.setup.port (map title (sym judged k))));
       passes = made.passes.1;

@@ -1,9 +1,12 @@
-//! What a bundle is refused for: `check CONF PORT ENV FILES`.
+//! What a bundle is refused for: `check CONF PORT ENV FILES`, and `behind` with the same fields.
+
+ghost use Rattle.std.specs.Prelude.{IfOk};
+ghost use Rattle.corefile_blocks.specs.{IsReadable};
 
 use crate::case::Case;
 use crate::corefile::read_environment;
 use case_fields::{CaseFault, put_bytes, put_word, read_bytes, read_text};
-use chain_build::{CheckFault, Plans, check as check_bundle};
+use chain_build::{CheckFault, Plans, check as check_bundle, recheck};
 use chain_meaning::Refusal;
 use corefile_blocks::Bundle;
 use dns_data::{Bytes, FileText, FileTexts};
@@ -11,26 +14,124 @@ use outside::RegexMaker;
 use sinkhole_plugin::{Sinkhole, SinkholeBook};
 use std::alloc::Global;
 
-/// `ok`, or `refused` and the line that an operator sees, where the program brings `sinkhole`.
+// So many accepted cases of `behind` are kept.
+const KEPT: usize = 48;
+
+/// What accepted cases serve by: the last one of `check`, and the first ones of `behind`.
+#[derive(Drop)]
+pub struct Accepted {
+    pub last: Option<Plans<SinkholeBook>>,
+    pub kept: Vec<Plans<SinkholeBook>>,
+}
+
+impl Accepted {
+    pub fn none(alloc: Global) -> Accepted {
+        Accepted {
+            last: None,
+            kept: Vec::new(alloc),
+        }
+    }
+}
+
+/// `ok`, or `refused` and the line that an operator sees, where the program brings `sinkhole`; or
+/// `differs` where what is read behind the last accepted case comes to something else.
+pub fn check(
+    alloc: Global,
+    case: &Case<'_>,
+    accepted: &mut Accepted,
+    out: &mut String,
+) -> Result<(), CaseFault> {
+    let checked = check_anew(alloc, case)?;
+    let fresh = outcome(alloc, &checked)?;
+    if let Some(last) = &accepted.last {
+        if !is_alike(alloc, case, last, fresh.as_str())? {
+            return put_word(out, "differs");
+        }
+    }
+    if let Ok(plans) = checked {
+        accepted.last = Some(plans);
+    }
+    put_word(out, fresh.as_str())
+}
+
+/// As `check`, behind each of the first cases of this call that were accepted, itself among them.
+pub fn check_behind(
+    alloc: Global,
+    case: &Case<'_>,
+    accepted: &mut Accepted,
+    out: &mut String,
+) -> Result<(), CaseFault> {
+    let checked = check_anew(alloc, case)?;
+    let fresh = outcome(alloc, &checked)?;
+    if let Ok(plans) = checked {
+        if accepted.kept.len() < KEPT {
+            accepted.kept.push(plans)?;
+        }
+    }
+    for last in &accepted.kept {
+        if !is_alike(alloc, case, last, fresh.as_str())? {
+            return put_word(out, "differs");
+        }
+    }
+    put_word(out, fresh.as_str())
+}
+
+// Whether a case comes to the same behind another configuration.
+fn is_alike(
+    alloc: Global,
+    case: &Case<'_>,
+    last: &Plans<SinkholeBook>,
+    fresh: &str,
+) -> Result<bool, CaseFault> {
+    let rechecked = check_again(alloc, case, last)?;
+    let again = outcome(alloc, &rechecked)?;
+    Ok(fresh == again.as_str())
+}
+
+// What a case serves by, or its refusal.
 #[tactic(auto, using(sinkhole_plugin::specs::SinkholeLaws::sinkholes_obey))]
-pub fn check(alloc: Global, case: &Case<'_>, out: &mut String) -> Result<(), CaseFault> {
+fn check_anew(alloc: Global, case: &Case<'_>) -> Result<Checked, CaseFault> {
+    let (bundle, port) = read_readable(alloc, case)?;
+    let judges = [Sinkhole::new()];
+    let mut maker = RegexMaker::new();
+    Ok(check_bundle(alloc, bundle, port, &judges, &mut maker))
+}
+
+// The same behind another configuration.
+#[tactic(auto, using(sinkhole_plugin::specs::SinkholeLaws::sinkholes_obey))]
+fn check_again(
+    alloc: Global,
+    case: &Case<'_>,
+    last: &Plans<SinkholeBook>,
+) -> Result<Checked, CaseFault> {
+    let (bundle, port) = read_readable(alloc, case)?;
+    let judges = [Sinkhole::new()];
+    let mut maker = RegexMaker::new();
+    Ok(recheck(alloc, last, bundle, port, &judges, &mut maker))
+}
+
+type Checked = Result<Plans<SinkholeBook>, CheckFault>;
+
+// What an operator sees of it.
+fn outcome(alloc: Global, checked: &Checked) -> Result<String, CaseFault> {
+    let mut text = String::new(alloc);
+    match checked {
+        Ok(_) => put_word(&mut text, "ok")?,
+        Err(CheckFault::Refused(refusal)) => put_refusal(alloc, &mut text, refusal)?,
+        Err(CheckFault::NoMemory) => return Err(CaseFault::NoMemory),
+    }
+    Ok(text)
+}
+
+// The bundle of a case, whose lines can be counted.
+fn read_readable(alloc: Global, case: &Case<'_>) -> Result<(Bundle, u16), CaseFault>
+    ensures { IfOk result (λ read. IsReadable read.0) }
+{
     let (bundle, port) = read_bundle(alloc, case)?;
     if !bundle.is_readable() {
         return Err(CaseFault::Bad);
     }
-    let judges = [Sinkhole::new()];
-    let checked: Result<Plans<SinkholeBook>, CheckFault> = check_bundle(
-        alloc,
-        bundle,
-        port,
-        &judges,
-        &mut RegexMaker::new(),
-    );
-    match checked {
-        Ok(_) => put_word(out, "ok"),
-        Err(CheckFault::Refused(refusal)) => put_refusal(alloc, out, &refusal),
-        Err(CheckFault::NoMemory) => Err(CaseFault::NoMemory),
-    }
+    Ok((bundle, port))
 }
 
 fn put_refusal(alloc: Global, out: &mut String, refusal: &Refusal) -> Result<(), CaseFault> {

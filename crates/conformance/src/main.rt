@@ -21,6 +21,7 @@ mod zones;
 
 use case::Case;
 use case_fields::CaseFault;
+use checks::Accepted;
 use std::alloc::Global;
 use std::io::{BufRead, BufReader, BufWriter, Write};
 use std::{io, str};
@@ -35,24 +36,31 @@ fn main(rt: HostRuntime) -> io::Result<()> {
 
 fn print_all<I: BufRead, W: Write>(alloc: Global, lines: &mut I, out: &mut W) -> io::Result<()> {
     let mut line = Vec::new(alloc);
+    let mut accepted = Accepted::none(alloc);
     for _ in 0..u64::MAX {
         line.clear();
         if lines.read_until(b'\n', &mut line)? == 0 {
             break;
         }
         // Behind ` = ` of a case there may be nothing, so its line is taken as it is.
-        print(alloc, out, str::from_utf8(&line).unwrap_or(""))?;
+        let text = str::from_utf8(&line).unwrap_or("");
+        print(alloc, &mut accepted, out, text)?;
     }
     Ok(())
 }
 
 // Prints a line with its answer, or that it is no case.
-fn print<W: Write>(alloc: Global, out: &mut W, line: &str) -> io::Result<()> {
+fn print<W: Write>(
+    alloc: Global,
+    accepted: &mut Accepted,
+    out: &mut W,
+    line: &str,
+) -> io::Result<()> {
     let Some(case) = Case::read(line) else {
         return writeln!(out, "bad case");
     };
     let mut text = String::new(alloc);
-    match answer(alloc, &case, &mut text) {
+    match answer(alloc, &case, accepted, &mut text) {
         Ok(()) => writeln!(out, "{} = {}", case.question, text),
         Err(CaseFault::Bad) => writeln!(out, "bad case"),
         Err(CaseFault::NoMemory) => Err(io::ErrorKind::OutOfMemory.into()),
@@ -60,7 +68,12 @@ fn print<W: Write>(alloc: Global, out: &mut W, line: &str) -> io::Result<()> {
 }
 
 // Makes a call, sought by the subject of its module, and adds its answer.
-fn answer(alloc: Global, case: &Case<'_>, out: &mut String) -> Result<(), CaseFault> {
+fn answer(
+    alloc: Global,
+    case: &Case<'_>,
+    accepted: &mut Accepted,
+    out: &mut String,
+) -> Result<(), CaseFault> {
     if let Some(done) = of_values(alloc, case, out) {
         return done;
     }
@@ -73,7 +86,7 @@ fn answer(alloc: Global, case: &Case<'_>, out: &mut String) -> Result<(), CaseFa
     if let Some(done) = of_zones(alloc, case, out) {
         return done;
     }
-    of_corefiles(alloc, case, out)
+    of_corefiles(alloc, case, accepted, out)
 }
 
 fn of_values(alloc: Global, case: &Case<'_>, out: &mut String) -> Option<Result<(), CaseFault>> {
@@ -127,14 +140,20 @@ fn of_zones(alloc: Global, case: &Case<'_>, out: &mut String) -> Option<Result<(
     })
 }
 
-fn of_corefiles(alloc: Global, case: &Case<'_>, out: &mut String) -> Result<(), CaseFault> {
+fn of_corefiles(
+    alloc: Global,
+    case: &Case<'_>,
+    accepted: &mut Accepted,
+    out: &mut String,
+) -> Result<(), CaseFault> {
     match case.call {
         "cli" => commands::command(alloc, case, out),
         "load" => loads::data(alloc, case, out),
         "words" => corefile::words(alloc, case, out),
         "wants" => corefile::wanted(alloc, case, out),
         "blocks" => parsed::blocks(alloc, case, out),
-        "check" => checks::check(alloc, case, out),
+        "check" => checks::check(alloc, case, accepted, out),
+        "behind" => checks::check_behind(alloc, case, accepted, out),
         "rank" => blocks::order(alloc, case, out),
         "pick" => blocks::picked(alloc, case, out),
         _ => Err(CaseFault::Bad),

@@ -1,9 +1,11 @@
 //! Tests of the order in which workers and watch of a server go on, over hosts in memory whose
-//! sides wait for one another, and of runs with extras.
+//! sides wait for one another, of runs with extras, and of loads.
 #![tactic(auto)]
 
 #[cfg(test)]
 mod extras;
+#[cfg(test)]
+mod loads;
 #[cfg(test)]
 mod orders;
 #[cfg(test)]
@@ -18,3 +20,5 @@ mod staged_host;
 mod staged_side;
 #[cfg(test)]
 mod staged_watch;
+#[cfg(test)]
+mod telling_host;

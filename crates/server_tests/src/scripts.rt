@@ -5,6 +5,7 @@ ghost use Rattle.outside_mem.specs.Unused.{IsUnusedSide, IsUnusedWatch};
 
 use crate::stage::Stage;
 use crate::staged_host::{StagedHost, Staging};
+use crate::telling_host::TellingHost;
 use dns_data::{Addr, Buffer, NoMemory, Text, Transport};
 use dns_server::{Report, run_with};
 use extra_stock::{Passing, PassingBook};
@@ -118,6 +119,18 @@ pub fn ran<R: Threads + Wait + Sync>(
     let words = texts(alloc, words)?;
     let none: Vec<Passing> = Vec::new(alloc);
     Ok(run_with::<R, StagedHost, PassingBook, Passing>(rt, alloc, &words, &[], host, none))
+}
+
+/// A run by these words over a host that opens nothing, without extras.
+pub fn loaded<R: Threads + Wait + Sync>(
+    rt: &R,
+    alloc: Global,
+    words: &str,
+    host: &mut TellingHost,
+) -> Result<Report<TellingHost, Passing>, NoMemory> {
+    let words = texts(alloc, words)?;
+    let none: Vec<Passing> = Vec::new(alloc);
+    Ok(run_with::<R, TellingHost, PassingBook, Passing>(rt, alloc, &words, &[], host, none))
 }
 
 // So many sinkholes.

@@ -1,6 +1,7 @@
 # The commands of this repository. `make` alone lists them.
 CONF = examples/whoami/Corefile
 PORT = 5300
+QUERIES = 1500
 
 help:
 	@sed -n 's/^## //p' Makefile
@@ -8,6 +9,11 @@ help:
 ## make run          builds without proof, one to three minutes, and serves examples/whoami on port 5300; CONF=FILE another Corefile, PORT=N
 run:
 	@tools/run-unproved $(CONF) $(PORT)
+
+## make try          builds without proof, one to three minutes, and runs a load in memory, of 1,500 queries or QUERIES=N
+try:
+	@echo "building without proof, one to three minutes; make build proves it, which takes longer"
+	@cd crates/dnschain && rt try --seconds 1000000000 --steps 1000000000000 -- load $(QUERIES)
 
 ## make build        proves and builds the program, crates/dnschain/out/dnschain, and says how far it is
 build:
@@ -41,4 +47,4 @@ check:
 fmt:
 	for crate in crates/*/; do (cd $$crate && rt fmt); done
 
-.PHONY: help run build serve conf-check deb test test-all check fmt
+.PHONY: help run try build serve conf-check deb test test-all check fmt

@@ -2,8 +2,8 @@
 """What reading a Corefile costs: user instructions by callgrind, of one of 4,096 lines beside one of 2,048.
 
 Each is read, checked and made into chains by the program `conformance` (cd crates/conformance && rt run < stdin builds it), as `check`
-cases; two runs, of one and of three lines, and their difference, less that of a case that reads the same digits and nothing more. The
-lines are counted with imports. Two rows more: a block of 20,000 keys and of 100,000, and a start of the built server (make build) whose
+cases; two runs, of one and of three lines, and their difference, less that of a case that reads the same digits and nothing more. Each case
+behind the first is read twice, as at a start and as at a look behind the one before. The lines are counted with imports. Two rows more: a block of 20,000 keys and of 100,000, and a start of the built server (make build) whose
 Corefile imports 127 files of 60,000 bytes and 254, the whole run up to a refusal behind the last. Exits 1 where so many times the
 lines, keys or files cost over 1.1 times so many times as much. Wants valgrind.
 """

@@ -63,8 +63,14 @@ TEMPLATE = ".:%d {\n\ttemplate IN A {\n\t\tmatch \"^h(?P<n>[0-9]+)\\.example\\.o
 CACHE = ".:%d {\n\tcache\n\thosts FOLDER/hosts\n}\n"
 FULL_CACHE = ".:%d {\n\tcache {\n\t\tsuccess 8\n\t}\n\thosts FOLDER/hosts\n}\n"
 REWRITE = ".:%d {\n\trewrite name suffix .pub.test .example.org answer auto\n\thosts FOLDER/hosts\n}\n"
+DNS64 = ".:%d {\n\tdns64\n\thosts FOLDER/hosts\n}\n"
+DNS64_POINTS = ".:%d {\n\tdns64 {\n\t\tallow_ipv4\n\t\tptr\n\t}\n\thosts FOLDER/hosts\n}\n"
 NUMBERED = name(b"h105", b"example", b"org")
 PUBLIC = name(b"h617", b"pub", b"test")
+# h617 stands at 10.9.0.77: that address behind the prefix of dns64, behind another one, and as it is.
+POINTED = name(*b"d 4 0 0 9 0 a 0 0 0 0 0 0 0 0 0 0 0 0 0 0 0 0 0 b 9 f f 4 6 0 0 ip6 arpa".split())
+NOT_POINTED = name(*b"d 4 0 0 9 0 a 0 0 0 0 0 0 0 0 0 0 0 0 0 0 0 0 0 c 9 f f 4 6 0 0 ip6 arpa".split())
+REVERSE = name(*b"77 0 9 10 in-addr arpa".split())
 # Names that take turns, so that a cache which keeps one a shard has lost each when it is asked again.
 TURNS = [query(name(b"h%d" % number, b"example", b"org")) for number in range(1000)]
 
@@ -100,6 +106,15 @@ CASES = [
     ("a rewrite of a suffix, with answer auto, in front of a hosts file of 1,000 names: A", REWRITE, query(PUBLIC)),
     ("a sinkhole in front of whoami: A", SINKHOLE, query(TWO)),
     ("the same: AAAA, by whoami", SINKHOLE, query(TWO, 28)),
+    ("dns64 in front of that hosts file: A, which it leaves alone", DNS64, query(HOST)),
+    ("the same: AAAA of a client that isn't allowed", DNS64, query(HOST, 28)),
+    ("without dns64: AAAA of that name, which has an A alone", HOSTS, query(HOST, 28)),
+    ("dns64 with its options: A", DNS64_POINTS, query(HOST)),
+    ("the same: AAAA, which is made of the A", DNS64_POINTS, query(HOST, 28)),
+    ("the same: PTR of an address behind the prefix, with a CNAME in front", DNS64_POINTS, query(POINTED, 12)),
+    ("the same: PTR of an address behind another prefix", DNS64_POINTS, query(NOT_POINTED, 12)),
+    ("without dns64: PTR of an address behind another prefix", HOSTS, query(NOT_POINTED, 12)),
+    ("without dns64: PTR of that address of IPv4", HOSTS, query(REVERSE, 12)),
     ("a response, which gets no reply", WHOAMI, query(TWO)[:2] + b"\x81" + query(TWO)[3:]),
 ]
 
@@ -144,6 +159,12 @@ def count(text, asked, queries, folder, answered):
     return collected(server.stderr.read().decode()), out
 
 
+def load(queries, folder):
+    """Instructions of the program's own load, its journals and all."""
+    words = [*under(os.path.join(folder, "callgrind.out")), PROGRAM, "load", str(queries)]
+    return collected(subprocess.run(words, capture_output=True, text=True, check=True, timeout=SECONDS).stderr)
+
+
 def functions(folder, words):
     _, text, message = next(case for case in CASES if all(word in case[0] for word in words))
     _, out = count(text, message, MANY, folder, True)
@@ -172,6 +193,7 @@ def main():
             few = count(text, message, FEW, folder, answered)[0]
             many = count(text, message, MANY, folder, answered)[0]
             print(f"{(many - few) / (MANY - FEW):8.0f}  {case}", flush=True)
+        print(f"{(load(MANY, folder) - load(FEW, folder)) / (MANY - FEW):8.0f}  the program's own load, in memory, with its journals", flush=True)
 
 
 if __name__ == "__main__":

@@ -9,7 +9,10 @@ _dnschain() {
         before=${COMP_WORDS[COMP_CWORD - 2]}
     fi
     if [ "$COMP_CWORD" -eq 1 ]; then
-        mapfile -t COMPREPLY < <(compgen -W serve -- "$word")
+        mapfile -t COMPREPLY < <(compgen -W "load serve" -- "$word")
+        return
+    fi
+    if [ "${COMP_WORDS[1]}" != serve ]; then
         return
     fi
     case $before in

@@ -1,6 +1,7 @@
 """A zone that changes under load, in each way in which files are replaced: every reply is of one version, and no client
 sees an older one than it saw before. Each asks again only behind its reply, and any of the workers may take its query:
-of two workers' replies that order is seen here, and is proved nowhere. `changes.py 200` is a soak of as many."""
+of two workers' replies that order is seen here, and is proved nowhere. `changes.py 200` is a soak of as many. And the memory of a zone that was
+replaced, which goes at the look behind its last query, though that look finds nothing."""
 import os
 import re
 import subprocess
@@ -10,7 +11,9 @@ import threading
 import time
 
 sys.path.insert(0, os.path.join(os.path.dirname(os.path.abspath(__file__)), "lib"))
+from message import query_bytes  # noqa: E402
 from program import PROGRAM, Client, Rows, Served, needs_program  # noqa: E402
+from upstream import Upstream  # noqa: E402
 
 CHANGES = 8
 CLIENTS = 6
@@ -19,6 +22,10 @@ LOOK = 3.0
 NAME = bytes.fromhex("0176076578616d706c65036f726700")
 QUERY = bytes.fromhex("123400000001000000000000") + NAME + bytes.fromhex("00100001")
 VERSION = re.compile(rb"version-(\d{6})")
+# A zone of some 1 MB, of two records each.
+OWNERS = 36_000
+# Over TCP a reply of another id ends a try, so a worker is held for so long by so many upstreams.
+SLOW, UPSTREAMS = 1.2, 10
 
 
 def zone(version):
@@ -108,6 +115,12 @@ def memory(server):
         return int(file.read().split()[1]) * os.sysconf("SC_PAGE_SIZE") >> 10
 
 
+def own(server):
+    """Its resident memory that isn't the program's file, in KiB."""
+    with open(f"/proc/{server.process.pid}/status") as file:
+        return next(int(line.split()[1]) for line in file if line.startswith("RssAnon"))
+
+
 def changed(rows, changes):
     with tempfile.TemporaryDirectory() as folder:
         kept = Zone(folder)
@@ -144,6 +157,41 @@ def changed(rows, changes):
             if changes > CHANGES:
                 rows.row("it has no more memory than behind the first eight, but for a tenth", last * 10 <= first * 11, (first, last))
             print(f"# {asked} queries, {lost} lost; {last} KiB resident", flush=True)
+
+
+def goes(rows):
+    """A large zone is replaced by a small one while a worker is held by a query of the first. With its answer nothing changes any more, and the next
+    look takes the memory of the large zone home."""
+    with tempfile.TemporaryDirectory() as folder:
+        path = os.path.join(folder, "zone")
+        with open(path, "wb") as file:
+            file.write(zone(1) + b"".join(b"h%x A 10.0.0.1\n A 10.0.0.2\n" % owner for owner in range(OWNERS)))
+        slow = Upstream([f"* * other-id delay {SLOW}"])
+        to = f" 127.0.0.1:{slow.port}" * UPSTREAMS
+        conf = ".:{port} {\n\treload 2s 1s\n\tfile " + path + " example.org\n\tforward ." + to + " {\n\t\tpolicy sequential\n\t\tforce_tcp\n\t}\n}\n"
+        with Served(conf, "--workers", "1") as server, Client(server.port) as client:
+            rows.row("it serves a large zone", server.is_serving(QUERY))
+            whole = own(server)
+            client.send(query_bytes(["held.test", "A"]))
+            end = time.monotonic() + LOOK
+            while time.monotonic() < end and not slow.take_asked():
+                time.sleep(0.02)
+            with open(path + ".new", "wb") as file:
+                file.write(zone(2))
+            os.replace(path + ".new", path)
+            rows.equal("a small zone is taken up", server.note(), "reload published 1")
+            held = own(server)
+            rows.row("the large one stays while a worker is held", 10 * held >= 9 * whole, (whole, held))
+            client.socket.settimeout(2 * SLOW * UPSTREAMS)
+            rows.row("the worker has its answer", client.socket.recv(512)[3] & 15 == 2)
+            still, end = own(server), time.monotonic() + 2 * LOOK
+            while time.monotonic() < end and 3 * own(server) > 2 * held:
+                time.sleep(0.02)
+            behind = own(server)
+            rows.row("the large one goes at the next look", 3 * behind <= 2 * held, (whole, held, still, behind))
+            rows.equal("that look finds nothing", server.noted(), [])
+            print(f"# {whole} KiB with the large zone, {held} with both, {still} with the answer, {behind} behind a look", flush=True)
+        slow.end()
 
 
 def locked(rows):
@@ -185,6 +233,7 @@ def main():
     needs_program()
     rows = Rows()
     changed(rows, int(sys.argv[1]) if len(sys.argv) > 1 else CHANGES)
+    goes(rows)
     locked(rows)
     rows.end()
 

@@ -12,7 +12,8 @@ from program import TOP, Rows, needs_program, status_of  # noqa: E402
 COMPLETION = os.path.join(TOP, "packaging", "completion.bash")
 # The words to complete, the last one begun, and what is offered.
 COMPLETIONS = [
-    (["dnschain", ""], ["serve"]),
+    (["dnschain", ""], ["load", "serve"]),
+    (["dnschain", "load", ""], []),
     (["dnschain", "serve", "--"], ["--conf", "--port", "--workers", "--queries"]),
     (["dnschain", "serve", "--conf", "x", "--w"], ["--workers"]),
     (["dnschain", "serve", "--conf", "x", "--conf"], []),

@@ -1,11 +1,15 @@
-"""A changed Corefile under load, and ends with `reload`. tests/scenarios/reload.scenario has what each change comes to."""
+"""A changed Corefile under load, files that become bad under it, and ends with `reload`. tests/scenarios/reload.scenario has what each change comes to."""
 import os
+import re
+import subprocess
 import sys
+import tempfile
 import threading
 import time
 
 sys.path.insert(0, os.path.join(os.path.dirname(os.path.abspath(__file__)), "lib"))
-from program import Client, Rows, Served, needs_program  # noqa: E402
+from message import query_bytes  # noqa: E402
+from program import PROGRAM, SECONDS, Client, Rows, Served, needs_program  # noqa: E402
 
 NAME = bytes.fromhex("076578616d706c65036f726700")
 QUERY = bytes.fromhex("123401000001000000000000") + NAME + bytes.fromhex("00010001")
@@ -14,6 +18,8 @@ REFUSED = bytes.fromhex("123481050001000000000000") + NAME + bytes.fromhex("0001
 WHOAMI = ".:{port} {\n\treload 2s 1s\n\twhoami\n}\n"
 EMPTY = ".:{port} {\n\treload 2s 1s\n}\n"
 BROKEN = ".:{port} {\n\treload 2s 1s\n\twhoamy\n}\n"
+# What a file may have at most.
+FILE_BYTES = 1_048_576
 
 
 def is_whoami(reply):
@@ -26,9 +32,13 @@ def is_refused(reply):
 
 def put(server, text):
     """Replaces the Corefile in one step, as editors and `mv` do."""
-    with open(server.path + ".new", "w") as file:
-        file.write(text.replace("{port}", str(server.port)))
-    os.replace(server.path + ".new", server.path)
+    write(server.path, text.replace("{port}", str(server.port)))
+
+
+def write(path, text):
+    with open(path + ".new", "w") as file:
+        file.write(text)
+    os.replace(path + ".new", path)
 
 
 def under_load(rows):
@@ -76,6 +86,49 @@ def asks(server, over, found):
                 found["other"] += 1
 
 
+def zone(version):
+    return f"$TTL 60\n@ SOA ns admin {version} 7200 3600 1209600 60\n@ NS ns.other.\nwww A 192.0.2.{version}\n"
+
+
+def address_of(server):
+    """The last number of the address that the server answers for www.example.org."""
+    with Client(server.port) as client:
+        reply = client.ask(query_bytes(["www.example.org", "A"]), SECONDS) or b""
+    found = re.search(rb"\x00\x04\xc0\x00\x02(.)", reply, re.S)
+    return found and found.group(1)[0]
+
+
+def refused(rows, server, before, title, line):
+    """A file became bad: the look tells what a start tells, and what served before serves."""
+    rows.equal(f"{title}: a look", server.note(before and f"reload refused: {before}"), f"reload refused: {line}")
+    rows.equal(f"{title}: the old answer stays", address_of(server), 1)
+    started = subprocess.run([PROGRAM, "serve", "--conf", server.path], capture_output=True, timeout=3 * SECONDS, text=True)
+    rows.equal(f"{title}: a start", (started.returncode, started.stdout), (1, line + "\n"))
+
+
+def faults(rows):
+    """A zone file that becomes bad while its server runs, in one way after the other, and is good again."""
+    bad = [
+        (zone(2) + "www A 192.0.2.256\n", "a fault in a zone", "corefile line 3: zone file line 5: syntax"),
+        (zone(2).replace("SOA", "TXT"), "a zone that lost its SOA", "corefile line 3: zone file line 4: nosoa"),
+        (None, "a file that vanished", "corefile line 3: directive: nofile"),
+        (zone(2).ljust(FILE_BYTES + 1, "\n"), "a file past its limit", f"too many file bytes: {FILE_BYTES + 1}"),
+        ("", "an empty file", "corefile line 3: zone file line 1: nosoa"),
+    ]
+    with tempfile.TemporaryDirectory() as room:
+        path = os.path.join(room, "db")
+        write(path, zone(1))
+        with Served(".:{port} {\n\treload 2s 1s\n\tfile " + path + " example.org\n}\n") as server:
+            rows.row("it serves a zone", server.is_serving(QUERY))
+            before = None
+            for text, title, line in bad:
+                os.remove(path) if text is None else write(path, text)
+                refused(rows, server, before, title, line)
+                before = line
+            write(path, zone(3).ljust(FILE_BYTES, "\n"))
+            rows.equal("a good one of 1 MiB is taken up", (server.note(f"reload refused: {before}"), address_of(server)), ("reload published 1", 3))
+
+
 def ends(rows):
     with Served(WHOAMI, "--queries", "2") as server:
         rows.row("--queries 2 with reload serves", server.is_serving(QUERY))
@@ -92,6 +145,7 @@ def main():
     needs_program()
     rows = Rows()
     under_load(rows)
+    faults(rows)
     ends(rows)
     rows.end()
 

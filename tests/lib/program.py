@@ -4,6 +4,7 @@ A test script prints one line a row, `ok TEXT` or `not ok TEXT`, and ends with s
 """
 import os
 import random
+import select
 import socket
 import subprocess
 import sys
@@ -70,6 +71,7 @@ class Served:
 
     def __init__(self, text, *words, mode=0o700, under=(), port=None, **process):
         self.text, self.words, self.mode, self.under, self.given, self.named = text, words, mode, under, port, process
+        self.said = b""
 
     def __enter__(self):
         self.room = tempfile.TemporaryDirectory()
@@ -98,6 +100,22 @@ class Served:
         self.process.kill()
         self.process.wait(SECONDS)
         return self.process.stderr.read().decode().splitlines()
+
+    def note(self, but=None, seconds=SECONDS):
+        """The next whole line on standard error that isn't `but`, or None where none comes in time. Without `readline`, whose buffer hides lines."""
+        end = time.monotonic() + seconds
+        while True:
+            line, found, self.said = self.said.partition(b"\n")
+            if found and line.decode() != but:
+                return line.decode()
+            if not found:
+                self.said = line
+                if not select.select([self.process.stderr], [], [], max(0, end - time.monotonic()))[0]:
+                    return None
+                more = os.read(self.process.stderr.fileno(), 4096)
+                if not more:
+                    return None
+                self.said += more
 
     def is_serving(self, query, seconds=SECONDS):
         """Whether a query is answered in time, asked again while the program starts."""

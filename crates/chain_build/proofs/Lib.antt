@@ -14,3 +14,4 @@ pub mod PlacesOfParts
 pub mod LoggedWalks
 pub mod CachedWalks
 pub mod LoggedCalls
+pub mod Tried

@@ -13,13 +13,13 @@ use Rattle.outside.specs.States.{SideState}
 use Rattle.outside.specs.TakingLaws.{stays-nothing, stays-then, took-as, took-starved, took-then}
 use Rattle.outside.specs.declared.mark.Mark.{Mark}
 use Rattle.plugin_api.specs.{PlanData}
-use Rattle.chain_meaning.specs.CallsByRun.{CallNumbers, NumberedMark, Pools, Shards, Shared, number_in, numbers_in, of_number, of_rest, run_calls, runs_once, told_in}
+use Rattle.chain_meaning.specs.CallsByRun.{Pools, Shards, Shared, number_in, numbers_in, of_rest, run_calls, runs_once}
 use Rattle.chain_meaning.specs.CallsByRunLaws.{calls_none, noted_calls, once_calls, starved_rest}
 use Rattle.chain_meaning.specs.Mean.{mean}
 use Rattle.chain_meaning.specs.MeanLaws.{mean_nothing}
 use Rattle.chain_meaning.specs.Steps.{Step, dns64_steps}
 use Rattle.chain_meaning.specs.Translating.{bound_of, combined_in, dns64_means, pointed_by, pointed_in, second, second_by}
-use Rattle.chain_meaning.specs.TranslatingCalls.{dns64_calls, first_calls, pointed_calls, second_calls}
+use Rattle.chain_meaning.specs.TranslatingCalls.{first_calls, pointed_calls, second_calls}
 use Rattle.chain_meaning.specs.TranslatingCallsLaws.{both_calls, failed_calls}
 use Rattle.chain_meaning.specs.TranslatingNothingLaws.{pointed_nothing, second_nothing}
 use Rattle.chain_meaning.specs.declared.decision.Decision.{Decision}

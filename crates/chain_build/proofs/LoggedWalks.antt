@@ -37,7 +37,7 @@ use Rattle.chain_meaning.specs.declared.decision.Decision.TheVariants as decisio
 use Rattle.chain_build.specs.declared.ended.Ended.TheVariants as end
 use Rattle.rewrite_plugin.specs.{changed_by}
 use Rattle.rewrite_plugin.specs.declared.plan_data.Changed.{Changed}
-use Rattle.chain_meaning.specs.CallsByRun.{CallNumbers, Pools, Shards, Shared, number_in, numbers_in, pool_in, shard_in}
+use Rattle.chain_meaning.specs.CallsByRun.{CallNumbers, Pools, Shards, Shared, number_in, pool_in, shard_in}
 use Rattle.cache_plugin.specs.{UseData}
 use Rattle.chain_build.specs.declared.block_uses.BlockUses.{BlockUses}
 use Rattle.chain_build.specs.declared.judge.CacheJudge.{CacheJudge}

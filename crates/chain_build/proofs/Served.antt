@@ -45,7 +45,6 @@ use Rattle.chain_meaning.specs.CallsByRun.{Shared, calls_by, chain_calls, picked
 use Rattle.chain_meaning.specs.CallsByRunLaws.{calls-extras}
 use Rattle.chain_build.specs.LoggedWalks.{ServeState, TakesAt, serving}
 use Rattle.chain_build.specs.Logs.{LogShape, shape_of}
-use Rattle.pin_table.specs.{Grows}
 use Rattle.chain_build.specs.Workers.{server_in}
 use Rattle.chain_build.proofs.Logging.{grows_same}
 use Rattle.plugin_api.specs.{PlanData, Sayings, Takings}
@@ -68,11 +67,11 @@ pub extras_at : (chains : List BlockChain) (extras : List (List Directive)) (n :
 extras_at chains extras n chain e at = ap (λ l. slice_get l n) e ∙ slice_get-map extras_in chains n ∙ ap (option_map extras_in) at
 
 -- a chain that has steps means what they mean
-some_steps : (steps : List Step) (q : Query) → 0 < length steps → (marks : List Mark) → chain_decides steps q marks ≡ mean steps q marks
+pub some_steps : (steps : List Step) (q : Query) → 0 < length steps → (marks : List Mark) → chain_decides steps q marks ≡ mean steps q marks
 some_steps [] q h marks = absurd (omega (arith, h))
 some_steps (step ∷ steps) q h marks = refl
 
-no_extras : (extras : List Directive) → length extras ≤ 0 → extras ≡ []
+pub no_extras : (extras : List Directive) → length extras ≤ 0 → extras ≡ []
 no_extras [] h = refl
 no_extras (d ∷ ds) h = absurd (omega (arith, h))
 

@@ -1,5 +1,6 @@
 -- What the parts of a walk do.
-use Rattle.std.specs.Prelude.{◌≡◌, List, [], Option, Some, None, Result, Ok, Err}
+use Rattle.std.specs.Prelude.{◌≡◌, Bool, true, false, List, [], ◌∷◌, ◌++◌, Option, Some, None}
+use Rattle.std.specs.Prelude.{Result, Ok, Err}
 use Rattle.dns_lists.specs.declared.memory.NoMemory.{NoMemory}
 use Rattle.dns_data.specs.Message.{AnswerData, no_answer}
 use Rattle.dns_data.specs.declared.directive.Directive.{Directive}
@@ -10,8 +11,10 @@ use Rattle.outside.specs.declared.mark.Mark.{Mark}
 use Rattle.chain_meaning.specs.declared.decision.Decision.{Decision}
 use Rattle.chain_meaning.specs.declared.decision.Decision.TheVariants as decision
 use Rattle.rewrite_plugin.specs.declared.plan_data.Changed.{Changed}
-use Rattle.chain_meaning.specs.Mean.{answer_of, restored_in}
-use Rattle.chain_meaning.specs.Steps.{Answerer}
+use Rattle.chain_meaning.specs.Mean.{answer_of, mean, restored_in}
+use Rattle.chain_meaning.specs.Steps.{Answerer, Step, dns64_steps}
+use Rattle.chain_build.specs.declared.block_chain.FrontStep.{FrontStep}
+use Rattle.chain_build.specs.declared.block_chain.FrontStep.TheVariants as front
 use Rattle.chain_build.specs.declared.ended.Ended.{Ended}
 use Rattle.chain_build.specs.declared.ended.Ended.TheVariants as ended
 
@@ -49,6 +52,25 @@ abbrev pub Said : (Query → Option Decision) → Query → AnswerData → Answe
 Said says q old new (Ok None) = (new ≡ old) × (says q ≡ None)
 Said says q old new (Ok (Some e)) = says q ≡ Some (decision_of e new)
 Said says q old new (Err e) = Unit {0}
+
+-- what stands behind `dns64`, where a chain has it, gets this query as it is
+abbrev pub PassesDns64 : Option Directive → Query → Type 0
+PassesDns64 dns64 q =
+    (behind : List Step) → (marks : List Mark)
+    → mean (dns64_steps dns64 ++ behind) q marks ≡ mean behind q marks
+
+-- steps that note are `errors` alone, or none
+abbrev pub NotesCodes : List FrontStep → Bool → Type 0
+NotesCodes steps true = steps ≡ front.Errors ∷ []
+NotesCodes steps false = steps ≡ []
+
+-- a chain ended with no code, or didn't end
+abbrev pub IsUncoded : Option Ended → Type 0
+IsUncoded None = Unit {0}
+IsUncoded (Some ended.Reply) = Unit {0}
+IsUncoded (Some (ended.Lent tail)) = Unit {0}
+IsUncoded (Some (ended.Code code cause)) = ⊥
+IsUncoded (Some ended.Drop) = Unit {0}
 
 -- a walk that asks nothing ended so, with this answer in the slot, or left it clear where it met a
 -- plugin that asks

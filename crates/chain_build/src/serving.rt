@@ -1,5 +1,6 @@
 ghost use Rattle.dns_data.specs.declared.limit.TheConstants as limits;
 ghost use Rattle.std.specs.Prelude.{◌≡◌, ◌≤◌, ◌<◌, ℕ, List, [], Some, None, length};
+ghost use Rattle.std.specs.Prelude.{true};
 ghost use Rattle.std.specs.Prelude.{IfNone, IfOk, IfSome, IsTrue, IsFalse};
 ghost use Rattle.std.specs.Prelude.{option_map, slice_get};
 ghost use Rattle.dns_data.specs.Message.{AreCodes, no_answer};
@@ -22,14 +23,14 @@ ghost use Rattle.chain_build.specs.Replying.{Finishes, TellsServing};
 ghost use Rattle.chain_build.specs.Replying.{lent_of, whole_answer, whole_message};
 ghost use Rattle.chain_build.specs.Holding.{IsHeld, IsSame};
 ghost use Rattle.chain_build.specs.Uses.{IsUsed, SameUses};
-ghost use Rattle.chain_build.specs.Walking.{Tries, decided, decision_of};
+ghost use Rattle.chain_build.specs.Walking.{IsUncoded, NotesCodes, Tries, decided, decision_of};
 
 use crate::asking::{
     fill_query, header_reply, is_known_version, limit_of, opt_reply, reply_message, upper_code,
 };
 use crate::back::try_behind;
 use crate::block::BlockChain;
-use crate::block_chain::ChainRest;
+use crate::block_chain::{ChainRest, FrontStep};
 use crate::block_uses::BlockUses;
 use crate::caching::run_inner;
 use crate::chain::Chain;
@@ -38,7 +39,8 @@ use crate::extras::NoExtras;
 use crate::front::run_front;
 use crate::held::Held;
 use crate::plans::Plans;
-use crate::room::{FrontRoom, Room, WalkRoom};
+use crate::room::{FrontRoom, Room};
+use crate::translating::passes_dns64;
 use crate::walk::Walk;
 use chain_meaning::{Served, Silence, number};
 use dns_data::{Buffer, NoMemory, Query, Slot, class, rcode};
@@ -141,7 +143,7 @@ fn reply<R: Wait, B: Rulebook, E: Extra, S: Side>(
     let Some(found) = chain_for(&room.query, beside, plans, slot) else {
         return finish_apart(alloc, datagram, beside, Ended::Reply, room);
     };
-    match try_chain::<B>(alloc, found.1, &room.query, &mut room.front.walk) {
+    match try_chain::<B>(alloc, found.1, &room.query, &mut room.front) {
         Ok(Some(ended)) => finish(alloc, datagram, beside, ended, room),
         Ok(None) => {
             let walk = Walk {
@@ -329,32 +331,64 @@ fn chain_of<'a, B: Rulebook>(plans: &'a Plans<B>, query: &Query) -> Option<(usiz
     Some((number, plans.chains.at(number)))
 }
 
-// Runs the chain of a block that has nothing in front and no cache, and asks the outside nothing.
-// None: it is another chain, or met a `forward`, and the slot is clear, as it was.
+// Runs the chain of a block that has no cache, and asks the outside nothing. In front it may have
+// `errors`, which notes codes alone, and a `dns64` that leaves the query as it is. None: it is
+// another chain, or met a `forward` or ended with a code to be noted, and the slot is clear, as it
+// was.
 #[inline(always)]
 fn try_chain<'a, B: Rulebook>(
     alloc: Global,
     chain: &'a BlockChain,
     query: &Query,
-    room: &mut WalkRoom,
+    room: &mut FrontRoom,
 ) -> Result<Option<Ended<'a>>, NoMemory>
-    requires clear { room.old.plugins.slot ≡ no_answer }
+    requires clear { room.old.walk.plugins.slot ≡ no_answer }
     ensures { Tries (chain_decides (steps_in B.said chain.now) query.now)
-        room.new.plugins.slot result }
+        room.new.walk.plugins.slot result }
 {
     if chain.asks || chain.cache.is_some() {
         return Ok(None);
     }
-    if chain.extras.len() > 0 {
+    if chain.extras.len() > 0 || chain.middle.len() > 0 {
         return Ok(None);
     }
-    if has_head(chain) {
+    if !has_inner(chain) {
         return Ok(None);
     }
-    if chain.rewrites.len() > 0 || chain.back.len() > 0 {
-        return try_behind(alloc, chain, query, room);
+    let Some(notes) = notes_codes(chain.front.as_slice()) else {
+        return Ok(None);
+    };
+    if !passes_dns64(alloc, chain, query, &mut room.second)? {
+        return Ok(None);
     }
-    Ok(None)
+    let ended = try_behind(alloc, chain, query, &mut room.walk)?;
+    if is_noted(notes, ended) {
+        room.walk.plugins.slot.clear();
+        return Ok(None);
+    }
+    Ok(ended)
+}
+
+// Whether steps that note are `errors` alone, which notes codes, or none. None: they are others.
+#[inline(always)]
+fn notes_codes(front: &[FrontStep]) -> Option<bool>
+    ensures { IfSome result (NotesCodes front.now) }
+{
+    let Some((step, more)) = front.split_first() else {
+        return Some(false);
+    };
+    match step {
+        FrontStep::Errors if more.len() == 0 => Some(true),
+        FrontStep::Errors | FrontStep::Log(_) => None,
+    }
+}
+
+// Whether a chain ended with a code, where codes are noted.
+#[inline(always)]
+fn is_noted(notes: bool, ended: Option<Ended<'_>>) -> bool
+    ensures { IsFalse result → notes ≡ true → IsUncoded ended.entry }
+{
+    notes && matches!(ended, Some(Ended::Code(_, _)))
 }
 
 // Runs a chain that was found, with what is held for it.

@@ -1,5 +1,5 @@
 //! The step `dns64`: what stands behind it runs once or twice, or for another name.
-ghost use Rattle.std.specs.Prelude.{◌≡◌, ◌<◌, ◌^◌, true, Some, IfOk, IfSome};
+ghost use Rattle.std.specs.Prelude.{◌≡◌, ◌<◌, ◌^◌, true, Some, IfOk, IfSome, IsTrue};
 ghost use Rattle.dns_data.specs.Message.{no_answer};
 ghost use Rattle.dns64_plugin.specs.{translates};
 ghost use Rattle.chain_meaning.specs.Mean.{mean};
@@ -9,7 +9,7 @@ ghost use Rattle.chain_build.specs.LoggedWalks.{TakesCalls, chain_runs, dns64_ru
 ghost use Rattle.chain_build.specs.LoggedWalks.{taking};
 ghost use Rattle.chain_build.specs.Plans.{rest_of, run_of};
 ghost use Rattle.chain_build.specs.Uses.{IsUsed, SameUses};
-ghost use Rattle.chain_build.specs.Walking.{decided, decision_of};
+ghost use Rattle.chain_build.specs.Walking.{PassesDns64, decided, decision_of};
 
 use crate::block::BlockChain;
 use crate::block_chain::MiddleRest;
@@ -30,6 +30,26 @@ use std::sync::Wait;
 pub struct Translating<'a> {
     pub plan: &'a Dns64Plan,
     pub chain: &'a BlockChain,
+}
+
+/// Whether what stands behind `dns64` gets a query as it is, which it does too where a chain has no
+/// such step. The second query is written over.
+#[inline(always)]
+pub fn passes_dns64(
+    alloc: Global,
+    chain: &BlockChain,
+    query: &Query,
+    second: &mut Query,
+) -> Result<bool, NoMemory>
+    ensures { IfOk result (λ passes. IsTrue passes → PassesDns64 chain.now.dns64 query.now) }
+{
+    let Some(plan) = &chain.dns64 else {
+        return Ok(true);
+    };
+    if plan.translates(query) {
+        return Ok(false);
+    }
+    Ok(!plan.ptr_query(alloc, query, second)?)
 }
 
 /// Runs what is left of a chain behind the steps that note. The slot is clear.

@@ -18,9 +18,9 @@ returns-in_default-clause-tells g c =
 pub returns-in-Ok-Some-clause-tells : goal.returns-in-Ok-Some-clause-tells
 returns-in-Ok-Some-clause-tells g c =
     let means = chain_decides (steps_in g.B.Rulebook.said c.in-Some.found.1.now) c.fill_query.new.query in
-    let ended = tried means c.try_chain.new.room.plugins.slot c.in-Ok-Some.field-0 c.in-Ok-Some.ended c.in-Ok-Some.ensures c.in-Ok-Some.field-0-is in
+    let ended = tried means c.try_chain.new.room.walk.plugins.slot c.in-Ok-Some.field-0 c.in-Ok-Some.ended c.in-Ok-Some.ensures c.in-Ok-Some.field-0-is in
     told_at_once g.B.Rulebook.taken g.B.Rulebook.said c.args.plans.now c.args.held.now.serial c.args.arrived.now.datagram.now c.args.room.now.query.name c.args.beside c.fill_query.new.query
-    (decision_of c.in-Ok-Some.ended c.try_chain.new.room.plugins.slot) c.finish.result c.tell.ensures.accepted c.requires.asks c.fill_query.ensures _ (held_log c.args.held.now.uses.items)
+    (decision_of c.in-Ok-Some.ended c.try_chain.new.room.walk.plugins.slot) c.finish.result c.tell.ensures.accepted c.requires.asks c.fill_query.ensures _ (held_log c.args.held.now.uses.items)
     (λ left. c.in-Some.ensures.some left ∙ ended left) c.finish.ensures
 
 pub returns-in-Ok-clause-tells : goal.returns-in-Ok-clause-tells

@@ -5,8 +5,6 @@ use Rattle.chain_meaning.specs.CallsByRunLaws.{calls_none}
 use Rattle.chain_meaning.specs.Mean.{mean}
 use Rattle.chain_meaning.specs.MeanLaws.{extras_say}
 use Rattle.chain_meaning.specs.declared.decision.Decision.TheVariants as decision
-use Rattle.chain_meaning.specs.Steps.{none_said}
-use Rattle.chain_build.specs.Compiled.{front_of}
 use Rattle.chain_build.specs.LoggedWalks.{chain_runs}
 use Rattle.chain_build.specs.Plans.{heads_in, inner_of, steps_in}
 use Rattle.chain_build.proofs.LoggedCalls.{front_takes, tc_as, tc_nothing, tc_once}

@@ -1,12 +1,12 @@
 -- What a walk took and logged where the chain has a cache.
 use Rattle.std.proofs.Common.{◌≡◌, ◌<◌, ◌∙◌, ℕ, Bool, true, false, List, [], ◌∷◌, ◌++◌, map, take, length, Option, Some, None, Result, Ok, Err, if◌then◌else◌, refl, sym, ap, subst, arith, append_assoc, length-append}
-use Rattle.std.specs.Prelude.{IfOk, IsErr, nat_le, option_and_then, option_map}
+use Rattle.std.specs.Prelude.{IfOk, IsErr, is_some, nat_le, option_and_then, option_map}
 use Rattle.std.proofs.Common.{leb-true}
 use Rattle.std.proofs.lemmas.List.{append-nil}
 use Rattle.dns_lists.specs.declared.memory.NoMemory.{NoMemory}
 use Rattle.dns_data.specs.Message.{AnswerData}
 use Rattle.dns_data.specs.declared.query.Query.{Query}
-use Rattle.cache_plugin.specs.{ArePast, CacheState, CallsBy, UseData, state_at, use_logs}
+use Rattle.cache_plugin.specs.{ArePast, CacheState, CallsBy, state_at, use_logs}
 use Rattle.cache_rules.specs.{cache_zones, class_of, entry_weight, key_of}
 use Rattle.cache_rules.specs.declared.classes.Lived.{Lived}
 use Rattle.outside.specs.{EntryData}
@@ -26,7 +26,7 @@ use Rattle.outside.specs.declared.mark.Mark.TheVariants.{Inner}
 use Rattle.forward_plugin.specs.declared.pool_use.PoolUse.{PoolUse}
 use Rattle.one_history.specs.Shared.{Logged, cache_calls_in, pool_calls_in}
 use Rattle.plugin_api.specs.{PlanData}
-use Rattle.chain_meaning.specs.Caching.{Look, cached, entry_for, entry_of, found, inners_in, kept_with, looked_at, put_or, take_look, take_looked, take_now, taken}
+use Rattle.chain_meaning.specs.Caching.{Justified, Look, cached, entry_for, entry_of, found, inners_in, kept_with, looked_at, put_or, take_look, take_looked, take_now, taken}
 use Rattle.chain_meaning.specs.CallsByRun.{CallNumbers, numbers_in, pool_in}
 use Rattle.chain_meaning.specs.Mean.{mean}
 use Rattle.chain_meaning.specs.Steps.{Step, cache_steps}
@@ -36,11 +36,17 @@ use Rattle.chain_meaning.specs.declared.decision.Decision.TheVariants as decisio
 use Rattle.chain_build.specs.LoggedWalks.{AsksBy, TakesBy, UsesLogged, asking, taking}
 use Rattle.chain_build.specs.Logs.{pool_logs}
 use Rattle.chain_build.specs.declared.block_uses.BlockUses.{BlockUses}
-use Rattle.chain_build.specs.declared.judge.CacheJudge.{CacheJudge}
+use Rattle.lent_caches.specs.declared.uses.LentCache.{LentCache}
 use Rattle.chain_build.specs.Caches.{IsFairFor}
-use Rattle.chain_build.specs.Judges.{IsJustIn}
+use Rattle.chain_build.specs.Judges.{Judges}
+use Rattle.lent_caches.specs.Named.{NamedData, named_data}
+use Rattle.lent_caches.specs.Judging.{is_just}
+use Rattle.lent_caches.specs.PlanLaws.{justified_stays}
+use Rattle.lent_caches.specs.declared.judge.BlockJudge.{BlockJudge}
+use Rattle.block_readings.specs.PlansLaws.{bare_plan}
+use Rattle.lent_caches.specs.declared.name.NamedCache.{NamedCache}
 use Rattle.chain_build.specs.Plans.{behind_of}
-use Rattle.chain_build.specs.Uses.{CacheShape, IsCached, cache_shape, made_shape}
+use Rattle.chain_build.specs.Uses.{chain_named, lent_cache}
 use Rattle.chain_build.specs.Walking.{decided, decision_of}
 use Rattle.chain_build.specs.declared.block.BlockChain.{BlockChain}
 use Rattle.chain_build.specs.declared.ended.Ended.{Ended}
@@ -49,16 +55,16 @@ use Rattle.chain_build.proofs.Logging.{inners_apart, logged_as, logged_nothing, 
 use Rattle.chain_build.proofs.LoggedWalks.{tb_nothing, tb_starved, uses_then}
 
 -- the uses of a block with this cache
-abbrev uses_of : List PoolUse → UseData CacheJudge → BlockUses
+abbrev uses_of : List PoolUse → LentCache → BlockUses
 uses_of pools u = record { pools = pools; cache = Some u }
 
 -- a call of the cache, as uses tell it
-called_logged : (key : Key) (number : Option ℕ) (marks : List Mark) (pools : List PoolUse) (u v : UseData CacheJudge) → Logged (Some (shard_of key)) (cache_calls_in marks) (use_logs u) (use_logs v) → pool_calls_in marks ≡ []
+called_logged : (key : Key) (number : Option ℕ) (marks : List Mark) (pools : List PoolUse) (u v : LentCache) → Logged (Some (shard_of key)) (cache_calls_in marks) (use_logs u.of) (use_logs v.of) → pool_calls_in marks ≡ []
     → UsesLogged (record { shard = Some (shard_of key); pool = number }) marks (uses_of pools u) (uses_of pools v)
 called_logged key number marks pools u v logged apart = record { pools = logged_quiet number (pool_calls_in marks) (pool_logs pools) apart; shards = logged }
 
-pub called_then : {A B : Type 0} (key : Key) (number : Option ℕ) (means : List Mark → Meaning A) (next : A → List Mark → Meaning B) {v : A} {result : Result B NoMemory} {s t w : SideState} (pools : List PoolUse) (u x : UseData CacheJudge) {new : BlockUses}
-    → CallsBy key means (Ok v) (state_at s (use_logs u)) (state_at t (use_logs x)) → TakesBy (record { shard = Some (shard_of key); pool = number }) (next v) result (taking t (uses_of pools x)) (taking w new)
+pub called_then : {A B : Type 0} (key : Key) (number : Option ℕ) (means : List Mark → Meaning A) (next : A → List Mark → Meaning B) {v : A} {result : Result B NoMemory} {s t w : SideState} (pools : List PoolUse) (u x : LentCache) {new : BlockUses}
+    → CallsBy key means (Ok v) (state_at s (use_logs u.of)) (state_at t (use_logs x.of)) → TakesBy (record { shard = Some (shard_of key); pool = number }) (next v) result (taking t (uses_of pools x)) (taking w new)
     → TakesBy (record { shard = Some (shard_of key); pool = number }) (λ marks. onward (means marks) next) result (taking s (uses_of pools u)) (taking w new)
 called_then key number means next {v} {result} pools u x p q = record {
   takes = record {
@@ -70,8 +76,8 @@ called_then key number means next {v} {result} pools u x p q = record {
   logged = uses_then (record { shard = Some (shard_of key); pool = number }) p.takes.marks q.takes.marks (called_logged key number p.takes.marks pools u x p.logged p.apart) q.logged;
 }
 
-pub called_fails : {A B : Type 0} (key : Key) (number : Option ℕ) (means : List Mark → Meaning A) (next : A → List Mark → Meaning B) {e : NoMemory} {result : Result B NoMemory} {s t : SideState} (pools : List PoolUse) (u x : UseData CacheJudge)
-    → IsErr result → CallsBy key means (Err e) (state_at s (use_logs u)) (state_at t (use_logs x)) → ((v : A) → Starved (next v []))
+pub called_fails : {A B : Type 0} (key : Key) (number : Option ℕ) (means : List Mark → Meaning A) (next : A → List Mark → Meaning B) {e : NoMemory} {result : Result B NoMemory} {s t : SideState} (pools : List PoolUse) (u x : LentCache)
+    → IsErr result → CallsBy key means (Err e) (state_at s (use_logs u.of)) (state_at t (use_logs x.of)) → ((v : A) → Starved (next v []))
     → TakesBy (record { shard = Some (shard_of key); pool = number }) (λ marks. onward (means marks) next) result (taking s (uses_of pools u)) (taking t (uses_of pools x))
 called_fails key number means next {result = Ok v} pools u x fails p none = absurd cc
 called_fails key number means next {e} {result = Err f} pools u x fails p none = record {
@@ -141,9 +147,9 @@ module _ (rest : Query → List Mark → Meaning Decision) (plan : PlanData) (q 
   missed_took v inners (Err e) marks took p = subst Starved (sym (missed_is v inners took marks)) p
 
   -- what stands behind a miss asked, and its answer was kept or wasn't
-  pub missed_then : (key : Key) (number : Option ℕ) {v : Decision} {result : Result Decision NoMemory} {s t w : SideState} {k : Kept} {pools news : List PoolUse} (u x : UseData CacheJudge)
+  pub missed_then : (key : Key) (number : Option ℕ) {v : Decision} {result : Result Decision NoMemory} {s t w : SideState} {k : Kept} {pools news : List PoolUse} (u x : LentCache)
       → (p : AsksBy number (rest q) (Ok v) (asking s (kept.On []) pools) (asking t k news))
-      → CallsBy key (kept_with plan q moment p.asks.inners v) result (state_at t (use_logs u)) (state_at w (use_logs x))
+      → CallsBy key (kept_with plan q moment p.asks.inners v) result (state_at t (use_logs u.of)) (state_at w (use_logs x.of))
       → TakesBy (record { shard = Some (shard_of key); pool = number }) (found rest plan q moment None) result (taking s (uses_of pools u)) (taking w (uses_of news x))
   missed_then key number {v} {result} {pools = pools} {news = news} u x p c = record {
     takes = record {
@@ -155,11 +161,11 @@ module _ (rest : Query → List Mark → Meaning Decision) (plan : PlanData) (q 
     logged = record {
       pools = logged_as number (sym (calls_then (map Inner p.asks.inners) c.takes.marks)) (logged_then number p.logged (logged_quiet number (pool_calls_in c.takes.marks) (pool_logs news) c.apart));
       shards = logged_as (Some (shard_of key)) (sym (shards_then (map Inner p.asks.inners) c.takes.marks))
-          (logged_then (Some (shard_of key)) (logged_quiet (Some (shard_of key)) (cache_calls_in (map Inner p.asks.inners)) (use_logs u) (inners_apart p.asks.inners)) c.logged);
+          (logged_then (Some (shard_of key)) (logged_quiet (Some (shard_of key)) (cache_calls_in (map Inner p.asks.inners)) (use_logs u.of) (inners_apart p.asks.inners)) c.logged);
     };
   }
 
-  pub missed_fails : (key : Key) (number : Option ℕ) {e : NoMemory} {result : Result Decision NoMemory} {s t : SideState} {k : Kept} {pools news : List PoolUse} (u : UseData CacheJudge) → IsErr result
+  pub missed_fails : (key : Key) (number : Option ℕ) {e : NoMemory} {result : Result Decision NoMemory} {s t : SideState} {k : Kept} {pools news : List PoolUse} (u : LentCache) → IsErr result
       → AsksBy number (rest q) (Err e) (asking s (kept.On []) pools) (asking t k news)
       → TakesBy (record { shard = Some (shard_of key); pool = number }) (found rest plan q moment None) result (taking s (uses_of pools u)) (taking t (uses_of news u))
   missed_fails key number {result = Ok v} u fails p = absurd cc
@@ -171,7 +177,7 @@ module _ (rest : Query → List Mark → Meaning Decision) (plan : PlanData) (q 
       took = starved_onward (rest q (map Inner p.asks.inners)) (λ v end. kept_with plan q moment (inners_in (taken (map Inner p.asks.inners) end)) v end) p.asks.took
           (λ v. kept_ends plan q moment (inners_in (taken (map Inner p.asks.inners) [])) v);
     };
-    logged = record { pools = p.logged; shards = logged_quiet (Some (shard_of key)) (cache_calls_in (map Inner p.asks.inners)) (use_logs u) (inners_apart p.asks.inners) };
+    logged = record { pools = p.logged; shards = logged_quiet (Some (shard_of key)) (cache_calls_in (map Inner p.asks.inners)) (use_logs u.of) (inners_apart p.asks.inners) };
   }
 
 -- the fields of an entry that is made
@@ -231,13 +237,28 @@ inner_pool None steps q = refl
 inner_pool (Some plan) steps q = refl
 
 -- the use of the cache that a chain has
-pub some_cache : (chain : BlockChain) (plan : PlanData) (o : Option (UseData CacheJudge)) → IsCached chain o → chain.cache ≡ Some plan → (u : UseData CacheJudge) × (o ≡ Some u)
+pub some_cache : (chain : BlockChain) (plan : PlanData) (o : Option LentCache) → is_some o ≡ is_some chain.cache → chain.cache ≡ Some plan → (u : LentCache) × (o ≡ Some u)
 some_cache chain plan None cached is = absurd cc
 some_cache chain plan (Some u) cached is = (u, refl)
 
-judged : (chain : BlockChain) (u : UseData CacheJudge) (o : Option PlanData) → Some (cache_shape u) ≡ option_map (made_shape chain) o → u.cache.judge.chain.value ≡ chain
-judged chain u None e = absurd cc
-judged chain u (Some plan) e = let shape : cache_shape u ≡ made_shape chain plan = cc in ap (λ (s : CacheShape). s.chain) shape
+-- it is of the cache that serves the chain, whose judge takes what stands behind it as just
+judged : (chain : BlockChain) (u : LentCache) → Some (lent_cache u) ≡ chain_named chain → Judges u.of.cache.judge chain.cache chain.rewrites chain.back
+judged chain u same = by chain.named refl same
+  where
+    by : (o : Option NamedCache) → chain.named ≡ o → Some (lent_cache u) ≡ option_map named_data o → Judges u.of.cache.judge chain.cache chain.rewrites chain.back
+    by None is e = absurd cc
+    by (Some n) is e =
+        let it : lent_cache u ≡ named_data n = cc in
+        subst (λ (m : NamedData). Judges m.cache.judge chain.cache chain.rewrites chain.back) (sym it) (chain.judged n is)
+
+just_for : (chain : BlockChain) (plan : PlanData) (judge : BlockJudge) (entry : EntryData) → Judges judge chain.cache chain.rewrites chain.back → chain.cache ≡ Some plan → Justified (mean (behind_of chain)) plan entry → is_just judge entry
+just_for chain plan judge entry judges is j =
+    let bare = justified_stays (mean (behind_of chain)) plan entry j in
+    record {
+      plan = bare_plan plan;
+      is = judges.1 ∙ ap (option_map bare_plan) is;
+      just = record { decided = judges.0 entry.origin (map Inner entry.inner) ∙ bare.decided; kept = bare.kept };
+    }
 
 -- what is decided behind a miss makes a just entry
 too_heavy : (plan : PlanData) (q : Query) (moment : ℕ) (a : AnswerData) (inner : List InnerMark) (entry : EntryData) → 16384 < inner_weight inner → entry_for plan q moment a inner ≡ Some entry → ⊥
@@ -259,19 +280,15 @@ same_inner plan q moment a kept.Off inners inner entry kept_so past is = absurd 
 same_inner plan q moment a (kept.On marks) inners inner entry kept_so past is = sym kept_so ∙ past
 same_inner plan q moment a kept.Past inners inner entry kept_so past is = absurd (too_heavy plan q moment a inner entry past is)
 
-pub fair_entry : (chain : BlockChain) (plan : PlanData) (u : UseData CacheJudge) (q : Query) (moment : ℕ) (v : Decision) (k : Kept) {number : Option ℕ} {s t : SideState} {pools news : List PoolUse} → Some (cache_shape u) ≡ option_map (made_shape chain) chain.cache
-    → chain.cache ≡ Some plan → AsksBy number (mean (behind_of chain) q) (Ok v) (asking s (kept.On []) pools) (asking t k news) → IsFairFor u.cache plan q moment v k
+pub fair_entry : (chain : BlockChain) (plan : PlanData) (u : LentCache) (q : Query) (moment : ℕ) (v : Decision) (k : Kept) {number : Option ℕ} {s t : SideState} {pools news : List PoolUse} → Some (lent_cache u) ≡ chain_named chain
+    → chain.cache ≡ Some plan → AsksBy number (mean (behind_of chain) q) (Ok v) (asking s (kept.On []) pools) (asking t k news) → IsFairFor u.of.cache plan q moment v k
 fair_entry chain plan u q moment v k made is p answer reply inner past entry found =
     let same = same_inner plan q moment answer k p.asks.inners inner entry p.asks.kept past found in
     let fields = entry_fields plan q moment answer inner entry found in
     let took : mean (behind_of chain) q (map Inner inner) ≡ Done (decision.Reply answer) []
     = ap (mean (behind_of chain) q) (ap (map Inner) (sym same) ∙ sym (append-nil (map Inner p.asks.inners))) ∙ p.asks.took [] ∙ ap (λ (w : Decision). Done w []) reply in
-    subst (λ (c : BlockChain). IsJustIn c entry) (sym (judged chain u chain.cache made))
+    just_for chain plan u.of.cache.judge entry (judged chain u made) is
     (record {
-      plan = plan;
-      is = is;
-      just = record {
-        decided = (λ i. mean (behind_of chain) (fields.0 i) (map Inner (fields.1.1.1 i))) ∙ took ∙ ap (λ (a : AnswerData). Done (decision.Reply a) []) (sym fields.1.1.0);
-        kept = (λ i. entry_for plan (fields.0 i) (fields.1.0 i) (fields.1.1.0 i) (fields.1.1.1 i)) ∙ found;
-      };
+      decided = (λ i. mean (behind_of chain) (fields.0 i) (map Inner (fields.1.1.1 i))) ∙ took ∙ ap (λ (a : AnswerData). Done (decision.Reply a) []) (sym fields.1.1.0);
+      kept = (λ i. entry_for plan (fields.0 i) (fields.1.0 i) (fields.1.1.0 i) (fields.1.1.1 i)) ∙ found;
     })

@@ -8,6 +8,9 @@ pub mod Walks
 pub mod Coming
 pub mod OneForward
 pub mod Parts
+pub mod Lendings
+pub mod LentChains
+pub mod Namings
 pub mod Pooled
 pub mod Logging
 pub mod PlacesOfParts

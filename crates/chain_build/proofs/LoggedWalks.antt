@@ -38,9 +38,8 @@ use Rattle.chain_build.specs.declared.ended.Ended.TheVariants as end
 use Rattle.rewrite_plugin.specs.{changed_by}
 use Rattle.rewrite_plugin.specs.declared.plan_data.Changed.{Changed}
 use Rattle.chain_meaning.specs.CallsByRun.{CallNumbers, Pools, Shards, Shared, number_in, pool_in, shard_in}
-use Rattle.cache_plugin.specs.{UseData}
 use Rattle.chain_build.specs.declared.block_uses.BlockUses.{BlockUses}
-use Rattle.chain_build.specs.declared.judge.CacheJudge.{CacheJudge}
+use Rattle.lent_caches.specs.declared.uses.LentCache.{LentCache}
 use Rattle.chain_meaning.specs.declared.decision.Decision.{Decision}
 use Rattle.chain_meaning.specs.Mean.{answer_of, error_noted, forward_answer, forward_answered, mean, or_rest, outcome_of, query_noted, reply_restored, take_note}
 use Rattle.chain_meaning.specs.MeanLaws.{answer_nothing, mean_nothing, or_rest_nothing}
@@ -276,7 +275,7 @@ uses_quiet numbers marks uses p c = record {
 }
 
 -- what asks takes
-pub takes_by : {A : Type 0} {number : Option ℕ} {means : List Mark → Meaning A} {result : Result A NoMemory} {s t : SideState} {k l : Kept} {old new : List PoolUse} (shard : Option ℕ) (cache : Option (UseData CacheJudge))
+pub takes_by : {A : Type 0} {number : Option ℕ} {means : List Mark → Meaning A} {result : Result A NoMemory} {s t : SideState} {k l : Kept} {old new : List PoolUse} (shard : Option ℕ) (cache : Option LentCache)
     → AsksBy number means result (asking s k old) (asking t l new)
     → TakesBy (record { shard = shard; pool = number }) means result (taking s (record { pools = old; cache = cache })) (taking t (record { pools = new; cache = cache }))
 takes_by shard cache p = record {

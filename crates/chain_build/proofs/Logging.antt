@@ -1,5 +1,5 @@
 -- How logs grow by the calls of pools.
-use Rattle.std.proofs.Common.{◌≡◌, ◌≢◌, ◌<◌, eqb-true, ◌∙◌, ℕ, zero, suc, ◌==◌, Bool, true, false, List, [], ◌∷◌, ◌++◌, map, length, Option, Some, None, slice_index_or, slice_set, if◌then◌else◌, refl, sym, ap, subst, arith, append_assoc}
+use Rattle.std.proofs.Common.{◌≡◌, ◌≢◌, ◌<◌, eqb-true, ◌∙◌, ℕ, zero, suc, ◌==◌, Bool, true, false, List, [], ◌∷◌, ◌++◌, map, length, is_some, Option, Some, None, slice_index_or, slice_set, if◌then◌else◌, refl, sym, ap, subst, arith, append_assoc}
 use Rattle.std.specs.List.{All}
 use Rattle.std.proofs.lemmas.Bool.{eq-eqb}
 use Rattle.std.proofs.lemmas.List.{append-nil, length-map, map-append}
@@ -15,15 +15,14 @@ use Rattle.forward_plugin.specs.PoolUses.{calls_by}
 use Rattle.forward_plugin.specs.declared.pool_use.PoolUse.{PoolUse}
 use Rattle.one_history.specs.Shared.{Logged, cache_calls_in, called, is_of_cache, is_of_pool, log_at, pool_calls_in}
 use Rattle.pin_table.specs.{Grows}
-use Rattle.cache_plugin.specs.{UseData}
 use Rattle.cache_plugin.specs.Uses.{IsUncalled as uncalled}
 use Rattle.chain_meaning.specs.CallsByRun.{CallNumbers, NumberedMark, Pools, Shards, Shared, numbered_mark, of_number, told_in}
 use Rattle.chain_build.specs.LoggedWalks.{UsesLogged}
 use Rattle.chain_build.specs.Shares.{AreUncalled, IfCached}
 use Rattle.cache_shards.specs.Seats.{own_marks}
-use Rattle.chain_build.specs.Uses.{CacheShape, SameCaches, SameUses, UseShape, cache_shape}
+use Rattle.chain_build.specs.Uses.{SameUses, UseShape}
 use Rattle.chain_build.specs.declared.block_uses.BlockUses.{BlockUses}
-use Rattle.chain_build.specs.declared.judge.CacheJudge.{CacheJudge}
+use Rattle.lent_caches.specs.declared.uses.LentCache.{LentCache}
 use Rattle.chain_build.specs.Logs.{LoggedCalls, at_number, block_log, held_log, logs_of, pool_logs, pool_mark, pool_marks, shard_logs, use_log}
 
 -- the number of a shard, or of a pool
@@ -179,19 +178,18 @@ held_grows (old ∷ blocks) (suc n) none uses inside grown =
     grows_both (block_log old) (block_log old) (held_log blocks) (held_log (slice_set blocks n uses)) (grows_same (block_log old)) (held_grows blocks n none uses (omega (arith, inside)) grown)
 
 -- a cache has as many shards behind a query
-same_shards : (old new : Option (UseData CacheJudge)) → SameCaches old new → length (shard_logs new) ≡ length (shard_logs old)
+same_shards : (old new : Option LentCache) → is_some new ≡ is_some old → length (shard_logs new) ≡ length (shard_logs old)
 same_shards None None same = refl
 same_shards None (Some v) same = absurd cc
 same_shards (Some u) None same = absurd cc
 same_shards (Some u) (Some v) same =
-    let shape : cache_shape v ≡ cache_shape u = cc in
-    length-map v.views own_marks ∙ ap (λ (s : CacheShape). s.shards) shape ∙ sym (length-map u.views own_marks)
+    length-map v.of.views own_marks ∙ (v.lent.0 ∙ sym u.lent.0) ∙ sym (length-map u.of.views own_marks)
 
 -- the log of a block grows part by part
 pub block_grows : (old new : BlockUses) (calls : Shared → List NumberedMark) → SameUses old new → ((which : Shared) → LoggedCalls (calls which) (logs_of which old) (logs_of which new)) → Grows (block_log old) (block_log new)
 block_grows old new calls same logged =
     grows_both (shard_logs old.cache) (shard_logs new.cache) (pool_logs old.pools) (pool_logs new.pools)
-    (grows_each (λ i. at_number i (calls Shards)) (shard_logs old.cache) (shard_logs new.cache) (same_shards old.cache new.cache (ap (λ (s : UseShape). s.cache) same)) (logged Shards).each)
+    (grows_each (λ i. at_number i (calls Shards)) (shard_logs old.cache) (shard_logs new.cache) (same_shards old.cache new.cache (ap (λ (s : UseShape). s.cached) same)) (logged Shards).each)
     (grows_each (λ i. at_number i (calls Pools)) (pool_logs old.pools) (pool_logs new.pools) (length-map new.pools use_log ∙ ap (λ (s : UseShape). s.pools) same ∙ sym (length-map old.pools use_log)) (logged Pools).each)
 
 -- numbered calls, none and one after another
@@ -248,7 +246,7 @@ parts_empty [] rest all empty = empty
 parts_empty (part ∷ parts) rest all empty =
     All-cons (λ (part : List Mark). part ≡ []) part (parts ++ rest) (All-head (λ (part : List Mark). part ≡ []) part parts all) (parts_empty parts rest (All-tail (λ (part : List Mark). part ≡ []) part parts all) empty)
 
-shards_empty : (cache : Option (UseData CacheJudge)) → IfCached uncalled cache → All (λ (part : List Mark). part ≡ []) (shard_logs cache)
+shards_empty : (cache : Option LentCache) → IfCached (λ (u : LentCache). uncalled u.of) cache → All (λ (part : List Mark). part ≡ []) (shard_logs cache)
 shards_empty None h = All-nil (λ (part : List Mark). part ≡ [])
 shards_empty (Some u) h = h
 

@@ -1,9 +1,8 @@
 -- Where the parts of what workers share stand in the log of a chain, and how that grows.
-use Rattle.std.proofs.Common.{◌≡◌, ◌≢◌, eqb-true, ◌<◌, ◌≤◌, ◌⊎◌, inl, inr, ◌∙◌, ℕ, zero, suc, ◌+◌, ◌==◌, ◌&&◌, Bool, true, false, List, [], ◌∷◌, ◌++◌, map, length, Option, Some, None, option_map, slice_set, slice_get, if◌then◌else◌, refl, sym, ap, subst, arith, append_assoc}
+use Rattle.std.proofs.Common.{◌≡◌, ◌≢◌, eqb-true, ◌<◌, ◌≤◌, ◌⊎◌, inl, inr, ◌∙◌, ℕ, zero, suc, ◌+◌, ◌==◌, ◌&&◌, Bool, true, false, List, [], ◌∷◌, ◌++◌, map, length, is_some, Option, Some, None, slice_set, slice_get, if◌then◌else◌, refl, sym, ap, subst, arith, append_assoc}
 use Rattle.std.proofs.lemmas.List.{append-nil, length-map}
 use Rattle.outside.specs.declared.mark.Mark.{Mark}
 use Rattle.cache_shards.specs.Seats.{own_marks}
-use Rattle.cache_plugin.specs.{UseData}
 use Rattle.one_history.specs.Calls.{Call, marks_at}
 use Rattle.one_history.specs.Logs.{GrowsBy, Place, is_place, part_at}
 use Rattle.one_history.specs.Runs.{SHARDS}
@@ -11,10 +10,10 @@ use Rattle.one_history.specs.Shared.{log_at}
 use Rattle.plugin_api.specs.{PlanData}
 use Rattle.chain_meaning.specs.CallsByRun.{NumberedMark, Pools, Shards, Shared, block_calls, call_of, pool_part, shard_part}
 use Rattle.chain_build.specs.Logs.{LoggedCalls, at_number, block_log, block_places, held_log, numbered, places_from, logs_of, pool_logs, shard_logs, shards_in, use_log}
-use Rattle.chain_build.specs.Uses.{AreUsed, CacheShape, IsCached, IsUsed, UseShape, cache_shape, chain_pools, chain_shape, made_shape, use_shape}
+use Rattle.chain_build.specs.Uses.{AreUsed, IsUsed, UseShape, chain_pools, chain_shape, use_shape}
 use Rattle.chain_build.specs.declared.block.BlockChain.{BlockChain}
 use Rattle.chain_build.specs.declared.block_uses.BlockUses.{BlockUses}
-use Rattle.chain_build.specs.declared.judge.CacheJudge.{CacheJudge}
+use Rattle.lent_caches.specs.declared.uses.LentCache.{LentCache}
 use Rattle.chain_build.proofs.Logging.{differ}
 
 -- numbers
@@ -96,14 +95,14 @@ part_log uses part (inl low) = log_at (shard_logs uses.cache) part
 part_log uses part (inr found) = log_at (pool_logs uses.pools) found.0
 
 -- as many shards and pools as a chain has
-shards_long : (chain : BlockChain) (cache : Option (UseData CacheJudge)) → IsCached chain cache → length (shard_logs cache) ≡ shards_in chain.cache
+shards_long : (chain : BlockChain) (cache : Option LentCache) → is_some cache ≡ is_some chain.cache → length (shard_logs cache) ≡ shards_in chain.cache
 shards_long chain cache is = by_plan cache chain.cache is
   where
-    by_plan : (cache : Option (UseData CacheJudge)) (plan : Option PlanData) → option_map cache_shape cache ≡ option_map (made_shape chain) plan → length (shard_logs cache) ≡ shards_in plan
+    by_plan : (cache : Option LentCache) (plan : Option PlanData) → is_some cache ≡ is_some plan → length (shard_logs cache) ≡ shards_in plan
     by_plan None None e = refl
     by_plan None (Some plan) e = absurd cc
     by_plan (Some u) None e = absurd cc
-    by_plan (Some u) (Some plan) e = let shape : cache_shape u ≡ made_shape chain plan = cc in length-map u.views own_marks ∙ ap (λ (s : CacheShape). s.shards) shape
+    by_plan (Some u) (Some plan) e = length-map u.of.views own_marks ∙ u.lent.0
 
 few_shards : (plan : Option PlanData) → shards_in plan ≤ SHARDS
 few_shards None = omega arith
@@ -111,7 +110,7 @@ few_shards (Some plan) = omega arith
 
 module _ (b : ℕ) (chain : BlockChain) (uses : BlockUses) (used : IsUsed chain uses) (ps : List Place) (log : List (List Mark)) where
   shards_are : length (shard_logs uses.cache) ≡ shards_in chain.cache
-  shards_are = shards_long chain uses.cache (ap (λ (s : UseShape). s.cache) used)
+  shards_are = shards_long chain uses.cache (ap (λ (s : UseShape). s.cached) used)
 
   pools_are : length (pool_logs uses.pools) ≡ chain_pools chain
   pools_are = length-map uses.pools use_log ∙ ap (λ (s : UseShape). s.pools) used
@@ -307,8 +306,8 @@ module _ (serial n : ℕ) (calls : Shared → List NumberedMark) (chain : BlockC
       ∙ append-nil (at_number part (calls Shards))))
   grown_part part (inr found) =
       let is = found.1 in
-      let before = shards_long chain old.cache (ap (λ (s : UseShape). s.cache) used) in
-      let behind = shards_long chain uses.cache (ap (λ (s : UseShape). s.cache) after) in
+      let before = shards_long chain old.cache (ap (λ (s : UseShape). s.cached) used) in
+      let behind = shards_long chain uses.cache (ap (λ (s : UseShape). s.cached) after) in
       let few = few_shards chain.cache in
       (logged Pools).each found.0
       ∙ ap (λ (ms : List Mark). log_at (pool_logs old.pools) found.0 ++ ms)

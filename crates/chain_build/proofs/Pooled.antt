@@ -1,11 +1,9 @@
 -- The uses of a chain by its number, and what using some of them keeps.
 use Rattle.std.proofs.Common.{◌≡◌, ◌<◌, refl, ℕ, zero, suc, List, [], ◌∷◌, ◌++◌, length, map, take, drop, Some, slice_get, slice_index_or, slice_set, sym, ap, ◌∙◌, arith}
 use Rattle.std.proofs.lemmas.List.{append-nil, drop_all, length-map, take_all}
-use Rattle.cache_plugin.specs.{SameUse, UseData}
-use Rattle.chain_build.specs.Uses.{AreUsed, IsUsed, SameUses, UseShape, cache_shape, chain_shape, use_shape}
+use Rattle.chain_build.specs.Uses.{AreUsed, IsUsed, SameUses, UseShape, chain_shape, use_shape}
 use Rattle.chain_build.specs.declared.block.BlockChain.{BlockChain}
 use Rattle.chain_build.specs.declared.block_uses.BlockUses.{BlockUses}
-use Rattle.chain_build.specs.declared.judge.CacheJudge.{CacheJudge}
 
 -- those of the chain with a number
 pub used_at : (chains : List BlockChain) (blocks : List BlockUses) (n : ℕ) (chain : BlockChain) (none : BlockUses) → AreUsed chains blocks → slice_get chains n ≡ Some chain
@@ -23,9 +21,6 @@ used_at (c ∷ chains) (uses ∷ blocks) (suc n) chain none used at =
     (omega (arith, low), rest.1, rest.2)
 
 -- the same ones are used
-pub same_cache : (u v : UseData CacheJudge) → SameUse u v → cache_shape v ≡ cache_shape u
-same_cache u v same = λ i. record { chain = ap (λ c. c.judge.chain.value) same.cache i; capacities = ap (λ c. c.capacities) same.cache i; shards = same.views i }
-
 pub used_same : (chain : BlockChain) (old new : BlockUses) → SameUses old new → IsUsed chain old → IsUsed chain new
 used_same chain old new same used = same ∙ used
 

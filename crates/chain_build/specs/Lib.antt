@@ -7,8 +7,13 @@ pub mod Uses
 pub mod Judges
 pub mod Caches
 pub mod Shares
+pub mod Lending
+pub mod Naming
+pub mod KeysLaws
+pub mod NamesLaws
 pub mod Holding
 pub mod Workers
+pub mod LentsLaws
 pub mod Compiled
 pub mod Own
 pub mod Places

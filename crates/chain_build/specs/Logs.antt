@@ -13,13 +13,13 @@ use Rattle.one_history.specs.Logs.{Place}
 use Rattle.one_history.specs.Runs.{SHARDS}
 use Rattle.one_history.specs.Shared.{log_at}
 use Rattle.plugin_api.specs.{PlanData}
-use Rattle.cache_plugin.specs.{UseData, use_logs}
+use Rattle.cache_plugin.specs.{use_logs}
+use Rattle.lent_caches.specs.declared.uses.LentCache.{LentCache}
 use Rattle.chain_meaning.specs.CallsByRun.{NumberedMark, Pools, Shards, Shared, pool_part}
 use Rattle.chain_meaning.specs.CallsByRun.{shard_part}
 use Rattle.chain_build.specs.declared.block.BlockChain.{BlockChain}
 use Rattle.chain_build.specs.Uses.{chain_pools}
 use Rattle.chain_build.specs.declared.block_uses.BlockUses.{BlockUses}
-use Rattle.chain_build.specs.declared.judge.CacheJudge.{CacheJudge}
 use Rattle.chain_build.specs.Plans.{PlansData}
 
 -- the mark that tells a call of a pool
@@ -43,9 +43,9 @@ abbrev pub pool_logs : List PoolUse → List (List Mark)
 pool_logs uses = map use_log uses
 
 -- and of each shard of its cache, where it has one
-abbrev pub shard_logs : Option (UseData CacheJudge) → List (List Mark)
+abbrev pub shard_logs : Option LentCache → List (List Mark)
 shard_logs None = []
-shard_logs (Some u) = use_logs u
+shard_logs (Some u) = use_logs u.of
 
 -- of one of both
 abbrev pub logs_of : Shared → BlockUses → List (List Mark)

@@ -1,11 +1,11 @@
 -- A configuration as it serves. This server's own rule.
-use Rattle.std.specs.Prelude.{◌≡◌, ◌<◌, ℕ, ◌^◌, List, ◌++◌, map, Option}
+use Rattle.std.specs.Prelude.{◌≡◌, ◌<◌, ℕ, ◌^◌, List, [], ◌∷◌, ◌++◌, length, map, Option}
 use Rattle.std.specs.List.{All}
 use Rattle.dns_data.specs.declared.block.Block.{Block}
 use Rattle.dns_data.specs.declared.directive.Directive.{Directive}
 use Rattle.dns_data.specs.declared.query.Query.{Query}
 use Rattle.corefile_blocks.specs.declared.bundle.Bundle.{Bundle}
-use Rattle.corefile_blocks.specs.{ArePorts}
+use Rattle.corefile_blocks.specs.{ArePorts, IsReadable}
 use Rattle.extra_stock.specs.{seats_in}
 use Rattle.block_readings.specs.Behind.{block_behind}
 use Rattle.plugin_api.specs.{IndexData, IsIndexOf, PlanData, Sayings, Takings}
@@ -73,9 +73,16 @@ ground_of plans = ground_at plans.default_port plans.names
 abbrev pub terms_in : Takings → Sayings → PlansData → Terms
 terms_in taken said plans = terms_on taken said (ground_of plans)
 
+-- each of these blocks has a key
+abbrev pub AreKeyed : List Block → Type 0
+AreKeyed [] = Unit {0}
+AreKeyed (block ∷ blocks) = (0 < length block.keys) × AreKeyed blocks
+
 -- what was made is the bundle's
 pub record ArePlans (taken : Takings) (said : Sayings) (plans : PlansData) : Type 0 where
+  pub readable : IsReadable plans.bundle
   pub accepted : IsAccepted (terms_in taken said plans) plans.bundle plans.blocks
+  pub keyed : AreKeyed plans.blocks
   pub index : IsIndexOf plans.index plans.blocks
   pub chains : map (steps_in said) plans.chains
       ≡ map (steps_of said plans.bundle.files) plans.blocks

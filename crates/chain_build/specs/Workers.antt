@@ -1,5 +1,5 @@
 -- Which chain a worker's chain is. This server's own rule.
-use Rattle.std.specs.Prelude.{ℕ, List}
+use Rattle.std.specs.Prelude.{ℕ, List, [], ◌∷◌, ◌++◌}
 use Rattle.std.specs.Arc.{arc_value}
 use Rattle.std.specs.Box.{box_value}
 use Rattle.dns_data.specs.declared.directive.Directive.{Directive}
@@ -9,6 +9,8 @@ use Rattle.plugin_api.specs.{Sayings, Takings}
 use Rattle.plugin_api.specs.declared.extra.Extra as extra
 use Rattle.plugin_api.specs.declared.rulebook.Rulebook as rulebook
 use Rattle.chain_build.specs.declared.chain.Chain.{Chain}
+use Rattle.lent_caches.specs.Held.{LentData}
+use Rattle.chain_build.specs.Lending.{uses_lents}
 use Rattle.chain_build.specs.Logs.{chain_places, held_log}
 use Rattle.chain_build.specs.Plans.{PlansData, terms_in}
 use Rattle.chain_build.specs.Replying.{Server}
@@ -28,6 +30,16 @@ chain_identity chain =
 abbrev pub chain_log : {B E : Type 0} {b : rulebook.Ghosts B} {e : extra.Ghosts E}
     → Chain B E b e → List (List Mark)
 chain_log chain = held_log (box_value chain.held).uses.items
+
+-- its uses of caches, and those of chains
+abbrev pub chain_lents : {B E : Type 0} {b : rulebook.Ghosts B} {e : extra.Ghosts E}
+    → Chain B E b e → List LentData
+chain_lents chain = uses_lents (box_value chain.held).uses.items
+
+abbrev pub chains_lents : {B E : Type 0} {b : rulebook.Ghosts B} {e : extra.Ghosts E}
+    → List (Chain B E b e) → List LentData
+chains_lents [] = []
+chains_lents (chain ∷ chains) = chain_lents chain ++ chains_lents chains
 
 -- by what plans serve, with this serial
 abbrev pub server_in : Takings → Sayings → PlansData → ℕ → Server

@@ -1,7 +1,7 @@
 //! The chains of a generation, one for each worker.
 ghost use Rattle.std.specs.Prelude.{◌≡◌, ◌≤◌, ◌<◌, ◌+◌, ◌-◌, ◌*◌, ◌^◌, ◌++◌, ℕ, List, []};
 ghost use Rattle.std.specs.Prelude.{IfOk, OnOk, OnErr};
-ghost use Rattle.std.specs.Prelude.{map, vec_len, vec_capacity};
+ghost use Rattle.std.specs.Prelude.{length, map, vec_len, vec_capacity};
 ghost use Rattle.std.specs.Arc.{arc_value};
 ghost use Rattle.std.specs.Box.{box_value};
 ghost use Rattle.std.specs.List.{All};
@@ -10,22 +10,27 @@ ghost use Rattle.extra_stock.specs.{seats_of_chains};
 ghost use Rattle.pin_table.specs.{AreNew};
 ghost use Rattle.plugin_api.specs.{Obey};
 ghost use Rattle.chain_build.specs.Building.{Builds, BuildsChains};
-ghost use Rattle.chain_build.specs.Shares.{AreUncalled, HaveMore, HaveParts};
-ghost use Rattle.chain_build.specs.Uses.{AreUsed, chain_shape, use_shape};
+ghost use Rattle.chain_build.specs.Lending.{AreHeldBy, IsNamed, chain_names};
 ghost use Rattle.chain_build.specs.Places.{AreTaken};
-ghost use Rattle.chain_build.specs.Workers.{chain_extras, chain_identity, chain_log, plans_of};
+ghost use Rattle.chain_build.specs.Shares.{AreUncalled, HaveMore, HaveParts};
+ghost use Rattle.chain_build.specs.Uses.{ArePooled, chain_named};
+ghost use Rattle.chain_build.specs.Workers.{chain_extras, chain_identity, chain_lents, chain_log};
+ghost use Rattle.chain_build.specs.Workers.{chains_lents, plans_of};
+ghost use Rattle.lent_caches.specs.Building.{AreNewUses, CanLendEach, CanLendTimes, lent_times};
+ghost use Rattle.lent_caches.specs.Held.{AreApart, AreWhole, caches_data, given_all, stays};
+ghost use Rattle.lent_caches.specs.Ledger.{AllHeld, lent_each};
 
-use crate::block::BlockChain;
-use crate::block_uses::BlockUses;
 use crate::chain::Chain;
 use crate::held::Held;
+use crate::lending::{give_uses, lend_uses, share_pools};
 use crate::plans::Plans;
 use dns_data::{NoMemory, Text};
-use extra_stock::{Seats, Stock, find_short, give_blocks, seat_blocks};
+use extra_stock::{Stock, find_short, give_blocks, seat_blocks};
+use forward_plugin::Pools;
+use lent_caches::Caches;
 use outside::Mark;
 use pin_table::Tagged;
 use plugin_api::{Extra, Rulebook};
-use seeded_hash::Seed;
 use std::alloc::Global;
 use std::sync::Arc;
 
@@ -60,22 +65,33 @@ impl From<NoMemory> for BuildFault {
     }
 }
 
-/// A chain for each of so many workers, of this serial, with extras out of the stock. Caches hash
-/// with the seed. After a fault the stock has the same extras.
+/// A chain for each of so many workers, of this serial, with extras out of the stock and uses of
+/// the caches that serve its blocks. After a fault the stock has the same extras, and each cache
+/// lent what it had lent before.
 pub fn build<B: Rulebook, E: Extra>(
     alloc: Global,
     plans: &Arc<Plans<B>>,
     serial: u64,
     workers: u64,
     stock: &mut Stock<E>,
-    seed: Seed,
+    caches: &mut Caches,
 ) -> Result<Vec<Chain<B, E>>, BuildFault>
     requires workers { workers < 2 ^ 32 }
+    requires named { All IsNamed (arc_value plans.now).chains }
+    requires held { AreHeldBy (map chain_named (arc_value plans.now).chains)
+        (caches_data caches.old) }
+    requires can { CanLendTimes workers (chain_names (arc_value plans.now).chains)
+        (caches_data caches.old) }
+    requires apart { AreApart (caches_data caches.old) }
     requires obey { Obey B.taken B.said E.title E.takes E.ruling stock.old.spare.items }
     ensures short { Builds workers (arc_value plans.now).extras
         (λ n. names_weigh E.title (is_named n) stock.old.spare.items) result }
     ensures made { IfOk result (λ chains. BuildsChains (arc_value plans.now) serial workers
         chains.items) }
+    ensures lent { IfOk result (λ chains. caches_data caches.new
+        ≡ lent_times workers (chain_names (arc_value plans.now).chains)
+        (caches_data caches.old)) }
+    ensures fails { OnErr result (caches_data caches.new ≡ caches_data caches.old) }
     ensures judges { stock.new.judges ≡ stock.old.judges }
     ensures obey { Obey B.taken B.said E.title E.takes E.ruling stock.new.spare.items }
     ensures ok { (w : List ℕ → ℕ) → OnOk result (names_weigh E.title w stock.new.spare.items
@@ -102,7 +118,7 @@ pub fn build<B: Rulebook, E: Extra>(
             had: short.had,
         });
     }
-    Ok(build_chains(alloc, plans, serial, workers, stock, seed)?)
+    Ok(build_chains(alloc, plans, serial, workers, stock, caches)?)
 }
 
 // The same where the stock has enough.
@@ -112,15 +128,25 @@ fn build_chains<B: Rulebook, E: Extra>(
     serial: u64,
     workers: u64,
     stock: &mut Stock<E>,
-    seed: Seed,
+    caches: &mut Caches,
 ) -> Result<Vec<Chain<B, E>>, NoMemory>
     requires workers { workers < 2 ^ 32 }
+    requires named { All IsNamed (arc_value plans.now).chains }
+    requires held { AreHeldBy (map chain_named (arc_value plans.now).chains)
+        (caches_data caches.old) }
+    requires can { CanLendTimes workers (chain_names (arc_value plans.now).chains)
+        (caches_data caches.old) }
+    requires apart { AreApart (caches_data caches.old) }
     requires obey { Obey B.taken B.said E.title E.takes E.ruling stock.old.spare.items }
     requires taken { All (AreTaken B.taken) (arc_value plans.now).extras }
     requires enough { (n : List ℕ) → workers * asked_by (is_named n) (arc_value plans.now).extras
         ≤ names_weigh E.title (is_named n) stock.old.spare.items }
     ensures made { IfOk result (λ chains. BuildsChains (arc_value plans.now) serial workers
         chains.items) }
+    ensures lent { IfOk result (λ chains. caches_data caches.new
+        ≡ lent_times workers (chain_names (arc_value plans.now).chains)
+        (caches_data caches.old)) }
+    ensures fails { OnErr result (caches_data caches.new ≡ caches_data caches.old) }
     ensures judges { stock.new.judges ≡ stock.old.judges }
     ensures obey { Obey B.taken B.said E.title E.takes E.ruling stock.new.spare.items }
     ensures ok { (w : List ℕ → ℕ) → OnOk result (names_weigh E.title w stock.new.spare.items
@@ -134,17 +160,17 @@ fn build_chains<B: Rulebook, E: Extra>(
     ensures capacity { vec_capacity stock.new.spare ≡ vec_capacity stock.old.spare }
 {
     let mut chains = Vec::with_capacity(alloc, workers as usize)?;
-    let mut shared = share_uses(alloc, plans.chains.as_slice(), workers + 1, seed)?;
+    let mut shared = share_pools(alloc, plans.chains.as_slice(), workers + 1)?;
     for worker in 0..workers {
         let of = ChainOf {
             plans,
             serial,
             worker,
         };
-        match one_chain(alloc, &of, shared.as_mut_slice(), stock) {
+        match one_chain(alloc, &of, shared.as_mut_slice(), stock, caches) {
             Ok(chain) => chains.push_reserved(chain),
             Err(NoMemory) => {
-                take_back(&mut chains, stock);
+                give_chains(&mut chains, stock, caches);
                 return Err(NoMemory);
             }
         }
@@ -164,11 +190,18 @@ struct ChainOf<'a, B: Rulebook> {
 fn one_chain<B: Rulebook, E: Extra>(
     alloc: Global,
     of: &ChainOf<'_, B>,
-    shared: &mut [BlockUses],
+    shared: &mut [Pools],
     stock: &mut Stock<E>,
+    caches: &mut Caches,
 ) -> Result<Chain<B, E>, NoMemory>
-    requires used { AreUsed (arc_value of.now.plans.now).chains shared.old }
+    requires pooled { ArePooled (arc_value of.now.plans.now).chains shared.old }
     requires more { All HaveMore shared.old }
+    requires named { All IsNamed (arc_value of.now.plans.now).chains }
+    requires held { AreHeldBy (map chain_named (arc_value of.now.plans.now).chains)
+        (caches_data caches.old) }
+    requires can { CanLendEach (chain_names (arc_value of.now.plans.now).chains)
+        (caches_data caches.old) }
+    requires apart { AreApart (caches_data caches.old) }
     requires obey { Obey B.taken B.said E.title E.takes E.ruling stock.old.spare.items }
     requires taken { All (AreTaken B.taken) (arc_value of.now.plans.now).extras }
     requires enough { (n : List ℕ) → asked_by (is_named n) (arc_value of.now.plans.now).extras
@@ -177,7 +210,13 @@ fn one_chain<B: Rulebook, E: Extra>(
     ensures serial { IfOk result (λ chain. (box_value chain.held).serial ≡ of.now.serial) }
     ensures worker { IfOk result (λ chain. (box_value chain.held).worker ≡ of.now.worker) }
     ensures fresh { IfOk result (λ chain. All AreUncalled (box_value chain.held).uses.items) }
-    ensures used { AreUsed (arc_value of.now.plans.now).chains shared.new }
+    ensures lent { IfOk result (λ chain. caches_data caches.new
+        ≡ lent_each (chain_names (arc_value of.now.plans.now).chains) (caches_data caches.old)) }
+    ensures new { IfOk result (λ chain. AreNewUses
+        (chain_names (arc_value of.now.plans.now).chains) (caches_data caches.old)
+        (chain_lents chain)) }
+    ensures fails { OnErr result (caches_data caches.new ≡ caches_data caches.old) }
+    ensures pooled { map length shared.new ≡ map length shared.old }
     ensures parts { (parts : ℕ) → All (HaveParts parts) shared.old
         → OnOk result (All (HaveParts (parts - 1)) shared.new) }
     ensures judges { stock.new.judges ≡ stock.old.judges }
@@ -193,85 +232,46 @@ fn one_chain<B: Rulebook, E: Extra>(
     ensures capacity { vec_capacity stock.new.spare ≡ vec_capacity stock.old.spare }
 {
     let plans = Arc::try_clone(of.plans)?;
-    let mut uses = Vec::with_capacity(alloc, shared.len())?;
-    split_uses(alloc, shared, &mut uses)?;
     let mut held = Box::new(
         alloc,
         Held {
             serial: of.serial,
             worker: of.worker,
             seats: Vec::new(alloc),
-            uses,
+            uses: Vec::new(alloc),
         },
     )?;
-    held.seats = seat_blocks(alloc, plans.extras.as_slice(), &mut stock.spare)?;
-    Ok(Chain { plans, held })
+    let uses = lend_uses(alloc, plans.chains.as_slice(), shared, caches)?;
+    match seat_blocks(alloc, plans.extras.as_slice(), &mut stock.spare) {
+        Ok(seats) => {
+            held.seats = seats;
+            held.uses = uses;
+            Ok(Chain { plans, held })
+        }
+        Err(NoMemory) => {
+            give_uses(uses, caches);
+            Err(NoMemory)
+        }
+    }
 }
 
-// New uses for chains, block by block, with so many parts of each.
-fn share_uses(
-    alloc: Global,
-    chains: &[BlockChain],
-    parts: u64,
-    seed: Seed,
-) -> Result<Vec<BlockUses>, NoMemory>
-    requires { 0 < parts }
-    ensures used { IfOk result (λ uses. AreUsed chains.now uses.items) }
-    ensures parts { IfOk result (λ uses. All (HaveParts parts) uses.items) }
-{
-    let mut all = Vec::with_capacity(alloc, chains.len())?;
-    share_more(alloc, chains, parts, seed, &mut all)?;
-    Ok(all)
-}
-
-// The same, behind those of others.
-fn share_more(
-    alloc: Global,
-    chains: &[BlockChain],
-    parts: u64,
-    seed: Seed,
-    all: &mut Vec<BlockUses>,
-) -> Result<(), NoMemory>
-    requires parts { 0 < parts }
-    requires all { All (HaveParts parts) all.old.items }
-    ensures used { OnOk result (map use_shape all.new.items
-        ≡ map use_shape all.old.items ++ map chain_shape chains.now) }
-    ensures parts { OnOk result (All (HaveParts parts) all.new.items) }
-{
-    let Some((chain, rest)) = chains.split_first() else {
-        return Ok(());
-    };
-    all.push(BlockUses::share(alloc, chain, parts, seed)?)?;
-    share_more(alloc, rest, parts, seed, all)
-}
-
-// One part of all uses for a worker, behind those of others.
-fn split_uses(
-    alloc: Global,
-    shared: &mut [BlockUses],
-    others: &mut Vec<BlockUses>,
-) -> Result<(), NoMemory>
-    requires more { All HaveMore shared.old }
-    requires fresh { All AreUncalled others.old.items }
-    ensures stays { map use_shape shared.new ≡ map use_shape shared.old }
-    ensures used { OnOk result (map use_shape others.new.items
-        ≡ map use_shape others.old.items ++ map use_shape shared.old) }
-    ensures fresh { All AreUncalled others.new.items }
-    ensures parts { (parts : ℕ) → All (HaveParts parts) shared.old
-        → OnOk result (All (HaveParts (parts - 1)) shared.new) }
-{
-    let Some((first, rest)) = shared.split_first_mut() else {
-        return Ok(());
-    };
-    others.push(first.split(alloc)?)?;
-    split_uses(alloc, rest, others)
-}
-
-/// Brings the extras of chains home. It takes no memory: their places in the stock stayed free.
-pub fn take_back<B: Rulebook, E: Extra>(chains: &mut Vec<Chain<B, E>>, stock: &mut Stock<E>)
+/// Brings the extras of chains home, and their uses of caches; a cache of which no use is out goes,
+/// and tells its whole history. It takes no memory: the places of the extras in the stock stayed
+/// free.
+pub fn take_back<B: Rulebook, E: Extra>(
+    chains: &mut Vec<Chain<B, E>>,
+    stock: &mut Stock<E>,
+    caches: &mut Caches,
+)
     requires obey { Obey B.taken B.said E.title E.takes E.ruling stock.old.spare.items }
     requires room { vec_len stock.old.spare + seats_of_chains chain_extras chains.old.items
         ≤ vec_capacity stock.old.spare }
+    requires held { AllHeld (chains_lents chains.old.items) (caches_data caches.old) }
+    requires apart { AreApart (caches_data caches.old) }
+    ensures stays { caches_data caches.new
+        ≡ stays (given_all (chains_lents chains.old.items) (caches_data caches.old)) }
+    ensures whole { AreWhole
+        (given_all (chains_lents chains.old.items) (caches_data caches.old)) }
     ensures empty { (chains.new.items ≡ []) × (vec_len chains.new ≡ 0) }
     ensures kept { vec_capacity chains.new ≡ vec_capacity chains.old }
     ensures judges { stock.new.judges ≡ stock.old.judges }
@@ -282,22 +282,43 @@ pub fn take_back<B: Rulebook, E: Extra>(chains: &mut Vec<Chain<B, E>>, stock: &m
         ≡ vec_len stock.old.spare + seats_of_chains chain_extras chains.old.items }
     ensures capacity { vec_capacity stock.new.spare ≡ vec_capacity stock.old.spare }
 {
-    while let Some(chain) = chains.pop() {
-        let mut seats = seats_of(chain);
-        give_blocks(&mut seats, &mut stock.spare);
-    }
+    give_chains(chains, stock, caches);
+    caches.let_go();
 }
 
-// The seats of a chain.
-fn seats_of<B: Rulebook, E: Extra>(chain: Chain<B, E>) -> Vec<Seats<B, E>>
-    ensures { result.items ≡ chain_extras chain }
+// The same, and no cache goes.
+fn give_chains<B: Rulebook, E: Extra>(
+    chains: &mut Vec<Chain<B, E>>,
+    stock: &mut Stock<E>,
+    caches: &mut Caches,
+)
+    requires obey { Obey B.taken B.said E.title E.takes E.ruling stock.old.spare.items }
+    requires room { vec_len stock.old.spare + seats_of_chains chain_extras chains.old.items
+        ≤ vec_capacity stock.old.spare }
+    requires held { AllHeld (chains_lents chains.old.items) (caches_data caches.old) }
+    requires apart { AreApart (caches_data caches.old) }
+    ensures given { caches_data caches.new
+        ≡ given_all (chains_lents chains.old.items) (caches_data caches.old) }
+    ensures empty { (chains.new.items ≡ []) × (vec_len chains.new ≡ 0) }
+    ensures kept { vec_capacity chains.new ≡ vec_capacity chains.old }
+    ensures judges { stock.new.judges ≡ stock.old.judges }
+    ensures obey { Obey B.taken B.said E.title E.takes E.ruling stock.new.spare.items }
+    ensures weighs { (w : List ℕ → ℕ) → names_weigh E.title w stock.new.spare.items
+        ≡ names_weigh E.title w stock.old.spare.items + in_chains chain_extras w chains.old.items }
+    ensures len { vec_len stock.new.spare
+        ≡ vec_len stock.old.spare + seats_of_chains chain_extras chains.old.items }
+    ensures capacity { vec_capacity stock.new.spare ≡ vec_capacity stock.old.spare }
 {
-    let Chain { plans: _, held } = chain;
-    let Held {
-        serial: _,
-        worker: _,
-        seats,
-        uses: _,
-    } = Box::into_inner(held);
-    seats
+    chains.reverse();
+    while let Some(chain) = chains.pop() {
+        let Chain { plans: _, held } = chain;
+        let Held {
+            serial: _,
+            worker: _,
+            mut seats,
+            uses,
+        } = Box::into_inner(held);
+        give_blocks(&mut seats, &mut stock.spare);
+        give_uses(uses, caches);
+    }
 }

@@ -1,8 +1,9 @@
 //! The cache of a chain, and the way on where it has none.
 ghost use Rattle.std.specs.Prelude.{◌≡◌, List, Some, None, IfOk, IsTrue};
 ghost use Rattle.dns_data.specs.Message.{no_answer};
-ghost use Rattle.cache_plugin.specs.{ArePast, CallsBy, SameUse, state_at, use_logs};
+ghost use Rattle.cache_plugin.specs.{ArePast, CallsBy, state_at, use_logs};
 ghost use Rattle.cache_rules.specs.{aged, cache_zones, key_of};
+ghost use Rattle.lent_caches.specs.Lent.{IsSameUse};
 ghost use Rattle.outside.specs.declared.entry.InnerMark.{InnerMark};
 ghost use Rattle.zone_words.specs.{is_in};
 ghost use Rattle.chain_meaning.specs.Caching.{cached, found, kept_with};
@@ -19,12 +20,12 @@ use crate::back::run_behind;
 use crate::block::BlockChain;
 use crate::block_uses::BlockUses;
 use crate::ended::Ended;
-use crate::judge::CacheJudge;
 use crate::room::{PluginRoom, WalkRoom};
 use crate::walk::Walk;
-use cache_plugin::{CacheQuery, CacheUse, Decided, Found, Missed};
+use cache_plugin::{CacheQuery, Decided, Found, Missed};
 use cache_rules::{CachePlan, aged};
 use dns_data::{NoMemory, Slot};
+use lent_caches::LentCache;
 use outside::{Entry, Kept, Light, Side};
 use std::alloc::Global;
 use std::mem;
@@ -152,20 +153,21 @@ fn keep_reply<'a, R: Wait, S: Side>(
     asked: &CacheQuery<'_, R>,
     missed: Missed,
     ended: Ended<'a>,
-    cache: &mut CacheUse<CacheJudge>,
+    cache: &mut LentCache,
     side: &mut S,
     room: &mut PluginRoom,
 ) -> Result<Ended<'a>, NoMemory>
     requires key { missed.key ≡ key_of asked.now.query.now }
-    requires fair { IsFairFor cache.old.cache asked.now.plan.now asked.now.query.now missed.moment
+    requires fair { IsFairFor cache.old.of.cache asked.now.plan.now asked.now.query.now
+        missed.moment
         (decision_of ended room.old.slot) room.old.kept }
-    ensures same { SameUse cache.old cache.new }
+    ensures same { IsSameUse cache.old cache.new }
     ensures calls { (inner : List InnerMark) → ArePast room.old.kept inner
         → CallsBy (key_of asked.now.query.now)
         (kept_with asked.now.plan.now asked.now.query.now missed.moment inner
         (decision_of ended.entry room.old.slot)) (decided result room.new.slot)
-        (state_at (S.state side.old) (use_logs cache.old))
-        (state_at (S.state side.new) (use_logs cache.new)) }
+        (state_at (S.state side.old) (use_logs cache.old.of))
+        (state_at (S.state side.new) (use_logs cache.new.of)) }
 {
     match ended {
         Ended::Reply => keep_answer(asked, missed, cache, side, room),
@@ -182,20 +184,21 @@ fn keep_reply<'a, R: Wait, S: Side>(
 fn keep_answer<R: Wait, S: Side>(
     asked: &CacheQuery<'_, R>,
     missed: Missed,
-    cache: &mut CacheUse<CacheJudge>,
+    cache: &mut LentCache,
     side: &mut S,
     room: &mut PluginRoom,
 ) -> Result<Ended<'static>, NoMemory>
     requires key { missed.key ≡ key_of asked.now.query.now }
-    requires fair { IsFairFor cache.old.cache asked.now.plan.now asked.now.query.now missed.moment
+    requires fair { IsFairFor cache.old.of.cache asked.now.plan.now asked.now.query.now
+        missed.moment
         (decision.Reply room.old.slot) room.old.kept }
-    ensures same { SameUse cache.old cache.new }
+    ensures same { IsSameUse cache.old cache.new }
     ensures calls { (inner : List InnerMark) → ArePast room.old.kept inner
         → CallsBy (key_of asked.now.query.now)
         (kept_with asked.now.plan.now asked.now.query.now missed.moment inner
         (decision.Reply room.old.slot)) (decided result room.new.slot)
-        (state_at (S.state side.old) (use_logs cache.old))
-        (state_at (S.state side.new) (use_logs cache.new)) }
+        (state_at (S.state side.old) (use_logs cache.old.of))
+        (state_at (S.state side.new) (use_logs cache.new.of)) }
 {
     let moment = missed.moment;
     let decided = Decided {

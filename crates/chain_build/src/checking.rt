@@ -1,10 +1,10 @@
-ghost use Rattle.std.specs.Prelude.{◌≡◌, ◌<◌, ◌^◌, None, Some, Ok, Err, map, IfOk};
+ghost use Rattle.std.specs.Prelude.{◌≡◌, ◌<◌, ◌^◌, None, Some, Ok, Err, map, IfOk, IsTrue};
 ghost use Rattle.std.specs.List.{All};
 ghost use Rattle.plugin_api.specs.{Obey, Sayings};
 ghost use Rattle.extra_stock.specs.{seats_in};
 ghost use Rattle.chain_meaning.specs.{brought_of, ground_at};
 ghost use Rattle.chain_meaning.specs.Grounds.{terms_by};
-ghost use Rattle.chain_build.specs.Plans.{extras_in};
+ghost use Rattle.chain_build.specs.Plans.{AreKeyed, extras_in};
 ghost use Rattle.corefile_blocks.specs.{IsReadable, ReadsBlocks};
 ghost use Rattle.corefile_blocks.specs.Readable.{HasShortBytes};
 ghost use Rattle.chain_build.specs.Chains.{MakesBlock, MakesBlocks, MakesPlans};
@@ -92,6 +92,10 @@ fn check_over<B: Rulebook, E: Extra, M: PatternMaker>(
     };
     let read = reread_bundle(alloc, earlier, &bundle, default_port, &bench, maker)?;
     let ReadBundle { blocks, chains } = read;
+    // A block without a key, which no header gives, has no room.
+    if !are_keyed(blocks.as_slice()) {
+        return Err(CheckFault::NoMemory);
+    }
     let names = names_of(alloc, judges)?;
     let extras = extras_of(alloc, chains.as_slice())?;
     let index = BlockIndex::new(alloc, &blocks)?;
@@ -107,6 +111,16 @@ fn check_over<B: Rulebook, E: Extra, M: PatternMaker>(
         ports,
         of: PhantomData,
     })
+}
+
+// Whether each block has a key.
+fn are_keyed(blocks: &[Block]) -> bool
+    ensures { IsTrue result → AreKeyed blocks.now }
+{
+    let Some((block, rest)) = blocks.split_first() else {
+        return true;
+    };
+    0 < block.keys.len() && are_keyed(rest)
 }
 
 // The names of judges.

@@ -61,6 +61,7 @@ pub fn compile(alloc: Global, places: Places) -> Result<BlockChain, NoMemory>
         rewrites,
         back,
         asks,
+        named: None,
     })
 }
 

@@ -2,7 +2,7 @@
 use Rattle.std.proofs.Common.{◌≡◌, ◌≤◌, ◌<◌, ◌*◌, ◌+◌, ℕ, suc, List, [], ◌∷◌, ◌++◌, map, length, reverse, take, Some, slice_get, refl, sym, ap, subst, ◌∙◌, arith}
 use Rattle.std.specs.Arc.{arc_value}
 use Rattle.std.specs.Vec.{vec_capacity, vec_len}
-use Rattle.std.specs.List.{All, AllZip}
+use Rattle.std.specs.List.{All, AllZip, sum_by}
 use Rattle.std.proofs.lemmas.List.{length-map, take_all}
 use Rattle.outside.specs.Causes.{RoseJust}
 use Rattle.outside.specs.States.{SideState, WatchState}
@@ -11,7 +11,7 @@ use Rattle.chain_build.specs.declared.chain.Chain.{Chain}
 use Rattle.plugin_api.specs.declared.extra.Extra as extra
 use Rattle.plugin_api.specs.declared.rulebook.Rulebook as rulebook
 use Rattle.corefile_bundle.specs.{IsGathered}
-use Rattle.chain_build.specs.{ArePlans, chain_identity, chain_log, ground_of, plans_of}
+use Rattle.chain_build.specs.{ArePlans, PlansData, chain_identity, chain_log, ground_of, plans_of}
 use Rattle.chain_meaning.specs.{Ground}
 use Rattle.plugin_api.specs.{Obey}
 use Rattle.pin_core.specs.declared.slots.TheConstants.{WORKERS}
@@ -19,7 +19,7 @@ use Rattle.pin_table.specs.declared.passes.Pass.{Pass}
 use Rattle.pin_table.specs.declared.table.PinTable.{PinTable}
 use Rattle.pin_table.specs.declared.views.PassView.{PassView}
 use Rattle.pin_table.specs.declared.views.Plan.{Plan}
-use Rattle.pin_table.specs.{AreFilled, AreGiven, AreIdle, IsPublisherOf, IsStanding, count_of, id_of, plan_of, views_of}
+use Rattle.pin_table.specs.{AreFilled, AreGiven, AreIdle, IsPublisherOf, IsStanding, count_of, id_of, plan_of, standing, views_of}
 use Rattle.pin_core.specs.{OnePinRun, pin_marks}
 use Rattle.pin_table.specs.Closing.{IsClosed, IsTraced, joined_marks, joined_plan}
 use Rattle.pin_table.specs.Opening.{IsOpened}
@@ -27,7 +27,13 @@ use Rattle.query_worker.specs.{pinned_by}
 use Rattle.reload_watch.specs.{AreFilledBy, Footing, HasPlaces, IsPlaced, footing_on, terms_of}
 use Rattle.run_meaning.specs.WatchTurn.{AreLooks, all_starved}
 use Rattle.run_meaning.specs.WatchRun.{EndsWatch}
+use Rattle.lent_caches.specs.Held.{caches_data}
+use Rattle.chain_build.specs.Naming.{change}
+use Rattle.reload_watch.specs.Named.{AreNamed, no_generation}
+use Rattle.reload_watch.specs.NamedLaws.{named_first, names_on, of_none}
+use Rattle.reload_watch.specs.NextLaws.{first_keeps}
 use Rattle.reload_watch.specs.declared.watcher.Watcher.{Watcher}
+use Rattle.dns_server.specs.Caches.{LendsFirst}
 use Rattle.dns_server.specs.declared.finishing.Opened.{Opened}
 use Rattle.dns_server.specs.declared.report.Done.{Done}
 use Rattle.dns_server.specs.declared.roles.Role.{Role}
@@ -156,11 +162,14 @@ module _ {B E : Type 0} {bk : rulebook.Ghosts B} {ex : extra.Ghosts E} where
       → All (λ chain. plans_of chain ≡ arc_value w.current) chains → ArePlans bk.taken bk.said (arc_value w.current) → IsGathered (arc_value w.current).bundle
       → (arc_value w.current).names ≡ map ex.title w.stock.judges.items → Obey bk.taken bk.said ex.title ex.takes ex.ruling w.stock.judges.items → Obey bk.taken bk.said ex.title ex.takes ex.ruling w.stock.spare.items
       → IsStanding chain_identity (plan_of w.publisher) → HasPlaces (vec_len w.stock.spare) (vec_capacity w.stock.spare) (plan_of w.publisher)
-      → (w.home.items ≡ []) × (vec_len w.home ≡ 0) × (4 * length chains ≤ vec_capacity w.home) → w.starved ≡ 0 → IsWatching table w
-  watching table w chains own opened filled workers few serve are gathered names judges spare stands places home starved =
+      → (w.home.items ≡ []) × (vec_len w.home ≡ 0) × (4 * length chains ≤ vec_capacity w.home) → w.starved ≡ 0
+      → (plans : PlansData) → LendsFirst plans (arc_value w.current) (length chains) (caches_data w.caches) → ((f : Chain B E bk ex → ℕ) → standing f (plan_of w.publisher) ≡ sum_by f chains) → IsWatching table w
+  watching table w chains own opened filled workers few serve are gathered names judges spare stands places home starved plans lends sum =
       let plan = opened.1 in
       let count : count_of (plan_of w.publisher) ≡ 1 = ap (λ (p : Plan (Chain B E bk ex)). count_of p) plan in
       let all : take (length chains) chains ≡ chains = take_all (length chains) chains (omega arith) in
+      let begins = lends.begins in
+      let keeps = first_keeps begins.naming plans (arc_value w.current) lends.fresh (plan_of w.publisher) chains (caches_data w.caches) few.0 few.1 begins.serial begins.none are begins.names opened sum serve lends.lent in
       record {
         keeps = record {
           own = own;
@@ -186,6 +195,11 @@ module _ {B E : Type 0} {bk : rulebook.Ghosts B} {ex : extra.Ghosts E} where
           stands = stands;
           places = places;
           home = record { none = home.0; empty = home.1; room = let h = home.2 in omega (arith, workers, h) };
+          caches = keeps.0;
+          served = keeps.1.0;
+          named = subst AreNamed (sym (ap (λ (p : Plan (Chain B E bk ex)). p.past.filled) plan ∙ ap (λ (l : List (Chain B E bk ex)). l ∷ []) all))
+              (named_first (arc_value w.current) chains (names_on begins.naming (change [] lends.fresh) (arc_value w.current) no_generation 0 (of_none begins.naming.before begins.none) begins.serial begins.names.names) serve);
+          accounted = keeps.1.1;
         };
         first = count;
         starved = starved;

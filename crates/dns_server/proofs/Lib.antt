@@ -1,4 +1,5 @@
 pub mod Sharings
+pub mod Caching
 pub mod Each
 pub mod Ended
 pub mod Holding

@@ -6,24 +6,32 @@ use denote.Ref.{NamedLft}
 use denote.Struct.Field.{row_field}
 use denote.Enum.Declared as Enum
 use denote.Param.Send.{IsSend, IsSync, sendable, shr_sync}
-use denote.Param.SendFields.{as_row_send, as_row_sync, declared_send, declared_sync, variants_send}
-use Rattle.std.proofs.Crossing.{crosses, frees, Arc-send, Box-send, Vec-send}
+use denote.Param.SendFields.{as_row_send, as_row_sync, declared_send, declared_sync, variants_send, variants_sync}
+use Rattle.std.proofs.Crossing.{crosses, frees, Arc-send, Arc-sync, Box-send, Vec-send, Vec-sync}
 use Rattle.std.specs.contracts.option.Option as Option
 use Rattle.plugin_api.specs.declared.extra.Extra as extra
 use Rattle.plugin_api.specs.declared.rulebook.Rulebook as rulebook
 use Rattle.chain_build.specs.contracts.chain.Chain as Chain
 use Rattle.chain_build.specs.contracts.held.Held as Held
+use Rattle.chain_build.specs.contracts.block.BlockChain as BlockChain
+use Rattle.chain_build.proofs.block_chain.BackAnswerer.TheSendSync as back
+use Rattle.chain_build.proofs.block_chain.FrontAnswerer.TheSendSync as middle
+use Rattle.chain_build.proofs.block_chain.FrontStep.TheSendSync as front
+use Rattle.dns64_plugin.proofs.plan.Dns64Plan.TheSendSync as dns64
+use Rattle.cache_rules.proofs.plan.CachePlan.TheSendSync as cache
+use Rattle.rewrite_plugin.proofs.plan.RewritePlan.TheSendSync as rewrite
+use Rattle.dns_data.specs.contracts.directive.Directive as Directive
+use Rattle.dns_data.proofs.directive.Directive.TheSendSync as directive
+use Rattle.dns_data.proofs.block.Block.TheSendSync as block
+use Rattle.plugin_api.proofs.index.BlockIndex.TheSendSync as index
 use Rattle.chain_build.specs.contracts.plans.Plans as Plans
+use Rattle.chain_build.specs.contracts.plans.Plans.TheInside as PlansInside
 use Rattle.pin_table.specs.contracts.passes.Pass as Pass
 use Rattle.pin_table.specs.contracts.publisher.Publisher as Publisher
 use Rattle.pin_table.specs.contracts.table.PinTable as PinTable
 use Rattle.pin_table.specs.declared.tagged.Tagged as tagged
 use Rattle.query_worker.specs.contracts.worker.Worker as Worker
-use Rattle.reload_watch.specs.contracts.watcher.Watcher as Watcher
-use Rattle.dns_server.specs.contracts.roles.Role as Role
-use Rattle.dns_server.specs.contracts.roles.Shared as Shared
 use Rattle.atomic_table.proofs.shared.Seat.TheSendSync as seat
-use Rattle.chain_build.proofs.plans.Plans.TheSendSync as plans
 use Rattle.chain_build.proofs.room.Room.TheSendSync as room
 use Rattle.atomic_table.proofs.shared.Shared.TheSendSync as shared
 use Rattle.atomic_table.proofs.send_lease.SendLease.TheSendSync as lease
@@ -41,8 +49,17 @@ use Rattle.cache_plugin.specs.contracts.cache_use.CacheUse as CacheUse
 use Rattle.cache_plugin.specs.contracts.cache_use.CacheUse.TheInside as CacheInside
 use Rattle.cache_shards.proofs.Sharings.{cache_seat_send, cache_send, cache_sync}
 use Rattle.chain_build.specs.contracts.block_uses.BlockUses as BlockUses
-use Rattle.chain_build.specs.contracts.judge.CacheJudge as CacheJudge
-use Rattle.chain_build.specs.contracts.judge.CacheJudgeJudge.TheImpl as judge
+use Rattle.dns_lists.specs.contracts.seq.Seq as Seq
+use Rattle.dns_lists.specs.contracts.seq.Seq.TheInside as SeqInside
+use Rattle.lent_caches.specs.contracts.caches.Caches as Caches
+use Rattle.lent_caches.specs.contracts.judge.BlockJudge as BlockJudge
+use Rattle.lent_caches.specs.contracts.judge.BlockJudgeJudge.TheImpl as judge
+use Rattle.lent_caches.specs.contracts.name.NamedCache as NamedCache
+use Rattle.lent_caches.specs.contracts.uses.HeldCache as HeldCache
+use Rattle.lent_caches.specs.contracts.uses.LentCache as LentCache
+use Rattle.reload_watch.specs.contracts.watcher.Watcher as Watcher
+use Rattle.dns_server.specs.contracts.roles.Role as Role
+use Rattle.dns_server.specs.contracts.roles.Shared as Shared
 
 health_send : IsSend Health.the_row
 health_send = search (sendable, crosses) depth 20
@@ -79,25 +96,79 @@ option_send R s = variants_send (option_record R) (tt, ((as_row_send (row_field 
 none_given : Dict
 none_given = Dict.given 0
 
-cache_inside_send : IsSend (CacheInside.the_row CacheJudge.the_row judge.ghosts)
-cache_inside_send = declared_send (CacheInside.the_type CacheJudge.the_row judge.ghosts)
-    (Arc-send _ (cache_send CacheJudge.the_row judge.ghosts none_given) (cache_sync CacheJudge.the_row judge.ghosts none_given), (cache_seat_send CacheJudge.the_row, tt))
+option_sync : (R : RattleType) → IsSync R → IsSync (Option.the_row R)
+option_sync R s = variants_sync (option_record R) (tt, ((as_row_sync (row_field R) s, tt), tt))
 
-cache_use_send : IsSend (CacheUse.the_row CacheJudge.the_row judge.ghosts)
+cache_inside_send : IsSend (CacheInside.the_row BlockJudge.the_row judge.ghosts)
+cache_inside_send = declared_send (CacheInside.the_type BlockJudge.the_row judge.ghosts)
+    (Arc-send _ (cache_send BlockJudge.the_row judge.ghosts none_given) (cache_sync BlockJudge.the_row judge.ghosts none_given), (cache_seat_send BlockJudge.the_row, tt))
+
+cache_use_send : IsSend (CacheUse.the_row BlockJudge.the_row judge.ghosts)
 cache_use_send = search (cache_inside_send, sendable) depth 5
 
+lent_send : IsSend LentCache.the_row
+lent_send = declared_send LentCache.the_type (search (sendable, crosses) depth 20, (cache_use_send, tt))
+
+held_cache_send : IsSend HeldCache.the_row
+held_cache_send = declared_send HeldCache.the_type (search (sendable, crosses) depth 20, (cache_use_send, (search sendable, tt)))
+
+caches_send : IsSend Caches.the_row
+caches_send = declared_send Caches.the_type (Vec-send _ held_cache_send, tt)
+
+named_send : IsSend NamedCache.the_row
+named_send = declared_send NamedCache.the_type
+    (search (sendable, crosses) depth 20, (Arc-send _ (cache_send BlockJudge.the_row judge.ghosts none_given) (cache_sync BlockJudge.the_row judge.ghosts none_given), tt))
+
+named_sync : IsSync NamedCache.the_row
+named_sync = declared_sync NamedCache.the_type
+    (search (sendable, crosses) depth 20, (Arc-sync _ (cache_send BlockJudge.the_row judge.ghosts none_given) (cache_sync BlockJudge.the_row judge.ghosts none_given), tt))
+
 block_uses_send : IsSend BlockUses.the_row
-block_uses_send = declared_send BlockUses.the_type (pools_send, (option_send _ cache_use_send, tt))
+block_uses_send = declared_send BlockUses.the_type (pools_send, (option_send _ lent_send, tt))
+
+seq_inside_send : (T : RattleType) → IsSend T → IsSend (SeqInside.the_row T)
+seq_inside_send T s = declared_send (SeqInside.the_type T) (Vec-send _ s, tt)
+
+seq_inside_sync : (T : RattleType) → IsSync T → IsSync (SeqInside.the_row T)
+seq_inside_sync T s = declared_sync (SeqInside.the_type T) (Vec-sync _ s, tt)
+
+seq_send : (T : RattleType) → IsSend T → IsSend (Seq.the_row T)
+seq_send T s = search (seq_inside_send, sendable) depth 5
+
+seq_sync : (T : RattleType) → IsSync T → IsSync (Seq.the_row T)
+seq_sync T s = search (seq_inside_sync, sendable) depth 5
+
+directives_send : IsSend (Seq.the_row Directive.the_row)
+directives_send = seq_send _ directive.the_send
+
+directives_sync : IsSync (Seq.the_row Directive.the_row)
+directives_sync = seq_sync _ directive.the_sync
+
+block_chain_send : IsSend BlockChain.the_row
+block_chain_send = declared_send BlockChain.the_type
+    (seq_send _ front.the_send, (option_send _ dns64.the_send, (seq_send _ middle.the_send, (directives_send, (option_send _ cache.the_send, (seq_send _ rewrite.the_send, (seq_send _ back.the_send, (search sendable, (option_send _ named_send, tt)))))))))
+
+block_chain_sync : IsSync BlockChain.the_row
+block_chain_sync = declared_sync BlockChain.the_type
+    (seq_sync _ front.the_sync, (option_sync _ dns64.the_sync, (seq_sync _ middle.the_sync, (directives_sync, (option_sync _ cache.the_sync, (seq_sync _ rewrite.the_sync, (seq_sync _ back.the_sync, (search sendable, (option_sync _ named_sync, tt)))))))))
 
 module _ (B E : RattleType) (b : rulebook.Ghosts B.Denot) (e : extra.Ghosts E.Denot) (bs : IsSend B) (by : IsSync B) (es : IsSend E) where
   held_send : IsSend (Held.the_row B E b e)
   held_send = declared_send (Held.the_type B E b e) (search sendable, (search sendable, (Vec-send _ (search (sendable, crosses) depth 20), (Vec-send _ block_uses_send, tt))))
 
+  plans_inside_send : IsSend (PlansInside.the_row B b)
+  plans_inside_send = declared_send (PlansInside.the_type B b)
+      (search (sendable, crosses) depth 30, (search sendable, (search (sendable, crosses) depth 30, (seq_send _ block.the_send, (index.the_send, (seq_send _ block_chain_send, (seq_send _ directives_send, (search (sendable, crosses) depth 30, (search (sendable, crosses) depth 30, tt)))))))))
+
+  plans_inside_sync : IsSync (PlansInside.the_row B b)
+  plans_inside_sync = declared_sync (PlansInside.the_type B b)
+      (search (sendable, crosses) depth 30, (search sendable, (search (sendable, crosses) depth 30, (seq_sync _ block.the_sync, (index.the_sync, (seq_sync _ block_chain_sync, (seq_sync _ directives_sync, (search (sendable, crosses) depth 30, (search (sendable, crosses) depth 30, tt)))))))))
+
   plans_send : IsSend (Plans.the_row B b)
-  plans_send = plans.the_send B b
+  plans_send = search (plans_inside_send, sendable) depth 5
 
   plans_sync : IsSync (Plans.the_row B b)
-  plans_sync = plans.the_sync B b
+  plans_sync = search (plans_inside_sync, sendable) depth 5
 
   pub chain_send : IsSend (Chain.the_row B E b e)
   chain_send = declared_send (Chain.the_type B E b e) (Arc-send _ plans_send plans_sync, (Box-send _ held_send, tt))
@@ -121,7 +192,7 @@ module _ (B E : RattleType) (b : rulebook.Ghosts B.Denot) (e : extra.Ghosts E.De
       publisher_send,
       (
         search sendable,
-        (Arc-send _ plans_send plans_sync, (search (sendable, crosses) depth 20, (Vec-send _ chain_send, (search sendable, (search sendable, tt))))),
+        (Arc-send _ plans_send plans_sync, (search (sendable, crosses) depth 20, (Vec-send _ chain_send, (caches_send, (search sendable, (search sendable, tt)))))),
       ),
     ),
   )

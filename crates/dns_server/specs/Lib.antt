@@ -3,6 +3,7 @@ pub mod Messages
 pub mod States
 pub mod Stocking
 pub mod Opening
+pub mod Caches
 pub mod Holding
 pub mod Lending
 pub mod WatchRun

@@ -91,12 +91,13 @@ pub(crate) fn finish<
         watch,
         publisher,
         mut stock,
+        mut caches,
         mut home,
         starved,
         ..
     } = watcher;
     let totals = table.close(publisher, passes, &mut home);
-    take_back(&mut home, &mut stock);
+    take_back(&mut home, &mut stock, &mut caches);
     Finished {
         dones,
         watch,

@@ -7,15 +7,19 @@ ghost use Rattle.dns_data.specs.declared.limit.TheConstants as limits;
 ghost use Rattle.extra_stock.specs.{in_chains, is_named, names_weigh, seats_of_chains};
 ghost use Rattle.pin_table.specs.{AreNew};
 ghost use Rattle.plugin_api.specs.{Obey};
-ghost use Rattle.chain_build.specs.{Builds, chain_extras, chain_identity, chain_log, plans_of};
+ghost use Rattle.chain_build.specs.{ArePlans, Builds, chain_extras, chain_identity, chain_log};
+ghost use Rattle.chain_build.specs.{plans_of};
+ghost use Rattle.lent_caches.specs.Held.{caches_data};
+ghost use Rattle.dns_server.specs.Caches.{BeginsCaches, LendsFirst};
 ghost use Rattle.dns_server.specs.Opening.{place_of, sides_of, side_count};
 
 use crate::report::Done;
 use crate::roles::Role;
 use crate::sides::{Place, places_of};
-use chain_build::{BuildFault, Chain, Plans, build};
+use chain_build::{BuildFault, Chain, Generation, Naming, Plans, build, name_caches};
 use dns_data::NoMemory;
 use extra_stock::Stock;
+use lent_caches::Caches;
 use plugin_api::{Extra, Rulebook};
 use seeded_hash::Seed;
 use std::alloc::Global;
@@ -43,12 +47,14 @@ impl<S: Drop, W: Drop, B: Rulebook, E: Extra> Rooms<S, W, B, E> {
         plans: Plans<B>,
         workers: u64,
         stock: &mut Stock<E>,
+        caches: &mut Caches,
         seed: Seed,
     ) -> Result<Rooms<S, W, B, E>, BuildFault>
         requires few { side_count workers plans.ports ≤ limits.WORKERS }
         requires workers { workers ≤ limits.WORKERS }
+        requires none { caches_data caches.old ≡ [] }
         requires obey { Obey B.taken B.said E.title E.takes E.ruling stock.old.spare.items }
-        ensures plans { IfOk result (λ rooms. arc_value rooms.plans ≡ plans) }
+        ensures are { IfOk result (λ rooms. ArePlans B.taken B.said (arc_value rooms.plans)) }
         ensures places { IfOk result
             (λ rooms. map place_of rooms.places.items ≡ sides_of workers plans.ports) }
         ensures each { IfOk result
@@ -56,7 +62,9 @@ impl<S: Drop, W: Drop, B: Rulebook, E: Extra> Rooms<S, W, B, E> {
         ensures new { IfOk result
             (λ rooms. AreNew chain_identity chain_log 0 0 rooms.chains.items) }
         ensures chains { IfOk result
-            (λ rooms. All (λ chain. plans_of chain ≡ plans) rooms.chains.items) }
+            (λ rooms. All (λ chain. plans_of chain ≡ arc_value rooms.plans) rooms.chains.items) }
+        ensures lends { IfOk result (λ rooms. LendsFirst plans (arc_value rooms.plans)
+            (length rooms.chains.items) (caches_data caches.new)) }
         ensures none { IfOk result (λ rooms. (rooms.sides.items ≡ []) × (rooms.roles.items ≡ [])
             × (rooms.dones.items ≡ []) × (rooms.home.items ≡ []) × (vec_len rooms.home ≡ 0)) }
         ensures room { IfOk result (λ rooms. let count = length rooms.places.items in
@@ -75,9 +83,10 @@ impl<S: Drop, W: Drop, B: Rulebook, E: Extra> Rooms<S, W, B, E> {
         ensures judges { stock.new.judges ≡ stock.old.judges }
         ensures obey { Obey B.taken B.said E.title E.takes E.ruling stock.new.spare.items }
     {
+        let plans = name_first(alloc, plans, caches, seed)?;
         let mut rooms = Rooms::empty(alloc, plans, workers)?;
         let count = rooms.places.len() as u64;
-        rooms.chains = build(alloc, &rooms.plans, 0, count, stock, seed)?;
+        rooms.chains = build(alloc, &rooms.plans, 0, count, stock, caches)?;
         Ok(rooms)
     }
 
@@ -106,4 +115,26 @@ impl<S: Drop, W: Drop, B: Rulebook, E: Extra> Rooms<S, W, B, E> {
             home: Vec::with_capacity(alloc, 4 * count)?,
         })
     }
+}
+
+// The first plans, where each block that has a cache begins with one.
+fn name_first<B: Rulebook>(
+    alloc: Global,
+    plans: Plans<B>,
+    caches: &mut Caches,
+    seed: Seed,
+) -> Result<Plans<B>, NoMemory>
+    requires none { caches_data caches.old ≡ [] }
+    ensures are { IfOk result (ArePlans B.taken B.said) }
+    ensures begins { IfOk result (λ first. BeginsCaches plans first (caches_data caches.new)) }
+{
+    let naming = Naming {
+        alloc,
+        serial: 0,
+        before: Generation::none(),
+        seed,
+    };
+    let first = name_caches(&naming, plans, caches)?;
+    first.tell();
+    Ok(first)
 }

@@ -23,6 +23,7 @@ use crate::sides::{open_places, refused_sides};
 use crate::status::Status;
 use chain_build::{BuildFault, Plans, take_back};
 use extra_stock::Stock;
+use lent_caches::Caches;
 use outside::{Host, OpenFault, Side, Watch};
 use pin_table::PinTable;
 use plugin_api::{Extra, Rulebook};
@@ -154,7 +155,8 @@ fn run_plans<R: Threads + Wait + Sync, H: Host, B: Rulebook + Send + Sync, E: Ex
         mut stock,
         seed,
     } = begun;
-    let rooms = match Rooms::new(alloc, plans, setup.workers, &mut stock, seed) {
+    let mut caches = Caches::new(alloc);
+    let rooms = match Rooms::new(alloc, plans, setup.workers, &mut stock, &mut caches, seed) {
         Ok(rooms) => rooms,
         Err(fault) => return stopped(alloc, status_of_build(fault), Some(watch), stock),
     };
@@ -168,12 +170,12 @@ fn run_plans<R: Threads + Wait + Sync, H: Host, B: Rulebook + Send + Sync, E: Ex
         home,
     } = rooms;
     if let Err(fault) = open_places(host, &places, &mut sides) {
-        take_back(&mut chains, &mut stock);
+        take_back(&mut chains, &mut stock, &mut caches);
         return stopped(alloc, status_of_open(fault), Some(watch), stock);
     }
     let workers = chains.len() as u64;
     let Ok((table, publisher, passes)) = PinTable::new(alloc, &mut chains) else {
-        take_back(&mut chains, &mut stock);
+        take_back(&mut chains, &mut stock, &mut caches);
         return stopped(alloc, Status::NoMemory, Some(watch), stock);
     };
     watch.saw_published(0);
@@ -184,6 +186,7 @@ fn run_plans<R: Threads + Wait + Sync, H: Host, B: Rulebook + Send + Sync, E: Ex
         current: plans,
         stock,
         home,
+        caches,
         seed,
         starved: 0,
     };

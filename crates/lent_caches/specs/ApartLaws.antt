@@ -27,7 +27,7 @@ same_is a b e =
     let k : a.block ≡ b.block = eqb-true a.block b.block t.1 in
     λ i. record { serial = s i; block = k i }
 
-absent_not : (u : LentData) (hs : List HeldData) → IsAbsent u.name hs → IsHeldAs u hs → ⊥
+pub absent_not : (u : LentData) (hs : List HeldData) → IsAbsent u.name hs → IsHeldAs u hs → ⊥
 absent_not u [] absent held = held
 absent_not u (h ∷ hs) absent (inl is) = absurd (cc (absent.0, is.0))
 absent_not u (h ∷ hs) absent (inr other) = absent_not u hs absent.1 other

@@ -32,12 +32,12 @@ absent_lent name n (h ∷ hs) absent = both (same_name h.name n)
     (λ e. (subst (λ (b : Bool). same_name (cond b (lent_to h) h).name name ≡ false) (sym e) absent.0, absent_lent name n hs absent.1))
     (λ e. (subst (λ (b : Bool). same_name (cond b (lent_to h) h).name name ≡ false) (sym e) absent.0, absent_lent name n hs absent.1))
 
-name_lent : (n : CacheName) (h : HeldData) → (at_name n lent_to h).name ≡ h.name
+pub name_lent : (n : CacheName) (h : HeldData) → (at_name n lent_to h).name ≡ h.name
 name_lent n h = both (same_name h.name n)
     (λ e. ap (λ (b : Bool). (cond b (lent_to h) h).name) e)
     (λ e. ap (λ (b : Bool). (cond b (lent_to h) h).name) e)
 
-cache_lent : (n : CacheName) (h : HeldData) → (at_name n lent_to h).cache ≡ h.cache
+pub cache_lent : (n : CacheName) (h : HeldData) → (at_name n lent_to h).cache ≡ h.cache
 cache_lent n h = both (same_name h.name n)
     (λ e. ap (λ (b : Bool). (cond b (lent_to h) h).cache) e)
     (λ e. ap (λ (b : Bool). (cond b (lent_to h) h).cache) e)

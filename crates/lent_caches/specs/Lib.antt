@@ -2,6 +2,7 @@ pub mod Names
 pub mod Judging
 pub mod Uses
 pub mod Held
+pub mod Lent
 pub mod Named
 pub mod Made
 pub mod Going
@@ -11,5 +12,10 @@ pub mod ListLaws
 pub mod ApartLaws
 pub mod CountLaws
 pub mod LendingLaws
+pub mod NamedLaws
+pub mod TimesLaws
+pub mod PlanLaws
 pub mod RoomLaws
 pub mod LedgerLaws
+pub mod Serials
+pub mod KeptLaws

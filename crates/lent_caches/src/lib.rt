@@ -2,6 +2,7 @@
 #![tactic(auto)]
 
 mod caches;
+mod calls;
 mod held;
 mod judge;
 mod name;

@@ -1,5 +1,8 @@
 -- Of which block a query goes through the chain, and what a chain without a step decides.
-use Rattle.std.proofs.Common.{◌≡◌, ◌<◌, ◌≤◌, ℕ, ◌+◌, true, false, nat_eq, nat_lt, Err, List, [], ◌∷◌, ◌++◌, map, length, Option, Some, None, option_map, slice_get, refl, sym, ap, ◌∙◌, append_assoc, arith}
+use Rattle.std.proofs.Common.{◌≡◌, ◌<◌, ◌≤◌, ℕ, ◌+◌, true, false, nat_eq, nat_lt, Err, List, [], ◌∷◌, ◌++◌, map, length, Option, Some, None, option_map, slice_get, refl, sym, ap, ◌∙◌, append_assoc, arith, Bor}
+use Rattle.std.specs.Prelude.{IfSome, MatchOption, get_or}
+use Rattle.std.specs.List.{HoldsAt}
+use Rattle.std.proofs.lemmas.Option.{slice_get_past, slice_get_read}
 use Rattle.std.proofs.lemmas.Bool.{lt-ltb}
 use Rattle.std.proofs.lemmas.List.{length-append, length-map}
 use Rattle.std.specs.Prelude.{Bool, ◌&&◌, is_some, option_and_then}
@@ -182,3 +185,9 @@ some-dns64 (Some d) some = omega arith
 pub no-dns64 : (o : Option Directive) → is_some o ≡ false → length (dns64_steps o) ≡ 0
 no-dns64 None none = refl
 no-dns64 (Some d) none = absurd cc
+
+-- an element of a slice, as a value
+pub found_at : {X : Type 0} (o : Option (Bor X)) (xs : List X) (n : ℕ) → IfSome o (λ x. x.now ≡ get_or xs n x.now) → MatchOption o (length xs ≤ n) (λ x. (n < length xs) × HoldsAt (λ y. x.now ≡ y) xs n)
+    → option_map (λ x. x.now) o ≡ slice_get xs n
+found_at None xs n some either = sym (slice_get_past xs n either)
+found_at (Some x) xs n some either = sym (slice_get_read xs (length xs) n x.now refl either.0 some)

@@ -1,3 +1,4 @@
+pub mod Caching
 pub mod Counting
 pub mod Finding
 pub mod Going

@@ -9,10 +9,16 @@ use Rattle.chain_build.specs.declared.chain.Chain.{Chain}
 use Rattle.plugin_api.specs.declared.extra.Extra as extra
 use Rattle.plugin_api.specs.declared.rulebook.Rulebook as rulebook
 use Rattle.chain_build.specs.{ArePlans, chain_identity, chain_log}
+use Rattle.chain_build.specs.Naming.{PlansServed}
+use Rattle.chain_build.specs.Workers.{chain_lents}
+use Rattle.all_home.specs.AllHome.{AreAccounted}
+use Rattle.lent_caches.specs.Held.{caches_data}
 use Rattle.corefile_bundle.specs.{IsGathered}
 use Rattle.plugin_api.specs.{Obey}
 use Rattle.reload_watch.specs.declared.watcher.Watcher.{Watcher}
 use Rattle.reload_watch.specs.Filled.{EndsWith}
+use Rattle.reload_watch.specs.Homes.{KeepsCaches}
+use Rattle.reload_watch.specs.Named.{AreNamed}
 use Rattle.reload_watch.specs.Placing.{IsPlaced}
 use Rattle.reload_watch.specs.Stocked.{HasPlaces}
 
@@ -48,3 +54,9 @@ module _ {B E : Type 0} {b : rulebook.Ghosts B} {e : extra.Ghosts E} where
     pub places : HasPlaces (vec_len watcher.stock.spare) (vec_capacity watcher.stock.spare)
         (plan_of watcher.publisher)
     pub home : IsCleared watcher
+    -- the caches that are held, by what was published and what came home, and those that serve
+    pub caches : KeepsCaches chain_identity chain_lents (plan_of watcher.publisher)
+        (caches_data watcher.caches)
+    pub served : PlansServed (arc_value watcher.current) (caches_data watcher.caches)
+    pub named : AreNamed (plan_of watcher.publisher).past.filled
+    pub accounted : AreAccounted (plan_of watcher.publisher)

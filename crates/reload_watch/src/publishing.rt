@@ -1,17 +1,25 @@
 //! The publication of what was read, and the notes of looks.
 ghost use Rattle.std.specs.Prelude.{◌≡◌, ◌≤◌, ◌<◌, ◌+◌, ◌*◌, ℕ, List, [], ◌∷◌, length};
+ghost use Rattle.std.specs.Prelude.{IfOk, OnErr};
 ghost use Rattle.std.specs.Vec.{vec_len, vec_capacity};
 ghost use Rattle.corefile_bundle.specs.{IsGathered};
 ghost use Rattle.outside.specs.declared.mark.WatchMark.TheVariants as mark;
 ghost use Rattle.outside.specs.States.{WatchStays};
 ghost use Rattle.outside.specs.WatchMarks.{AddsWatch};
+ghost use Rattle.all_home.specs.AllHome.{AreAccounted};
 ghost use Rattle.chain_build.specs.{ArePlans, chain_extras, chain_identity, chain_log, ground_of};
+ghost use Rattle.chain_build.specs.Naming.{AbsentFrom, AddsCaches, Precedes};
+ghost use Rattle.chain_build.specs.Workers.{chain_lents};
+ghost use Rattle.lent_caches.specs.Held.{AreApart, caches_data};
+ghost use Rattle.lent_caches.specs.Ledger.{Each};
 ghost use Rattle.extra_stock.specs.{in_chains, names_weigh, seats_of_chains};
 ghost use Rattle.plugin_api.specs.{Obey};
 ghost use Rattle.pin_table.specs.{AreFilled, AreNew, IsFound, IsFreeSlot, IsStanding};
 ghost use Rattle.pin_table.specs.{IsPublisherOf, SamePublisher, count_of, plan_of};
 ghost use Rattle.std.specs.Arc.{arc_value};
+ghost use Rattle.reload_watch.specs.Homes.{IsOut, KeepsCaches};
 ghost use Rattle.reload_watch.specs.Keeping.{IsKeeping};
+ghost use Rattle.reload_watch.specs.Naming.{NamesNext};
 ghost use Rattle.reload_watch.specs.Look.{Frees, LeavesSlot, NotesLine, NotesLook};
 ghost use Rattle.reload_watch.specs.Look.{PublishesNext, Searches};
 ghost use Rattle.reload_watch.specs.Placing.{IsPlaced};
@@ -22,8 +30,10 @@ ghost use Rattle.reload_watch.specs.Stocked.{HasPlaces, KeepsStock, out_weighs, 
 ghost use Rattle.reload_watch.specs.Sweeps.{KeepsSweeps};
 
 use crate::watcher::Watcher;
-use chain_build::{BuildFault, Chain, Plans, build, take_back};
+use chain_build::{BuildFault, Chain, Naming, Plans, build, name_caches, take_back};
+use dns_data::NoMemory;
 use extra_stock::Stock;
+use lent_caches::Caches;
 use outside::Watch;
 use pin_core::MOST_SERIALS;
 use pin_table::{FreeSlot, PinTable, Published, Publisher};
@@ -79,6 +89,7 @@ pub(crate) fn sweep<W: Watch, B: Rulebook, E: Extra>(
         &mut watcher.publisher,
         &mut watcher.home,
         &mut watcher.stock,
+        &mut watcher.caches,
     );
 }
 
@@ -117,6 +128,7 @@ pub(crate) fn publish_next<W: Watch, B: Rulebook, E: Extra>(
         &mut watcher.publisher,
         &mut watcher.home,
         &mut watcher.stock,
+        &mut watcher.caches,
     );
     match found {
         FreeSlot::Free(slot) => publish_in(alloc, watcher, table, plans, slot),
@@ -162,11 +174,17 @@ fn publish_in<W: Watch, B: Rulebook, E: Extra>(
     let Ok(line) = format!(in alloc; "{looking}") else {
         return Looking::NoMemory;
     };
-    let Ok(next) = Arc::new(alloc, plans) else {
+    let naming = Naming {
+        alloc,
+        serial,
+        before: watcher.current.generation(),
+        seed: watcher.seed,
+    };
+    let Ok(next) = name_next(&naming, plans, &mut watcher.caches) else {
         return Looking::NoMemory;
     };
-    let (workers, seed) = (watcher.workers, watcher.seed);
-    match build(alloc, &next, serial, workers, &mut watcher.stock, seed) {
+    let (stock, caches) = (&mut watcher.stock, &mut watcher.caches);
+    match build(alloc, &next, serial, watcher.workers, stock, caches) {
         Ok(chains) => {
             publish(table, &mut watcher.publisher, slot, chains);
             watcher.current = next;
@@ -175,11 +193,61 @@ fn publish_in<W: Watch, B: Rulebook, E: Extra>(
             looking
         }
         Err(BuildFault::StockShort { name, asked, had }) => {
+            watcher.caches.let_go();
             let short = Looking::StockShort { name, asked, had };
             note_look(alloc, &mut watcher.watch, short)
         }
-        Err(BuildFault::NoMemory) => Looking::NoMemory,
+        Err(BuildFault::NoMemory) => {
+            watcher.caches.let_go();
+            Looking::NoMemory
+        }
     }
+}
+
+// The plans by which the next generation serves: each block with a cache goes on with that of one
+// of the generation before which reads the same, or begins with a new one. Where memory is wanting,
+// no cache is held besides those that were.
+fn name_next<B: Rulebook>(
+    naming: &Naming<'_>,
+    plans: Plans<B>,
+    caches: &mut Caches,
+) -> Result<Arc<Plans<B>>, NoMemory>
+    requires last { Precedes naming.now.before (caches_data caches.old) }
+    requires absent { AbsentFrom naming.now.serial 0 (caches_data caches.old) }
+    requires apart { AreApart (caches_data caches.old) }
+    requires out { Each (IsOut 0) (caches_data caches.old) }
+    ensures are { IfOk result (λ next. ArePlans B.taken B.said (arc_value next)) }
+    ensures names { IfOk result (λ next. NamesNext naming.now plans (arc_value next)
+        (caches_data caches.old) (caches_data caches.new)) }
+    ensures fails { OnErr result (caches_data caches.new ≡ caches_data caches.old) }
+{
+    match name_and_share(naming, plans, caches) {
+        Ok(next) => Ok(next),
+        Err(NoMemory) => {
+            caches.let_go();
+            Err(NoMemory)
+        }
+    }
+}
+
+// The same, where new caches may be left of which no use is out.
+fn name_and_share<B: Rulebook>(
+    naming: &Naming<'_>,
+    plans: Plans<B>,
+    caches: &mut Caches,
+) -> Result<Arc<Plans<B>>, NoMemory>
+    requires last { Precedes naming.now.before (caches_data caches.old) }
+    requires absent { AbsentFrom naming.now.serial 0 (caches_data caches.old) }
+    requires apart { AreApart (caches_data caches.old) }
+    ensures are { IfOk result (λ next. ArePlans B.taken B.said (arc_value next)) }
+    ensures names { IfOk result (λ next. NamesNext naming.now plans (arc_value next)
+        (caches_data caches.old) (caches_data caches.new)) }
+    ensures adds { AddsCaches naming.now.serial 0 (caches_data caches.old)
+        (caches_data caches.new) }
+{
+    let plans = name_caches(naming, plans, caches)?;
+    plans.tell();
+    Ok(Arc::new(naming.alloc, plans)?)
 }
 
 /// Shows a watch that the generation of this serial was published: it is the publisher's last one.
@@ -196,12 +264,13 @@ pub fn show_published<W: Watch, B: Rulebook, E: Extra>(
 }
 
 // Sweeps the slots of replaced generations, brings the extras of the chains that came home into the
-// stock, and gives a free slot.
+// stock and their uses to the caches, and gives a free slot.
 fn free_slot<B: Rulebook, E: Extra>(
     table: &PinTable<Chain<B, E>>,
     publisher: &mut Publisher<Chain<B, E>>,
     home: &mut Vec<Chain<B, E>>,
     stock: &mut Stock<E>,
+    caches: &mut Caches,
 ) -> FreeSlot
     requires own { IsPublisherOf table.now publisher.old }
     requires none { (home.old.items ≡ []) × (vec_len home.old ≡ 0) }
@@ -210,6 +279,9 @@ fn free_slot<B: Rulebook, E: Extra>(
     requires stands { IsStanding chain_identity (plan_of publisher.old) }
     requires places { HasPlaces (vec_len stock.old.spare) (vec_capacity stock.old.spare)
         (plan_of publisher.old) }
+    requires caches { KeepsCaches chain_identity chain_lents (plan_of publisher.old)
+        (caches_data caches.old) }
+    requires accounted { AreAccounted (plan_of publisher.old) }
     requires obey { Obey B.taken B.said E.title E.takes E.ruling stock.old.spare.items }
     ensures own { SamePublisher publisher.old publisher.new }
     ensures keeps { KeepsPast (plan_of publisher.old) (plan_of publisher.new) }
@@ -224,12 +296,15 @@ fn free_slot<B: Rulebook, E: Extra>(
     ensures stands { IsStanding chain_identity (plan_of publisher.new) }
     ensures places { HasPlaces (vec_len stock.new.spare) (vec_capacity stock.new.spare)
         (plan_of publisher.new) }
+    ensures caches { KeepsCaches chain_identity chain_lents (plan_of publisher.new)
+        (caches_data caches.new) }
+    ensures accounted { AreAccounted (plan_of publisher.new) }
     ensures weighs { (w : List ℕ → ℕ) → names_weigh E.title w stock.new.spare.items
         + out_weighs w (plan_of publisher.new)
         ≡ names_weigh E.title w stock.old.spare.items + out_weighs w (plan_of publisher.old) }
 {
     let found = table.free_slot(publisher, home);
-    take_back(home, stock);
+    take_back(home, stock, caches);
     found
 }
 
@@ -249,12 +324,14 @@ fn publish<B: Rulebook, E: Extra>(
     requires filled { AreFilled chain_identity chain_log 0 (plan_of publisher.old).past.filled }
     requires placed { IsPlaced (plan_of publisher.old) }
     requires stands { IsStanding chain_identity (plan_of publisher.old) }
+    requires accounted { AreAccounted (plan_of publisher.old) }
     ensures own { SamePublisher publisher.old publisher.new }
     ensures filled { AreFilled chain_identity chain_log 0 (plan_of publisher.new).past.filled }
     ensures placed { IsPlaced (plan_of publisher.new) }
     ensures published { AddsGeneration (plan_of publisher.old) chains.items
         (plan_of publisher.new) }
     ensures stands { IsStanding chain_identity (plan_of publisher.new) }
+    ensures accounted { AreAccounted (plan_of publisher.new) }
     ensures seats { seats_out (plan_of publisher.new)
         ≡ seats_out (plan_of publisher.old) + seats_of_chains chain_extras chains.items }
     ensures weighs { (w : List ℕ → ℕ) → out_weighs w (plan_of publisher.new)

@@ -1,5 +1,6 @@
 use chain_build::{Chain, Plans};
 use extra_stock::Stock;
+use lent_caches::Caches;
 use pin_table::Publisher;
 use plugin_api::{Extra, Rulebook};
 use seeded_hash::Seed;
@@ -19,6 +20,8 @@ pub struct Watcher<W, B: Rulebook, E: Extra> {
     pub stock: Stock<E>,
     /// Where the chains of replaced generations come home; with room for those of four.
     pub home: Vec<Chain<B, E>>,
+    /// The caches of which chains have uses.
+    pub caches: Caches,
     /// With which new caches hash.
     pub seed: Seed,
     /// How many looks met want of memory.

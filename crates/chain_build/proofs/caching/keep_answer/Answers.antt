@@ -23,7 +23,7 @@ returns-in_err-entry-clause-calls g c inner past =
     let plan = c.args.asked.now.plan.now in
     let moment = c.args.missed.moment in
     calls_err (key_of q) (kept_with plan q moment inner (decision.Reply c.args.room.now.slot)) (decided-err c.from_residual-in_err-entry.result c.args.room.now.slot c.from_residual-in_err-entry.ensures.0)
-    (subst (λ (a : AnswerData). CallsBy (key_of q) (put_or plan moment a (entry_for plan q moment a inner)) (Err c.in_err-entry.field-0.0) (state_at (g.S.Side.state c.args.side.now) (use_logs c.args.cache.now)) (state_at (g.S.Side.state c.keep.new.side) (use_logs c.keep.new.self))) c.in_ok-to_answer.ensures
+    (subst (λ (a : AnswerData). CallsBy (key_of q) (put_or plan moment a (entry_for plan q moment a inner)) (Err c.in_err-entry.field-0.0) (state_at (g.S.Side.state c.args.side.now) (use_logs c.args.cache.now.of)) (state_at (g.S.Side.state c.keep.new.side) (use_logs c.keep.new.self.of))) c.in_ok-to_answer.ensures
     (c.in_err-entry.ensures.calls inner (subst (λ (k : Kept). ArePast k inner) (sym c.replace.ensures.value) past)))
 
 pub returns-in-Some-clause-calls : goal.returns-in-Some-clause-calls
@@ -32,10 +32,10 @@ returns-in-Some-clause-calls g c inner past =
     let plan = c.args.asked.now.plan.now in
     let moment = c.args.missed.moment in
     let calls = c.in_ok-entry.ensures.calls inner (subst (λ (k : Kept). ArePast k inner) (sym c.replace.ensures.value) past) in
-    let put = subst (λ (o : Option Held). CallsBy (key_of q) (put_or plan moment c.in_ok-to_answer.field-0 (entry_for plan q moment c.in_ok-to_answer.field-0 inner)) (kept_result plan moment c.in_ok-to_answer.field-0 (Ok o)) (state_at (g.S.Side.state c.args.side.now) (use_logs c.args.cache.now)) (state_at (g.S.Side.state c.keep.new.side) (use_logs c.keep.new.self))) c.in-Some.is calls in
+    let put = subst (λ (o : Option Held). CallsBy (key_of q) (put_or plan moment c.in_ok-to_answer.field-0 (entry_for plan q moment c.in_ok-to_answer.field-0 inner)) (kept_result plan moment c.in_ok-to_answer.field-0 (Ok o)) (state_at (g.S.Side.state c.args.side.now) (use_logs c.args.cache.now.of)) (state_at (g.S.Side.state c.keep.new.side) (use_logs c.keep.new.self.of))) c.in-Some.is calls in
     calls_given (key_of q) (kept_with plan q moment inner (decision.Reply c.args.room.now.slot)) c.give.result c.give.new.slot c.give.ensures
-    (subst (λ (e : EntryData). CallsBy (key_of q) (kept_with plan q moment inner (decision.Reply c.args.room.now.slot)) (Ok (decision.Reply (aged plan e moment))) (state_at (g.S.Side.state c.args.side.now) (use_logs c.args.cache.now)) (state_at (g.S.Side.state c.keep.new.side) (use_logs c.keep.new.self))) (sym c.deref.ensures)
-    (subst (λ (a : AnswerData). CallsBy (key_of q) (put_or plan moment a (entry_for plan q moment a inner)) (kept_result plan moment a (Ok (Some c.in-Some.entry))) (state_at (g.S.Side.state c.args.side.now) (use_logs c.args.cache.now)) (state_at (g.S.Side.state c.keep.new.side) (use_logs c.keep.new.self))) c.in_ok-to_answer.ensures put))
+    (subst (λ (e : EntryData). CallsBy (key_of q) (kept_with plan q moment inner (decision.Reply c.args.room.now.slot)) (Ok (decision.Reply (aged plan e moment))) (state_at (g.S.Side.state c.args.side.now) (use_logs c.args.cache.now.of)) (state_at (g.S.Side.state c.keep.new.side) (use_logs c.keep.new.self.of))) (sym c.deref.ensures)
+    (subst (λ (a : AnswerData). CallsBy (key_of q) (put_or plan moment a (entry_for plan q moment a inner)) (kept_result plan moment a (Ok (Some c.in-Some.entry))) (state_at (g.S.Side.state c.args.side.now) (use_logs c.args.cache.now.of)) (state_at (g.S.Side.state c.keep.new.side) (use_logs c.keep.new.self.of))) c.in_ok-to_answer.ensures put))
 
 pub returns-in-None-clause-calls : goal.returns-in-None-clause-calls
 returns-in-None-clause-calls g c inner past =
@@ -43,5 +43,5 @@ returns-in-None-clause-calls g c inner past =
     let plan = c.args.asked.now.plan.now in
     let moment = c.args.missed.moment in
     let calls = c.in_ok-entry.ensures.calls inner (subst (λ (k : Kept). ArePast k inner) (sym c.replace.ensures.value) past) in
-    let put = subst (λ (o : Option Held). CallsBy (key_of q) (put_or plan moment c.in_ok-to_answer.field-0 (entry_for plan q moment c.in_ok-to_answer.field-0 inner)) (kept_result plan moment c.in_ok-to_answer.field-0 (Ok o)) (state_at (g.S.Side.state c.args.side.now) (use_logs c.args.cache.now)) (state_at (g.S.Side.state c.keep.new.side) (use_logs c.keep.new.self))) c.in-None.is calls in
-    subst (λ (a : AnswerData). CallsBy (key_of q) (put_or plan moment a (entry_for plan q moment a inner)) (kept_result plan moment a (Ok None)) (state_at (g.S.Side.state c.args.side.now) (use_logs c.args.cache.now)) (state_at (g.S.Side.state c.keep.new.side) (use_logs c.keep.new.self))) c.in_ok-to_answer.ensures put
+    let put = subst (λ (o : Option Held). CallsBy (key_of q) (put_or plan moment c.in_ok-to_answer.field-0 (entry_for plan q moment c.in_ok-to_answer.field-0 inner)) (kept_result plan moment c.in_ok-to_answer.field-0 (Ok o)) (state_at (g.S.Side.state c.args.side.now) (use_logs c.args.cache.now.of)) (state_at (g.S.Side.state c.keep.new.side) (use_logs c.keep.new.self.of))) c.in-None.is calls in
+    subst (λ (a : AnswerData). CallsBy (key_of q) (put_or plan moment a (entry_for plan q moment a inner)) (kept_result plan moment a (Ok None)) (state_at (g.S.Side.state c.args.side.now) (use_logs c.args.cache.now.of)) (state_at (g.S.Side.state c.keep.new.side) (use_logs c.keep.new.self.of))) c.in_ok-to_answer.ensures put

@@ -1,6 +1,6 @@
 use Rattle.std.proofs.Common.{◌≡◌, Some, None, Ok, Option, refl, subst, sym}
 use Rattle.std.specs.Arc.{arc_value}
-use Rattle.cache_plugin.specs.{CallsBy, UseData, looked, state_at, use_logs}
+use Rattle.cache_plugin.specs.{CallsBy, looked, state_at, use_logs}
 use Rattle.cache_plugin.specs.declared.cache_use.Found.{Found}
 use Rattle.cache_rules.specs.{aged, key_of}
 use Rattle.outside.specs.{EntryData}
@@ -15,7 +15,7 @@ use Rattle.chain_build.specs.LoggedWalks.{TakesBy, taking}
 use Rattle.chain_build.specs.Plans.{behind_of}
 use Rattle.std.specs.Prelude.{IfOk}
 use Rattle.chain_build.specs.Walking.{decided, decision_of}
-use Rattle.chain_build.specs.declared.judge.CacheJudge.{CacheJudge}
+use Rattle.lent_caches.specs.declared.uses.LentCache.{LentCache}
 use Rattle.chain_build.proofs.CachedWalks.{cached_look, cached_numbers, called_fails, called_then, found_at, found_nothing, tb_given}
 use Rattle.chain_build.proofs.LoggedWalks.{tb_as}
 use Rattle.chain_build.proofs.Walks.{decided-err}
@@ -31,7 +31,7 @@ returns-in_err-entry-clause-takes g c =
     let takes = called_fails (key_of q) number (take_look (key_of q)) (found_at rest plan q) c.args.uses.now.pools c.in-Some.cache c.find.new.self (decided-err c.from_residual.result c.args.room.now.plugins.slot c.from_residual.ensures.0) c.in_err-entry.ensures.calls
     (found_nothing rest plan q (mean_nothing (behind_of chain) q)) in
     tb_as _ _ (cached_numbers chain.cache plan (behind_of chain) q c.requires.plan c.requires.covers) (cached_look rest plan q)
-    (subst (λ (o : Option (UseData CacheJudge)). TakesBy (record { shard = Some (shard_of (key_of q)); pool = number }) (λ marks. onward (take_look (key_of q) marks) (found_at rest plan q)) (decided c.from_residual.result c.args.room.now.plugins.slot) (taking (g.S.Side.state c.args.side.now) (record { pools = c.args.uses.now.pools; cache = o })) (taking (g.S.Side.state c.find.new.side) (record { pools = c.args.uses.now.pools; cache = Some c.find.new.self }))) (sym c.in-Some.is) takes)
+    (subst (λ (o : Option LentCache). TakesBy (record { shard = Some (shard_of (key_of q)); pool = number }) (λ marks. onward (take_look (key_of q) marks) (found_at rest plan q)) (decided c.from_residual.result c.args.room.now.plugins.slot) (taking (g.S.Side.state c.args.side.now) (record { pools = c.args.uses.now.pools; cache = o })) (taking (g.S.Side.state c.find.new.side) (record { pools = c.args.uses.now.pools; cache = Some c.find.new.self }))) (sym c.in-Some.is) takes)
 
 pub returns-in-Hit-clause-takes : goal.returns-in-Hit-clause-takes
 returns-in-Hit-clause-takes g c =
@@ -41,12 +41,12 @@ returns-in-Hit-clause-takes g c =
     let rest = mean (behind_of chain) in
     let number = pool_in (behind_of chain) q in
     let entry = arc_value c.in-Hit.entry in
-    let calls = subst (λ (f : Found). CallsBy (key_of q) (take_look (key_of q)) (Ok (looked f)) (state_at (g.S.Side.state c.args.side.now) (use_logs c.in-Some.cache)) (state_at (g.S.Side.state c.find.new.side) (use_logs c.find.new.self))) c.in-Hit.is c.in_ok-entry.ensures.calls in
+    let calls = subst (λ (f : Found). CallsBy (key_of q) (take_look (key_of q)) (Ok (looked f)) (state_at (g.S.Side.state c.args.side.now) (use_logs c.in-Some.cache.of)) (state_at (g.S.Side.state c.find.new.side) (use_logs c.find.new.self.of))) c.in-Hit.is c.in_ok-entry.ensures.calls in
     let given = subst (λ (e : EntryData). IfOk c.give.result (λ ended. decision_of ended c.give.new.slot ≡ decision.Reply (aged plan e c.in-Hit.moment))) c.deref.ensures c.give.ensures in
     let takes = called_then (key_of q) number (take_look (key_of q)) (found_at rest plan q) c.args.uses.now.pools c.in-Some.cache c.find.new.self calls
     (tb_given (record { shard = Some (shard_of (key_of q)); pool = number }) (found_at rest plan q (look_of c.in-Hit.moment (Some entry))) c.give.result c.give.new.slot (λ left. refl) given) in
     tb_as _ _ (cached_numbers chain.cache plan (behind_of chain) q c.requires.plan c.requires.covers) (cached_look rest plan q)
-    (subst (λ (o : Option (UseData CacheJudge)). TakesBy (record { shard = Some (shard_of (key_of q)); pool = number }) (λ marks. onward (take_look (key_of q) marks) (found_at rest plan q)) (decided c.give.result c.give.new.slot) (taking (g.S.Side.state c.args.side.now) (record { pools = c.args.uses.now.pools; cache = o })) (taking (g.S.Side.state c.find.new.side) (record { pools = c.args.uses.now.pools; cache = Some c.find.new.self }))) (sym c.in-Some.is) takes)
+    (subst (λ (o : Option LentCache). TakesBy (record { shard = Some (shard_of (key_of q)); pool = number }) (λ marks. onward (take_look (key_of q) marks) (found_at rest plan q)) (decided c.give.result c.give.new.slot) (taking (g.S.Side.state c.args.side.now) (record { pools = c.args.uses.now.pools; cache = o })) (taking (g.S.Side.state c.find.new.side) (record { pools = c.args.uses.now.pools; cache = Some c.find.new.self }))) (sym c.in-Some.is) takes)
 
 pub returns-in-Miss-clause-takes : goal.returns-in-Miss-clause-takes
 returns-in-Miss-clause-takes g c =
@@ -56,8 +56,8 @@ returns-in-Miss-clause-takes g c =
     let rest = mean (behind_of chain) in
     let number = pool_in (behind_of chain) q in
     let numbers = cached_numbers chain.cache plan (behind_of chain) q c.requires.plan c.requires.covers in
-    let calls = subst (λ (f : Found). CallsBy (key_of q) (take_look (key_of q)) (Ok (looked f)) (state_at (g.S.Side.state c.args.side.now) (use_logs c.in-Some.cache)) (state_at (g.S.Side.state c.find.new.side) (use_logs c.find.new.self))) c.in-Miss.is c.in_ok-entry.ensures.calls in
+    let calls = subst (λ (f : Found). CallsBy (key_of q) (take_look (key_of q)) (Ok (looked f)) (state_at (g.S.Side.state c.args.side.now) (use_logs c.in-Some.cache.of)) (state_at (g.S.Side.state c.find.new.side) (use_logs c.find.new.self.of))) c.in-Miss.is c.in_ok-entry.ensures.calls in
     let behind = tb_as (found rest plan q c.in-Miss.missed.moment None) (found rest plan q c.in-Miss.missed.moment None) (sym numbers) (λ marks. refl) c.run_missed.ensures.takes in
     let takes = called_then (key_of q) number (take_look (key_of q)) (found_at rest plan q) c.args.uses.now.pools c.in-Some.cache c.find.new.self calls behind in
     tb_as _ _ numbers (cached_look rest plan q)
-    (subst (λ (o : Option (UseData CacheJudge)). TakesBy (record { shard = Some (shard_of (key_of q)); pool = number }) (λ marks. onward (take_look (key_of q) marks) (found_at rest plan q)) (decided c.run_missed.result c.run_missed.new.room.plugins.slot) (taking (g.S.Side.state c.args.side.now) (record { pools = c.args.uses.now.pools; cache = o })) (taking (g.S.Side.state c.run_missed.new.side) c.run_missed.new.uses)) (sym c.in-Some.is) takes)
+    (subst (λ (o : Option LentCache). TakesBy (record { shard = Some (shard_of (key_of q)); pool = number }) (λ marks. onward (take_look (key_of q) marks) (found_at rest plan q)) (decided c.run_missed.result c.run_missed.new.room.plugins.slot) (taking (g.S.Side.state c.args.side.now) (record { pools = c.args.uses.now.pools; cache = o })) (taking (g.S.Side.state c.run_missed.new.side) c.run_missed.new.uses)) (sym c.in-Some.is) takes)

@@ -3,7 +3,7 @@ use Rattle.std.specs.List.{All}
 use Rattle.chain_meaning.specs.Accepting.{IsAccepted}
 use Rattle.chain_meaning.specs.Grounds.{ground_at, terms_on}
 use Rattle.chain_build.specs.Places.{AreTaken}
-use Rattle.chain_build.specs.Plans.{extras_in}
+use Rattle.chain_build.specs.Plans.{AreKeyed, extras_in}
 use Rattle.chain_build.proofs.Making.{all_extras, made_err}
 use Rattle.chain_build.proofs.checking.check_over.Goals as goal
 
@@ -23,9 +23,11 @@ invariant_of-result g c =
     let taken = g.B.Rulebook.taken in
     let said = g.B.Rulebook.said in
     let read = c.in_ok-read.ensures.reads said in
-    let extras : c.in_ok-extras.extras ≡ map extras_in c.in_ok-read.read.chains = c.in_ok-extras.ensures.extras ∙ ap (map extras_in) c.as_slice.ensures in
+    let extras : c.in_ok-extras.extras ≡ map extras_in c.in_ok-read.read.chains = c.in_ok-extras.ensures.extras ∙ ap (map extras_in) c.as_slice-2.ensures in
     record {
+      readable = c.requires.readable;
       accepted = subst (λ (names : List (List ℕ)). IsAccepted (terms_on taken said (ground_at c.args.default_port names)) c.args.bundle c.in_ok-read.read.blocks) (sym c.in_ok-names.ensures) read.accepted;
+      keyed = subst AreKeyed c.as_slice.ensures (c.are_keyed.ensures (search rules));
       index = search rules;
       chains = read.chains.steps said;
       behind = read.chains.behind;

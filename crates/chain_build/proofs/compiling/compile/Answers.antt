@@ -5,4 +5,5 @@ pub invariant_of-result : goal.invariant_of-result
 invariant_of-result c = record {
   one = compiled_one c.in_ok-back.back c.args.places c.in_ok-back.ensures;
   lone = compiled_lone c.in_ok-back.back c.args.places c.in_ok-back.ensures;
+  judged = λ n is. absurd cc;
 }

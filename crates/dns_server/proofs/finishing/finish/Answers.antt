@@ -11,6 +11,9 @@ use Rattle.dns_server.proofs.Stocked.{names_map, of_extras}
 use Rattle.extra_stock.specs.{asked_by, is_named, names_weigh, seats_in}
 use Rattle.reload_watch.specs.{all_weigh, chain_seats, chain_weighs}
 use Rattle.dns_server.specs.Stocking.{count_name, stock_data}
+use Rattle.lent_caches.specs.Held.{caches_data}
+use Rattle.pin_table.specs.{plan_of}
+use Rattle.dns_server.proofs.Caching.{closed_held}
 use Rattle.dns_server.proofs.Leaving.{finishes, idle_all, part_count, parted, zip_count}
 use Rattle.dns_server.proofs.Joining.{all_worked, leave}
 use Rattle.dns_server.proofs.Starting.{all_ready, start_count}
@@ -226,3 +229,31 @@ returns-clause-extras g c w =
     let one = names_map title w c.take_back.new.stock.judges.items in
     let two = names_map title w c.take_back.new.stock.spare.items in
     omega (arith, moved, none, more, judges, all, one, two)
+
+-- the uses of what came home are of caches that are held
+pub take_back-requires-clause-held : goal.take_back-requires-clause-held
+take_back-requires-clause-held g c =
+    let o = c.args.opened in
+    let task : Task _ = record { table = o.table; source = source_data c.args.setup.source; most = c.args.setup.most } in
+    let side = g.S.Side.state in
+    let watch = g.W.PatternMaker.state in
+    let starts = c.push_workers.new.roles.items in
+    let others = c.pop.new.self.items in
+    let last = c.pop.ensures.items ∙ ap (λ (x : _). others ++ option_to_list x) (c.in-Some-Watch.is ∙ ap Some c.in-Some-Watch.field-0-is) in
+    let both = parted (Becomes side watch task) starts others c.push_reserved.new.self.items c.act_all.new.roles.items (Watch o.watcher) (Watch c.in-Some-Watch.watcher) c.push_reserved.ensures.items last c.act_all.ensures in
+    let keeps = both.1.keeps in
+    let end = c.close-totals.ensures in
+    let w = c.in-Some-Watch.watcher in
+    closed_held (plan_of w.publisher) c.part.new.passes.items w.home.items c.close-totals.new.home.items (caches_data w.caches) keeps.home.none end.home end.traced (λ f of. end.sum f of keeps.stands) keeps.caches
+
+pub take_back-requires-clause-apart : goal.take_back-requires-clause-apart
+take_back-requires-clause-apart g c =
+    let o = c.args.opened in
+    let task : Task _ = record { table = o.table; source = source_data c.args.setup.source; most = c.args.setup.most } in
+    let side = g.S.Side.state in
+    let watch = g.W.PatternMaker.state in
+    let starts = c.push_workers.new.roles.items in
+    let others = c.pop.new.self.items in
+    let last = c.pop.ensures.items ∙ ap (λ (x : _). others ++ option_to_list x) (c.in-Some-Watch.is ∙ ap Some c.in-Some-Watch.field-0-is) in
+    let both = parted (Becomes side watch task) starts others c.push_reserved.new.self.items c.act_all.new.roles.items (Watch o.watcher) (Watch c.in-Some-Watch.watcher) c.push_reserved.ensures.items last c.act_all.ensures in
+    both.1.keeps.caches.ledger.apart

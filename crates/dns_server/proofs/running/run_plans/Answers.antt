@@ -1,8 +1,12 @@
 use Rattle.std.proofs.Common.{◌≡◌, ℕ, List, [], length, map, Err, append-nil, refl, sym, ap, subst, ◌∙◌, arith}
-use Rattle.std.specs.List.{All}
+use Rattle.std.specs.Arc.{arc_value}
 use Rattle.outside.specs.Hosts.{OpenedSide}
+use Rattle.corefile_blocks.specs.declared.bundle.Bundle.{Bundle}
 use Rattle.corefile_bundle.specs.{IsGathered}
-use Rattle.chain_build.specs.{ArePlans, Builds, PlansData, chain_extras, ground_of, plans_of}
+use Rattle.chain_build.specs.{Builds, chain_extras}
+use Rattle.chain_build.specs.Workers.{chains_lents}
+use Rattle.lent_caches.specs.Held.{caches_data}
+use Rattle.lent_caches.specs.Ledger.{AllHeld}
 use Rattle.chain_meaning.specs.{Ground, ground_at}
 use Rattle.extra_stock.specs.{in_chains, is_named, names_weigh}
 use Rattle.plugin_api.specs.{Obey}
@@ -17,6 +21,7 @@ use Rattle.dns_server.specs.Opening.{OpensAll, OpensPlaces, place_of, side_count
 use Rattle.dns_server.specs.Stocking.{count_name, data_weighs, stock_data}
 use Rattle.dns_server.specs.Report.{Finishes, IsEndStatus, Left, RunData}
 use Rattle.dns_server.specs.States.{run_setup, side_runs}
+use Rattle.dns_server.proofs.Caching.{first_apart, first_held}
 use Rattle.dns_server.proofs.Leaving.{watching}
 use Rattle.dns_server.proofs.Opened.{chain_count, opened_count}
 use Rattle.dns_server.proofs.Openings.{build_fails, open_fails, opened_stops, serves}
@@ -64,6 +69,26 @@ returns-in_default-new-clause-extras g c = λ w.
     ∙ same_data g.E.Extra.title c.args.begun.stock c.take_back-in_default-new.new.stock (back.judges ∙ rooms.judges)
     (λ v. let a = back.weighs v in let b = rooms.weighs v in let k = ap (λ (l : List _). in_chains chain_extras v l) kept in omega (arith, a, b, k)) w
 
+-- what was lent to the first chains can be given back
+pub take_back-requires-clause-held : goal.take_back-requires-clause-held
+take_back-requires-clause-held g c =
+    let rooms = c.in-Ok.ensures in
+    first_held c.args.plans (arc_value c.in-Ok.rooms.plans) (length c.in-Ok.rooms.chains.items) (caches_data c.new.new.caches) c.in-Ok.rooms.chains.items rooms.lends rooms.chains
+
+pub take_back-requires-clause-apart : goal.take_back-requires-clause-apart
+take_back-requires-clause-apart g c =
+    first_apart c.args.plans (arc_value c.in-Ok.rooms.plans) (length c.in-Ok.rooms.chains.items) (caches_data c.new.new.caches) c.in-Ok.ensures.lends
+
+pub take_back-requires-in_default-new-clause-held : goal.take_back-requires-in_default-new-clause-held
+take_back-requires-in_default-new-clause-held g c =
+    let rooms = c.in-Ok.ensures in
+    subst (λ (cs : List _). AllHeld (chains_lents cs) (caches_data c.new.new.caches)) (sym c.in_default-new.ensures.err)
+    (first_held c.args.plans (arc_value c.in-Ok.rooms.plans) (length c.in-Ok.rooms.chains.items) (caches_data c.new.new.caches) c.in-Ok.rooms.chains.items rooms.lends rooms.chains)
+
+pub take_back-requires-in_default-new-clause-apart : goal.take_back-requires-in_default-new-clause-apart
+take_back-requires-in_default-new-clause-apart g c =
+    first_apart c.args.plans (arc_value c.in-Ok.rooms.plans) (length c.in-Ok.rooms.chains.items) (caches_data c.new.new.caches) c.in-Ok.ensures.lends
+
 pub new-requires-2-clause-count : goal.new-requires-2-clause-count
 new-requires-2-clause-count g c =
     chain_count c.args.setup.workers (length c.in-Ok.rooms.chains.items) c.args.plans.ports c.in-Ok.rooms.places.items c.in-Ok.ensures.each c.in-Ok.ensures.places c.requires.workers.0 c.requires.ports c.requires.few
@@ -100,6 +125,7 @@ finish-finished-requires-clause-opened g c = λ κs b.
       current = c.in-Ok.rooms.plans;
       stock = c.new.new.stock;
       home = c.in-Ok.rooms.home;
+      caches = c.new.new.caches;
       seed = c.args.begun.seed;
       starved = 0;
     } in
@@ -107,7 +133,8 @@ finish-finished-requires-clause-opened g c = λ κs b.
     let room = rooms.room in
     let title = g.E.Extra.title in
     let judged : c.new.new.stock.judges.items ≡ c.args.begun.stock.judges.items = λ k. (rooms.judges k).items in
-    let names = ap (λ (p : PlansData). p.names) rooms.plans ∙ (ap (λ (x : Ground). x.names) c.requires.basis ∙ (λ k. map title (sym judged k))) in
+    let alike = rooms.lends.begins.names.same in
+    let names = alike.names ∙ (ap (λ (x : Ground). x.names) c.requires.basis ∙ (λ k. map title (sym judged k))) in
     let judges = subst (λ (l : List g.row.E.Denot). Obey g.B.Rulebook.taken g.B.Rulebook.said title g.E.Extra.takes g.E.Extra.ruling l) (sym judged) c.requires.judges in
     let spare = rooms.obey in
     let seats = made.sum (λ x. chain_seats x) in
@@ -115,10 +142,11 @@ finish-finished-requires-clause-opened g c = λ κs b.
     let places' : HasPlaces (vec_len c.new.new.stock.spare) (vec_capacity c.new.new.stock.spare) (plan_of c.in-Ok-new.publisher) = omega (arith, seats, free) in
     record {
       watcher = watching c.in-Ok-new.table w chains made.own made.plan made.filled workers few
-          (subst (λ (p : PlansData). All (λ chain. plans_of chain ≡ p) chains) (sym rooms.plans) rooms.chains) (subst (ArePlans g.B.Rulebook.taken g.B.Rulebook.said) (sym rooms.plans) c.requires.are)
-          (subst (λ (p : PlansData). IsGathered p.bundle) (sym rooms.plans) c.requires.gathered)
-          names judges spare made.stands places' (rooms.none.3, rooms.none.4, let r = room.3 in omega (arith, r, each)) refl;
-      ground_is = ap ground_of rooms.plans ∙ (c.requires.basis ∙ (λ k. ground_at c.args.setup.port (map title (sym judged k))));
+          rooms.chains rooms.are
+          (subst IsGathered (sym alike.bundle) c.requires.gathered)
+          names judges spare made.stands places' (rooms.none.3, rooms.none.4, let r = room.3 in omega (arith, r, each)) refl
+          c.args.plans rooms.lends made.sum;
+      ground_is = (λ k. ground_at (alike.default_port k) (alike.names k)) ∙ (c.requires.basis ∙ (λ k. ground_at c.args.setup.port (map title (sym judged k))));
       passes = made.passes.1;
       each = let p = made.passes.0 in omega (arith, p, each, count);
       workers = omega (arith, workers, each, count);
@@ -144,7 +172,7 @@ returns-clause-runs g c = λ fresh is script reads.
     let left : Left = record { sides = side_runs side c.finish-finished.result.dones.items; watch = watch c.finish-finished.result.watch; published = c.finish-finished.result.published; stock = stock_data g.E.Extra.title c.finish-finished.result.stock; starved = c.finish-finished.result.starved } in
     let titles : map g.E.Extra.title c.new.new.stock.judges.items ≡ map g.E.Extra.title c.args.begun.stock.judges.items = λ k. map g.E.Extra.title (c.in-Ok.ensures.judges k).items in
     let by : Finishes setup c.args.plans.bundle sides (watch c.saw_published.new.self) left =
-    subst (λ (x : List (List ℕ) × PlansData). Finishes (run_setup c.args.setup g.B.Rulebook.taken g.B.Rulebook.said x.0) x.1.bundle sides (watch c.saw_published.new.self) left) (λ k. (titles k, c.in-Ok.ensures.plans k)) c.finish-finished.ensures.finishes in
+    subst (λ (x : List (List ℕ) × Bundle). Finishes (run_setup c.args.setup g.B.Rulebook.taken g.B.Rulebook.said x.0) x.1 sides (watch c.saw_published.new.self) left) (λ k. (titles k, c.in-Ok.ensures.lends.begins.names.same.bundle k)) c.finish-finished.ensures.finishes in
     let stands : IsEndStatus left.sides left.starved c.end_status.result = subst (λ (l : List _). IsEndStatus (side_runs side l) left.starved c.end_status.result) c.as_slice.ensures.value c.end_status.ensures in
     serves setup before after c.end_status.result fresh (watch c.args.begun.watch) (watch c.saw_published.new.self) c.args.plans all sides left is script reads c.requires.ports c.requires.few published.told (published.counts.stays.script, published.counts.stays.refusals) refl opens by stands
 

@@ -1,7 +1,9 @@
 use Rattle.std.proofs.Common.{List, [], ◌∷◌, ◌++◌, ap, sym, subst, ◌∙◌, arith}
 use Rattle.std.proofs.lemmas.List.{length_push, take_all}
 use Rattle.pin_table.specs.declared.views.Plan.{Plan}
-use Rattle.pin_table.specs.{count_of, plan_of}
+use Rattle.all_home.specs.AllHome.{AreAccounted}
+use Rattle.pin_table.specs.{count_of, plan_of, plan_slot}
+use Rattle.reload_watch.specs.AccountsLaws.{free_phase, published_accounts}
 use Rattle.reload_watch.specs.Placing.{IsPlaced}
 use Rattle.reload_watch.specs.Stocked.{chain_seats, chain_weighs}
 use Rattle.reload_watch.proofs.Placed.{placed_published}
@@ -27,7 +29,15 @@ returns-clause-published g c =
     record {
       count = ap (λ (q : Plan _). count_of q) is ∙ length_push p.past.published c.args.slot;
       filled = ap (λ (q : Plan _). q.past.filled) is ∙ ap (λ (l : List _). p.past.filled ++ l ∷ []) whole;
+      stands = λ f. c.in-Ok.ensures.sum f c.requires.stands;
       sweeps = ap (λ (q : Plan _). q.sweeps) is;
+      drains = ap (λ (q : Plan _). q.drains) is;
       workers = ap (λ (q : Plan _). q.workers) is;
       joined = ap (λ (q : Plan _). q.joined) is;
     }
+
+pub returns-clause-accounted : goal.returns-clause-accounted
+returns-clause-accounted g c =
+    let published = c.in-Ok.ensures.published in
+    let p = plan_of c.args.publisher.now in
+    subst AreAccounted (sym published.3) (published_accounts p c.args.slot published.2 c.args.chains.items c.requires.free.0 (free_phase (plan_slot p c.args.slot).phase c.requires.free.1) c.requires.accounted)

@@ -1,0 +1,12 @@
+pub mod Pools
+pub mod Shards
+pub mod Histories
+pub mod TakingOut
+pub mod Followed
+pub mod Judged
+pub mod Tails
+pub mod Walked
+pub mod Turned
+pub mod Sided
+pub mod Worked
+pub mod Unworked

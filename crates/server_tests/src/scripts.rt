@@ -1,6 +1,7 @@
 //! What the runs are given.
 ghost use Rattle.std.specs.Prelude.{IfOk};
 ghost use Rattle.std.specs.List.{All};
+ghost use Rattle.outside_mem.specs.Never.{NeverFails, WatchNeverFails};
 ghost use Rattle.outside_mem.specs.Unused.{IsUnusedSide, IsUnusedWatch};
 
 use crate::stage::Stage;
@@ -29,9 +30,11 @@ fn query(number: u32) -> [u8; 29] {
     bytes
 }
 
-// A script that gives the query so many times, from 127.0.0.1, port 4000, over UDP to port 53: first
-// with type A, then with AAAA, and so on.
-fn script(alloc: Global, queries: u32) -> Result<SideScript, NoMemory> {
+/// A script that gives the query so many times, from 127.0.0.1, port 4000, over UDP to port 53: first
+/// with type A, then with AAAA, and so on.
+pub fn script(alloc: Global, queries: u32) -> Result<SideScript, NoMemory>
+    ensures { IfOk result NeverFails }
+{
     let mut gets = Vec::new(alloc);
     for number in 0..queries {
         gets.push(Datagram {
@@ -64,11 +67,19 @@ fn sides(alloc: Global, queries: &[u32]) -> Result<Vec<MemSide>, NoMemory>
     Ok(sides)
 }
 
-// What a watch finds: these Corefiles, the first at the start and one more at each look.
-fn looks(alloc: Global, corefiles: &[&[u8]]) -> Result<WatchScript, NoMemory> {
+/// What a watch finds: these Corefiles, the first at the start and one more at each look. An empty
+/// one isn't there.
+pub fn looks(alloc: Global, corefiles: &[&[u8]]) -> Result<WatchScript, NoMemory>
+    ensures { IfOk result WatchNeverFails }
+{
     let mut looks = Vec::new(alloc);
     for corefile in corefiles {
-        looks.push(FileSet::of_file(alloc, "/Corefile", corefile)?)?;
+        let name = if corefile.len() == 0 {
+            "/none"
+        } else {
+            "/Corefile"
+        };
+        looks.push(FileSet::of_file(alloc, name, corefile)?)?;
     }
     Ok(WatchScript::of_looks(alloc, looks))
 }
@@ -100,8 +111,8 @@ pub fn host(
     })
 }
 
-// Words with spaces between them.
-fn texts(alloc: Global, words: &str) -> Result<Vec<Text>, NoMemory> {
+/// Words with spaces between them.
+pub fn texts(alloc: Global, words: &str) -> Result<Vec<Text>, NoMemory> {
     let mut texts = Vec::new(alloc);
     for word in words.split(' ') {
         texts.push(Text::from_str(alloc, word)?)?;

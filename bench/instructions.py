@@ -37,6 +37,7 @@ THREE = name(b"www", b"example", b"org")
 TEN = name(*[b"label%d" % number for number in range(8)], b"example", b"org")
 
 WHOAMI = ".:%d {\n\twhoami\n}\n"
+ERRORS = ".:%d {\n\terrors\n\twhoami\n}\n"
 SINKHOLE = ".:%d {\n\tsinkhole 192.0.2.99\n\twhoami\n}\n"
 RELOAD = ".:%d {\n\treload\n\twhoami\n}\n"
 ZONE = "example.org:%d {\n\tfile FOLDER/db\n}\n"
@@ -88,6 +89,7 @@ CASES = [
     ("whoami, 3 labels", WHOAMI, query(THREE)),
     ("whoami, 10 labels", WHOAMI, query(TEN)),
     ("whoami, 2 labels, with reload", RELOAD, query(TWO)),
+    ("errors in front of whoami, 2 labels", ERRORS, query(TWO)),
     ("zone of 1,000 names: A with NS and its address", ZONE, query(HOST)),
     ("the same by a wildcard", ZONE, query(WILD)),
     ("the same: NXDOMAIN with SOA", ZONE, query(ABSENT)),

@@ -21,8 +21,8 @@ from program import PROGRAM, SECONDS, Client, Served  # noqa: E402
 from servers import NSD, dnschain, nsd, write  # noqa: E402
 
 USAGE = "usage: dnschain serve --conf FILE [--port N] [--workers N] [--queries N], or dnschain load N\n"
-DIRECTIVES = {"acl", "any", "cancel", "debug", "errors", "file", "forward", "health", "hosts", "log", "loop", "pprof", "prometheus", "ready", "reload",
-              "rewrite", "sinkhole", "template", "whoami"}
+DIRECTIVES = {"acl", "any", "cache", "cancel", "debug", "dns64", "errors", "file", "forward", "health", "hosts", "log", "loop", "pprof", "prometheus",
+              "ready", "reload", "rewrite", "sinkhole", "template", "whoami"}
 # What a directive's words may come to, once the language is well.
 OF_DIRECTIVES = re.compile(r"corefile line (\d+): (directive: [a-z]+|zone file line \d+: [a-z]+)|too many [a-z ]+: \d+|stock of sinkhole: asked \d+, had \d+")
 CHECKZONE = shutil.which("nsd-checkzone") or "/usr/sbin/nsd-checkzone"

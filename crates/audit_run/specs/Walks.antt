@@ -92,7 +92,7 @@ module _ (serves : Meanings) (most : ℕ) (end : WorkEnd) where
     pub number : length marks ≡ at
     pub never : MayEnd w marks → ⊥
 
-  -- no run of a worker has these marks: this is the first that tells it
+  -- no run of a worker has these marks, as those up to this one tell, or all of them
   abbrev pub FailsAt : Walk → List Mark → ℕ → Type 0
   FailsAt w marks at = IsBad w marks at ⊎ EndsEarly w marks at
 

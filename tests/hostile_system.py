@@ -1,5 +1,5 @@
-"""A system that refuses: descriptors that run out at each call, full disks and closed pipes, a clock that is set back, files that change while they
-are read, and 10,000 connections that come and go. The server refuses with its status and line, or serves on."""
+"""A system that refuses: descriptors that run out at each call, threads that are refused as they start, full disks and closed pipes, a clock that is
+set back, files that change while they are read, and 10,000 connections that come and go. The server refuses with its status and line, or serves on."""
 import os
 import shutil
 import socket
@@ -46,6 +46,22 @@ time_t time(time_t *out) {
     clock_gettime(CLOCK_REALTIME, &now);
     if (out) *out = now.tv_sec;
     return now.tv_sec;
+}
+"""
+
+THREADS = """
+#define _GNU_SOURCE
+#include <dlfcn.h>
+#include <errno.h>
+#include <pthread.h>
+#include <stdlib.h>
+// The threads of these numbers, in the order in which they are asked for, are refused.
+static int asked;
+int pthread_create(pthread_t *thread, const pthread_attr_t *how, void *(*run)(void *), void *with) {
+    int (*real)(pthread_t *, const pthread_attr_t *, void *(*)(void *), void *) = dlsym(RTLD_NEXT, "pthread_create");
+    int number = __atomic_add_fetch(&asked, 1, __ATOMIC_SEQ_CST);
+    if (atoi(getenv("REFUSE_FROM")) <= number && number <= atoi(getenv("REFUSE_TO"))) return EAGAIN;
+    return real(thread, how, run, with);
 }
 """
 
@@ -211,20 +227,42 @@ def closed_pipes(rows):
             process.wait(SECONDS)
 
 
-def clock_back(rows):
-    """The wall clock goes back an hour at each reading: looks, asks and connections keep their times."""
+def in_front(room, name, source):
+    """What stands in front of the C library: the environment that brings a library of this source, or None where none can be made, and it is told."""
     if shutil.which("gcc") is None:
-        print("skipped: there is no gcc for a clock that goes back")
-        return
+        print(f"skipped: there is no gcc for {name}")
+        return None
+    put(os.path.join(room, "front.c"), source)
+    library = os.path.join(room, "front.so")
+    made = subprocess.run(["gcc", "-shared", "-fPIC", "-O1", "-o", library, os.path.join(room, "front.c")], capture_output=True, timeout=60)
+    if made.returncode != 0:
+        print(f"skipped: gcc makes no library here for {name}")
+        return None
+    return {**os.environ, "LD_PRELOAD": library}
+
+
+def late_threads(rows):
+    """Threads that the system refuses behind the server's own test that they can be had: the first three are that test's, then come UDP's and TCP's."""
+    ends = (4, "out of memory\n", "threads: resource temporarily unavailable: 2 asked for\n")
     with tempfile.TemporaryDirectory() as room:
         os.chmod(room, 0o755)
-        put(os.path.join(room, "clock.c"), CLOCK)
-        library = os.path.join(room, "clock.so")
-        made = subprocess.run(["gcc", "-shared", "-fPIC", "-O1", "-o", library, os.path.join(room, "clock.c")], capture_output=True, timeout=60)
-        if made.returncode != 0:
-            print("skipped: gcc makes no library here")
+        env = in_front(room, "threads that are refused", THREADS)
+        if env is None:
             return
-        env = {**os.environ, "LD_PRELOAD": library}
+        path = corefile(room, RELOAD.replace("{port}", str(free_port())))
+        for title, numbers in [("UDP's thread is refused", (4, 4)), ("TCP's is", (5, 5)), ("all are refused", (4, 99))]:
+            refused = dict(zip(("REFUSE_FROM", "REFUSE_TO"), map(str, numbers)))
+            ran = subprocess.run([PROGRAM, "serve", "--conf", path, "--workers", "1"], env={**env, **refused}, capture_output=True, text=True, timeout=SECONDS)
+            rows.equal(f"where {title} behind the test, the run says so and ends", (ran.returncode, ran.stdout, ran.stderr), ends)
+
+
+def clock_back(rows):
+    """The wall clock goes back an hour at each reading: looks, asks and connections keep their times."""
+    with tempfile.TemporaryDirectory() as room:
+        os.chmod(room, 0o755)
+        env = in_front(room, "a clock that goes back", CLOCK)
+        if env is None:
+            return
         told = subprocess.run([sys.executable, "-c", "import time; print(time.time() > time.time() + 3000)"], env=env, capture_output=True, text=True, timeout=SECONDS)
         rows.equal("the clock that goes back does so", told.stdout, "True\n")
         silent = free_port()
@@ -383,6 +421,7 @@ def main():
     descriptors(rows)
     full_disk(rows)
     closed_pipes(rows)
+    late_threads(rows)
     clock_back(rows)
     changing_files(rows)
     connections(rows)

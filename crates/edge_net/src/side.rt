@@ -5,6 +5,7 @@ use crate::arrival::Arrival;
 use crate::clock::moment;
 use crate::crew::Crew;
 use crate::pause::longer;
+use crate::start::{Start, is_short};
 use crate::tally::{Tally, count};
 use crate::tcp::TcpEnd;
 use crate::udp::UdpEnd;
@@ -74,8 +75,9 @@ pub struct NetSide<R: Wait + Net + Clock + RandomSource + Eprint + Files + Drop>
     client: Client,
     // How long it waited behind the last receive, where that failed, in milliseconds.
     pause: u64,
-    // The sides of the run.
+    // The sides of the run, and whether all have begun.
     crew: Arc<Crew, Global>,
+    start: Start,
     asker: Asker,
     words: Words,
     tally: Tally,
@@ -96,6 +98,7 @@ impl<R: Wait + Net + Clock + RandomSource + Eprint + Files + Drop> NetSide<R> {
             client: Client::nobody(),
             pause: 0,
             crew,
+            start: Start::Waiting,
             asker: Asker::new(alloc),
             words: Words::new(),
             tally: Tally::new(),
@@ -111,10 +114,14 @@ impl<R: Wait + Net + Clock + RandomSource + Eprint + Files + Drop> Side for NetS
     ghost answered = { λ _. tt };
 
     /// Behind a failure it waits, up to 100 milliseconds behind many in a row. It ends once another
-    /// side has left and no message is there.
+    /// side has left and no message is there. Where a side of the run has not begun in time there
+    /// is no memory any more.
     fn recv(&mut self) -> Received {
-        let (spare, client) = (&mut self.spare, &mut self.client);
-        match await_message(&self.rt, &mut self.end, &self.crew, spare, client) {
+        if self.start != Start::Whole && self.start.go_on(&self.rt, self.alloc, &self.crew) {
+            return Received::NoMemory;
+        }
+        let (rt, spare, client) = (&self.rt, &mut self.spare, &mut self.client);
+        match await_message(rt, self.alloc, &mut self.end, &self.crew, spare, client) {
             Arrival::Got => {
                 let bytes = self.end.take(self.alloc, &mut self.spare);
                 if bytes.len() == 0 && self.crew.is_ending() {
@@ -212,24 +219,27 @@ impl<R: Wait + Net + Clock + RandomSource + Eprint + Files + Drop> Side for NetS
 // Waits for the next message. Nothing: another side has left. Mostly a message comes within a
 // second, and the loop is a call of its own.
 #[inline(always)]
-fn await_message<R: Net + Clock + Files + Wait>(
+fn await_message<R: Net + Clock + Files + Wait + Eprint>(
     rt: &R,
+    alloc: Global,
     end: &mut End,
     crew: &Crew,
     spare: &mut Buffer,
     client: &mut Client,
 ) -> Arrival {
     match end.recv(rt, spare, client) {
-        Arrival::Nothing => await_longer(rt, end, crew, spare, client),
+        Arrival::Nothing => await_longer(rt, alloc, end, crew, spare, client),
         arrival => arrival,
     }
 }
 
-// Waits for the next message where none has come within a second.
+// Waits for the next message where none has come within a second. No memory: a side of the run has
+// not begun in time.
 #[cold]
 #[inline(never)]
-fn await_longer<R: Net + Clock + Files + Wait>(
+fn await_longer<R: Net + Clock + Files + Wait + Eprint>(
     rt: &R,
+    alloc: Global,
     end: &mut End,
     crew: &Crew,
     spare: &mut Buffer,
@@ -238,6 +248,9 @@ fn await_longer<R: Net + Clock + Files + Wait>(
     for _ in 0..u64::MAX {
         if crew.is_ending() {
             return Arrival::Nothing;
+        }
+        if is_short(rt, alloc, crew) {
+            return Arrival::NoMemory;
         }
         match end.recv(rt, spare, client) {
             Arrival::Nothing => {}

@@ -22,3 +22,5 @@ mod outside_values;
 mod scripts;
 #[cfg(test)]
 mod sockets;
+#[cfg(test)]
+mod starting;

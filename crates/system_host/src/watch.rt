@@ -3,7 +3,7 @@ ghost use Rattle.std.specs.Prelude.{◌≡◌, None};
 use crate::random_word::word_of;
 use crate::reading::{Unread, read_regular};
 use dns_data::{Bytes, Copies, Text};
-use edge_net::{Crew, count};
+use edge_net::{Crew, count, give_up};
 use edge_sockets::{EdgeLine, Why, line_text, note_line};
 use outside::{Look, Made, PatternMaker, ReadOut, RegexMaker, Watch, Wrote};
 use std::alloc::Global;
@@ -78,8 +78,12 @@ impl<R: Wait + Files + Clock + RandomSource + Eprint + Drop> Watch for FileWatch
 
     ghost answered = { λ _. tt };
 
-    /// The end comes as soon as all sides have left.
+    /// The end comes as soon as all sides have left, or where not all have begun in time.
     fn look(&mut self, interval: u64, jitter: u64) -> Look {
+        if !self.crew.await_start(&self.rt) {
+            give_up(&self.rt, self.alloc, &self.crew);
+            return Look::End;
+        }
         let time = interval.saturating_add(self.below(jitter.saturating_add(1)));
         if self.crew.sleep(&self.rt, Duration::from_millis(time)) {
             return Look::End;

@@ -14,6 +14,7 @@ pub mod Snippets
 pub mod GrowingLaws
 pub mod Seeking
 pub mod SeekingLaws
+pub mod KeysLaws
 -- what public clauses cite
 pub use Rattle.corefile_blocks.specs.Blocks.{ReadsBlocks, blocks_of, wants_of}
 pub use Rattle.corefile_blocks.specs.Ports.{ArePorts, key_ports}

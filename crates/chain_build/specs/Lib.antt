@@ -14,6 +14,16 @@ pub mod NamesLaws
 pub mod Holding
 pub mod Workers
 pub mod LentsLaws
+pub mod PartsLaws
+pub mod Seats
+pub mod SeatsLaws
+pub mod HomeLaws
+pub mod History
+pub mod HistoryLaws
+pub mod SeatNamesLaws
+pub mod EndedLaws
+pub mod HistoryPins
+pub mod HistoryPinsLaws
 pub mod Compiled
 pub mod Own
 pub mod Places

@@ -1,10 +1,14 @@
 -- What the workers, the watcher and the table tell together, once all have ended.
-use Rattle.std.proofs.Common.{◌≡◌, ◌≤◌, ◌<◌, ℕ, zero, suc, ◌+◌, List, [], ◌∷◌, map, length, Some, None, slice_get, refl, sym, ap, subst, ◌∙◌, arith}
+use Rattle.std.proofs.Common.{◌≡◌, ◌≤◌, ◌<◌, ℕ, zero, suc, ◌+◌, List, [], ◌∷◌, map, length, reverse, Some, None, slice_get, refl, sym, ap, subst, ◌∙◌, arith}
 use Rattle.std.specs.List.{All, AllByRecursion, AllZip}
 use Rattle.std.proofs.lemmas.List.Elements.{All-cons, All-head, All-nil, All-tail}
 use Rattle.std.proofs.lemmas.Option.{none-some, same_Some}
 use Rattle.atomic_table.specs.Seated.{TableId}
 use Rattle.dns_data.specs.declared.limit.TheConstants as limits
+use Rattle.one_history.specs.Calls.{Call}
+use Rattle.one_history.specs.Join.{side_calls}
+use Rattle.one_history.specs.Logs.{Place, calls_of}
+use Rattle.outside.specs.declared.mark.Mark.{Mark}
 use Rattle.outside.specs.Causes.{RoseBy, SideCounts, raised}
 use Rattle.outside.specs.Hosts.{IsFreshSide}
 use Rattle.outside.specs.Journals.{tells_since}
@@ -15,6 +19,7 @@ use Rattle.chain_build.specs.declared.chain.Chain.{Chain}
 use Rattle.plugin_api.specs.declared.extra.Extra as extra
 use Rattle.plugin_api.specs.declared.rulebook.Rulebook as rulebook
 use Rattle.chain_build.specs.{PlansData, chain_identity, chain_log, plans_of, ground_of}
+use Rattle.chain_build.specs.HistoryPins.{ArePassesGrown, passes_with, pins_with}
 use Rattle.chain_meaning.specs.{Ground}
 use Rattle.plugin_api.specs.{Sayings, Takings}
 use Rattle.pin_table.specs.declared.passes.Pass.{Pass}
@@ -24,17 +29,18 @@ use Rattle.pin_table.specs.Known.{filled_at}
 use Rattle.run_meaning.specs.declared.work_end.WorkEnd.{WorkEnd}
 use Rattle.run_meaning.specs.declared.work_end.WorkEnd.TheVariants as ends
 use Rattle.query_worker.specs.declared.worker.Worker.{Worker}
-use Rattle.query_worker.specs.{AreOf, IsOfPass, PastPin, last_seen, lawful_of, pinned_by, run_as}
+use Rattle.query_worker.specs.{AreOf, IsOfPass, IsPlacedPin, MakeCalls, PastPin, RunsUnder, calls_told, calls_under, grown_of, last_seen, lawful_of, make_calls, pinned_by, run_as}
 use Rattle.query_worker.specs.{worked_of}
 use Rattle.run_meaning.specs.Turn.{IsLawful, Turn}
-use Rattle.run_meaning.specs.Workers.{WorkerRun}
 use Rattle.reload_watch.specs.{AreFilledBy, Footing, footing_on, terms_of}
 use Rattle.reload_watch.specs.Filled.{IsOf}
+use Rattle.reload_watch.specs.GenerationsLaws.{IsPlacedTurn}
+use Rattle.reload_watch.specs.Histories.{places_by}
 use Rattle.dns_server.specs.declared.report.Done.{Done}
 use Rattle.dns_server.specs.declared.roles.Role.{Role}
 use Rattle.dns_server.specs.declared.roles.Role.TheVariants.{Work, Watch}
 use Rattle.dns_server.specs.Each.{Each3}
-use Rattle.dns_server.specs.Report.{TellEach, TellsRun}
+use Rattle.dns_server.specs.Report.{RunsWith, TellEach, TellsRun}
 use Rattle.dns_server.specs.Roles.{AreStarting, AreWorking, Becomes, IsPart, Task}
 use Rattle.dns_server.specs.States.{RunSetup, SideRun, run_terms, side_run, side_runs}
 use Rattle.dns_server.proofs.Holding.{IsSettled}
@@ -54,7 +60,7 @@ IsBy taken said setup = setup.footing ≡ footing_on taken said setup.footing.ba
 module _ {B E : Type 0} {bk : rulebook.Ghosts B} {ex : extra.Ghosts E} where
   -- a worker that has ended, by the side as it was opened, as it was handed back, and by its pass
   pub record IsDone (most : ℕ) (opened : SideState) (run : SideRun) (pass : PassView (Chain B E bk ex)) : Type 0 where
-    pub told : Grows opened run.state (WorkerRun (IsOfPass pass.turns) most (pinned_by pass) run.worked)
+    pub told : Grows opened run.state (RunsUnder pass.turns most run.worked)
     pub seen : run.worked.seen + 1 ≤ pass.seen
     pub last : run.worked.seen ≡ last_seen (pinned_by pass)
     pub failed : run.worked.end ≡ ends.RecvFailed → RoseBy limits.FAILURES opened.counts.recv run.state.counts.recv
@@ -163,23 +169,39 @@ module _ {B E : Type 0} {bk : rulebook.Ghosts B} {ex : extra.Ghosts E} where
       let same : plans_of pin.given ≡ plans_of first.0 = ap (λ (i : Identity PlansData). i.kind) first.2 in
       (subst (λ (p : PlansData). (slice_get bundles pin.serial ≡ Some p.bundle) × (ground_of p ≡ basis)) (sym same) is, given_of bundles basis filled worker pins are given.1)
 
+  -- and the logs of these stand at the places of their serials
+  pub placed_of : (generations : List PlansData) (pins : List (PastPin (Chain B E bk ex))) → AllByRecursion (IsPlacedTurn generations) pins → AllByRecursion (IsPlacedPin (places_by generations)) pins
+  placed_of generations [] are = tt
+  placed_of generations (pin ∷ pins) are = (record { serial_is = are.0.serial_is; places_are = are.0.places_are }, placed_of generations pins are.1)
+
   -- a turn under pins of published bundles is lawful in such a run
   lawful_by : (setup : RunSetup) → IsBy bk.taken bk.said setup → (bundles : List Bundle) (pins : List (PastPin (Chain B E bk ex))) → AreOf bundles setup.footing.basis pins
       → (turn : Turn) → IsOfPass pins turn → IsLawful bundles (run_terms setup) turn
   lawful_by setup by bundles pins are turn is = subst (λ (f : Footing). IsLawful bundles (terms_of f) turn) (sym by) (lawful_of bundles setup.footing.basis pins are turn is)
 
+  -- the calls of each pin of a worker that has ended, the last one first
+  abbrev pub done_calls : (most : ℕ) (opened : SideState) (run : SideRun) (pass : PassView (Chain B E bk ex)) → IsDone most opened run pass → List (List (Call Mark))
+  done_calls most opened run pass done = reverse (calls_under (reverse pass.turns) done.told.are.run.turns done.told.are.under)
+
   -- a worker that has ended tells a run by the published bundles
-  tells : (setup : RunSetup) → IsBy bk.taken bk.said setup → (bundles : List Bundle) (opened : SideState) (run : SideRun) (pass : PassView (Chain B E bk ex)) → IsFreshSide opened → IsDone setup.most opened run pass
-      → AreOf bundles setup.footing.basis pass.turns → pass.seen ≤ length bundles → TellsRun setup bundles (pinned_by pass) run
-  tells setup by bundles opened run pass fresh done are seen =
+  tells : (setup : RunSetup) → IsBy bk.taken bk.said setup → (places : ℕ → List Place) (bundles : List Bundle) (opened : SideState) (run : SideRun) (pass : PassView (Chain B E bk ex)) → IsFreshSide opened → (done : IsDone setup.most opened run pass)
+      → AreOf bundles setup.footing.basis pass.turns → pass.seen ≤ length bundles → AllByRecursion (IsPlacedPin places) pass.turns → TellsRun setup bundles (pinned_by pass) (calls_of (pins_with chain_log pass.turns (done_calls setup.most opened run pass done))) run
+  tells setup by places bundles opened run pass fresh done are seen placed =
       let none : opened.counts.recv ≡ 0 = ap (λ (c : SideCounts). c.recv) fresh.no_fault in
+      let turns = done.told.are.run.turns in
+      let under = done.told.are.under in
       record {
-        run = tells_since opened run.state (WorkerRun (IsLawful bundles (run_terms setup)) setup.most (pinned_by pass) run.worked) fresh (record {
+        run = tells_since opened run.state (RunsWith setup bundles (pinned_by pass) (calls_of (pins_with chain_log pass.turns (done_calls setup.most opened run pass done))) run.worked) fresh (record {
           marks = done.told.marks;
           told = done.told.told;
-          are = run_as (IsOfPass pass.turns) (IsLawful bundles (run_terms setup)) (lawful_by setup by bundles pass.turns are) done.told.are;
+          are = record {
+            run = run_as (IsOfPass pass.turns) (IsLawful bundles (run_terms setup)) (lawful_by setup by bundles pass.turns are) done.told.are.run;
+            each = calls_under (reverse pass.turns) turns under;
+            made = subst (λ (f : Footing). MakeCalls bundles (terms_of f) turns (calls_under (reverse pass.turns) turns under)) (sym by) (make_calls bundles setup.footing.basis places pass.turns turns under are placed);
+            calls_are = calls_told places pass.turns turns under placed;
+          };
         });
-        at_most = done.told.are.at_most;
+        at_most = done.told.are.run.at_most;
         seen = let s = done.seen in omega (arith, s, seen);
         last = done.last;
         failed = λ e. subst (λ (n : ℕ). RoseBy limits.FAILURES n run.state.counts.recv) none (done.failed e);
@@ -187,20 +209,40 @@ module _ {B E : Type 0} {bk : rulebook.Ghosts B} {ex : extra.Ghosts E} where
         left = done.left ∙ ap raised fresh.here;
       }
 
-  pub all_tell : (setup : RunSetup) → IsBy bk.taken bk.said setup → (bundles : List Bundle) (filled : List (List (Chain B E bk ex))) (number : ℕ) (opened : List SideState) (runs : List SideRun) (passes : List (PassView (Chain B E bk ex)))
-      → AllByRecursion IsFreshSide opened → Each3 (IsDone setup.most) opened runs passes → AreFilledBy bundles setup.footing.basis filled
-      → ((w : ℕ) (q : PassView (Chain B E bk ex)) → slice_get passes w ≡ Some q → AreGiven chain_identity chain_log filled (number + w) q.turns × (q.seen ≤ length bundles))
-      → TellEach setup bundles (map (λ q. pinned_by q) passes) runs
-  all_tell setup by bundles filled number [] [] [] fresh done are given = tt
-  all_tell setup by bundles filled number [] [] (q ∷ passes) fresh done are given = absurd done
-  all_tell setup by bundles filled number [] (run ∷ runs) passes fresh done are given = absurd done
-  all_tell setup by bundles filled number (o ∷ opened) [] passes fresh done are given = absurd done
-  all_tell setup by bundles filled number (o ∷ opened) (run ∷ runs) [] fresh done are given = absurd done
-  all_tell setup by bundles filled number (o ∷ opened) (run ∷ runs) (q ∷ passes) fresh done are given =
+  -- those of all workers, by side
+  abbrev pub all_calls : (most : ℕ) (opened : List SideState) (runs : List SideRun) (passes : List (PassView (Chain B E bk ex))) → Each3 (IsDone most) opened runs passes → List (List (List (Call Mark)))
+  all_calls most [] [] [] done = []
+  all_calls most [] [] (q ∷ passes) done = absurd done
+  all_calls most [] (run ∷ runs) passes done = absurd done
+  all_calls most (o ∷ opened) [] passes done = absurd done
+  all_calls most (o ∷ opened) (run ∷ runs) [] done = absurd done
+  all_calls most (o ∷ opened) (run ∷ runs) (q ∷ passes) done = done_calls most o run q done.0 ∷ all_calls most opened runs passes done.1
+
+  -- the logs of their chains have grown by these
+  pub all_grown : (most : ℕ) (places : ℕ → List Place) (opened : List SideState) (runs : List SideRun) (passes : List (PassView (Chain B E bk ex))) → (done : Each3 (IsDone most) opened runs passes)
+      → ((w : ℕ) (q : PassView (Chain B E bk ex)) → slice_get passes w ≡ Some q → AllByRecursion (IsPlacedPin places) q.turns) → ArePassesGrown chain_log places passes (all_calls most opened runs passes done)
+  all_grown most places [] [] [] done placed = tt
+  all_grown most places [] [] (q ∷ passes) done placed = absurd done
+  all_grown most places [] (run ∷ runs) passes done placed = absurd done
+  all_grown most places (o ∷ opened) [] passes done placed = absurd done
+  all_grown most places (o ∷ opened) (run ∷ runs) [] done placed = absurd done
+  all_grown most places (o ∷ opened) (run ∷ runs) (q ∷ passes) done placed =
+      (grown_of places q.turns done.0.told.are.run.turns done.0.told.are.under (placed 0 q refl), all_grown most places opened runs passes done.1 (λ w p at. placed (suc w) p at))
+
+  pub all_tell : (setup : RunSetup) → IsBy bk.taken bk.said setup → (places : ℕ → List Place) (bundles : List Bundle) (filled : List (List (Chain B E bk ex))) (number : ℕ) (opened : List SideState) (runs : List SideRun) (passes : List (PassView (Chain B E bk ex)))
+      → AllByRecursion IsFreshSide opened → (done : Each3 (IsDone setup.most) opened runs passes) → AreFilledBy bundles setup.footing.basis filled
+      → ((w : ℕ) (q : PassView (Chain B E bk ex)) → slice_get passes w ≡ Some q → AreGiven chain_identity chain_log filled (number + w) q.turns × (q.seen ≤ length bundles) × AllByRecursion (IsPlacedPin places) q.turns)
+      → TellEach setup bundles (map (λ q. pinned_by q) passes) (side_calls (passes_with chain_log passes (all_calls setup.most opened runs passes done))) runs
+  all_tell setup by places bundles filled number [] [] [] fresh done are given = tt
+  all_tell setup by places bundles filled number [] [] (q ∷ passes) fresh done are given = absurd done
+  all_tell setup by places bundles filled number [] (run ∷ runs) passes fresh done are given = absurd done
+  all_tell setup by places bundles filled number (o ∷ opened) [] passes fresh done are given = absurd done
+  all_tell setup by places bundles filled number (o ∷ opened) (run ∷ runs) [] fresh done are given = absurd done
+  all_tell setup by places bundles filled number (o ∷ opened) (run ∷ runs) (q ∷ passes) fresh done are given =
       let here = given 0 q refl in (
-        tells setup by bundles o run q fresh.0 done.0 (given_of bundles setup.footing.basis filled (number + 0) q.turns are here.0) here.1,
-        all_tell setup by bundles filled (number + 1) opened runs passes fresh.1 done.1 are
-            (λ w p at. let that = given (suc w) p at in (subst (λ (n : ℕ). AreGiven chain_identity chain_log filled n p.turns) (omega arith) that.0, that.1)),
+        tells setup by places bundles o run q fresh.0 done.0 (given_of bundles setup.footing.basis filled (number + 0) q.turns are here.0) here.1 here.2,
+        all_tell setup by places bundles filled (number + 1) opened runs passes fresh.1 done.1 are
+            (λ w p at. let that = given (suc w) p at in (subst (λ (n : ℕ). AreGiven chain_identity chain_log filled n p.turns) (omega arith) that.0, that.1, that.2)),
       )
 
   pub scripts_are : (most : ℕ) (opened : List SideState) (runs : List SideRun) (passes : List (PassView (Chain B E bk ex))) → Each3 (IsDone most) opened runs passes

@@ -2,7 +2,7 @@
 use Rattle.std.proofs.Common.{◌≡◌, ◌≤◌, ◌<◌, ◌*◌, ◌+◌, ℕ, suc, List, [], ◌∷◌, ◌++◌, map, length, reverse, take, Some, slice_get, refl, sym, ap, subst, ◌∙◌, arith}
 use Rattle.std.specs.Arc.{arc_value}
 use Rattle.std.specs.Vec.{vec_capacity, vec_len}
-use Rattle.std.specs.List.{All, AllZip, sum_by}
+use Rattle.std.specs.List.{All, AllByRecursion, AllZip, sum_by}
 use Rattle.std.proofs.lemmas.List.{length-map, take_all}
 use Rattle.outside.specs.Causes.{RoseJust}
 use Rattle.outside.specs.States.{SideState, WatchState}
@@ -20,17 +20,27 @@ use Rattle.pin_table.specs.declared.table.PinTable.{PinTable}
 use Rattle.pin_table.specs.declared.views.PassView.{PassView}
 use Rattle.pin_table.specs.declared.views.Plan.{Plan}
 use Rattle.pin_table.specs.{AreFilled, AreGiven, AreIdle, IsPublisherOf, IsStanding, count_of, id_of, plan_of, standing, views_of}
+use Rattle.block_readings.specs.Readings.{BlockReading}
+use Rattle.one_history.specs.Join.{EndedBySeats, side_calls}
+use Rattle.one_history.specs.Logs.{Pin}
+use Rattle.one_history.specs.Runs.{OneHistory}
+use Rattle.outside.specs.declared.mark.Mark.{Mark}
 use Rattle.pin_core.specs.{OnePinRun, pin_marks}
 use Rattle.pin_table.specs.Closing.{IsClosed, IsTraced, joined_marks, joined_plan}
 use Rattle.pin_table.specs.Opening.{IsOpened}
-use Rattle.query_worker.specs.{pinned_by}
+use Rattle.query_worker.specs.{IsPlacedPin, pinned_by}
 use Rattle.reload_watch.specs.{AreFilledBy, Footing, HasPlaces, IsPlaced, footing_on, terms_of}
 use Rattle.run_meaning.specs.WatchTurn.{AreLooks, all_starved}
 use Rattle.run_meaning.specs.WatchRun.{EndsWatch}
 use Rattle.lent_caches.specs.Held.{caches_data}
-use Rattle.chain_build.specs.Naming.{change}
-use Rattle.reload_watch.specs.Named.{AreNamed, no_generation}
-use Rattle.reload_watch.specs.NamedLaws.{named_first, names_on, of_none}
+use Rattle.chain_build.specs.HistoryPins.{passes_with}
+use Rattle.chain_build.specs.Naming.{change, plans_generation}
+use Rattle.chain_build.specs.History.{has_cache, no_generation, readings_of}
+use Rattle.reload_watch.specs.GenerationsLaws.{all_read, turns_placed}
+use Rattle.reload_watch.specs.Histories.{AreReadAs, HaveOneHistory, IsHome, IsLegalFor, places_by}
+use Rattle.reload_watch.specs.HistoryLaws.{ended_home}
+use Rattle.reload_watch.specs.Named.{AreNamed}
+use Rattle.reload_watch.specs.NamedLaws.{have_caches, named_first, names_on, of_none}
 use Rattle.reload_watch.specs.NextLaws.{first_keeps}
 use Rattle.reload_watch.specs.declared.watcher.Watcher.{Watcher}
 use Rattle.dns_server.specs.Caches.{LendsFirst}
@@ -51,7 +61,7 @@ use Rattle.dns_server.specs.Holding.{IsHeld}
 use Rattle.dns_server.specs.Lending.{lent_by}
 use Rattle.dns_server.specs.Stocking.{StockData, count_name}
 use Rattle.dns_server.proofs.Holding.{looks_held, placed_opened, saw_held}
-use Rattle.dns_server.proofs.Joining.{IsBy, IdleFrom, IsDone, Leave, all_tell, scripts_are}
+use Rattle.dns_server.proofs.Joining.{IsBy, IdleFrom, IsDone, Leave, all_calls, all_grown, all_tell, placed_of, scripts_are}
 
 -- the last of the roles, and the others
 pub parted : {R : Type 0} (B : R → R → Type 0) (starts others befores afters : List R) (first last : R) → befores ≡ starts ++ first ∷ [] → afters ≡ others ++ last ∷ [] → AllZip B befores afters
@@ -105,19 +115,25 @@ module _ {B E : Type 0} {bk : rulebook.Ghosts B} {ex : extra.Ghosts E} where
 
     -- what each pass was given, by the table's last state
     given : (bundles : List Bundle) → length bundles ≡ count_of (plan_of last.publisher) → IsClosed (joined_plan (plan_of last.publisher) passes)
-        → IsTraced chain_identity chain_log (joined_plan (plan_of last.publisher) passes)
+        → IsTraced chain_identity chain_log (joined_plan (plan_of last.publisher) passes) → (named : AreNamed (plan_of last.publisher).past.filled)
         → (w : ℕ) (q : PassView (Chain B E bk ex)) → slice_get (views_of passes) w ≡ Some q
-        → AreGiven chain_identity chain_log (plan_of last.publisher).past.filled (0 + w) q.turns × (q.seen ≤ length bundles)
-    given bundles count closed traced w q at =
+        → AreGiven chain_identity chain_log (plan_of last.publisher).past.filled (0 + w) q.turns × (q.seen ≤ length bundles) × AllByRecursion (IsPlacedPin (places_by named.generations)) q.turns
+    given bundles count closed traced named w q at =
+        let filled = (plan_of last.publisher).past.filled in
         let turns = traced.turns w q at in
-        let rising = closed.rising w q at in
-        (subst (λ (n : ℕ). AreGiven chain_identity chain_log (plan_of last.publisher).past.filled n q.turns) (omega arith) turns, let r = rising.1 in omega (arith, r, count))
+        let rising = closed.rising w q at in (
+          subst (λ (n : ℕ). AreGiven chain_identity chain_log filled n q.turns) (omega arith) turns,
+          let r = rising.1 in omega (arith, r, count),
+          placed_of named.generations q.turns (turns_placed named.generations filled w q.turns named.by turns),
+        )
 
-    pub finishes : (others : List (Role S W B E bk ex)) (published : ℕ) (stock : StockData) → ((name : List ℕ) → count_name name stock.spare ≡ all_weigh (is_named name) opened.watcher) → IsBy bk.taken bk.said setup → roles.IsOpened side setup.footing.basis opened → HasWatched watch task opened.watcher last
+    pub finishes : (others : List (Role S W B E bk ex)) (published : ℕ) (stock : StockData) → ((name : List ℕ) → count_name name stock.spare ≡ all_weigh (is_named name) opened.watcher) → IsBy bk.taken bk.said setup → roles.IsOpened side setup.footing.basis opened → (has : HasWatched watch task opened.watcher last)
         → Leave side watch task 0 opened.sides.items others dones passes → published ≡ count_of (plan_of last.publisher)
         → IsClosed (joined_plan (plan_of last.publisher) passes) → IsTraced chain_identity chain_log (joined_plan (plan_of last.publisher) passes)
+        → (home : List (Chain B E bk ex)) → IsHome opened.table last passes home
+        → ((readings : List (List BlockReading)) (pins : List (List (Pin Mark))) → EndedBySeats has_cache IsLegalFor readings pins → OneHistory has_cache IsLegalFor readings (side_calls pins))
         → Finishes setup first (map side opened.sides.items) (watch opened.watcher.watch) (record { sides = side_runs side dones; watch = watch last.watch; published = published; stock = stock; starved = last.starved })
-    finishes others published stock spare_is on is has leave count closed traced =
+    finishes others published stock spare_is on is has leave count closed traced home ended joined =
         let by = has.watches in
         let basis = is.ground_is in
         let to : footing_on bk.taken bk.said (ground_of (arc_value opened.watcher.current)) ≡ setup.footing = ap (λ (g : Ground). footing_on bk.taken bk.said g) basis ∙ sym on in
@@ -126,8 +142,17 @@ module _ {B E : Type 0} {bk : rulebook.Ghosts B} {ex : extra.Ghosts E} where
         let sides_count = part_count (IsDone setup.most) (map side opened.sides.items) (side_runs side dones) (views_of passes) leave.done in
         let sides_mid = mid_count (IsDone setup.most) (map side opened.sides.items) (side_runs side dones) (views_of passes) leave.done in
         let count_is : (plan_of last.publisher).workers ≡ length (views_of passes) = has.keeps.workers ∙ has.workers ∙ is.workers ∙ sym (length-map opened.sides.items side) ∙ sym sides_count in
-        let tell = all_tell setup on bundles filled 0 (map side opened.sides.items) (side_runs side dones) (views_of passes) is.fresh leave.done
-        (subst (λ (g : Ground). AreFilledBy bundles g filled) basis by.filled) (given bundles by.count closed traced) in
+        let named = ended.keeps.named in
+        let places = places_by named.generations in
+        let each = given bundles by.count closed traced named in
+        let told = all_calls setup.most (map side opened.sides.items) (side_runs side dones) (views_of passes) leave.done in
+        let grown = all_grown setup.most places (map side opened.sides.items) (side_runs side dones) (views_of passes) leave.done (λ w q at. let that = each w q at in that.2) in
+        let some = ended.keeps.some in
+        let workers = ended.keeps.workers in
+        let of_basis = subst (λ (g : Ground). AreFilledBy bundles g filled) basis by.filled in
+        let readings = readings_of (map plans_generation named.generations) in
+        let read = all_read setup.footing.basis (plan_of last.publisher).workers bundles named.generations filled (omega (arith, some, workers)) of_basis named.by named.have ended.keeps.stands.full in
+        let tell = all_tell setup on places bundles filled 0 (map side opened.sides.items) (side_runs side dones) (views_of passes) is.fresh leave.done of_basis each in
         record {
           looks = by.looks;
           ending = by.ending;
@@ -140,6 +165,7 @@ module _ {B E : Type 0} {bk : rulebook.Ghosts B} {ex : extra.Ghosts E} where
           goes = has.goes;
           scripts = scripts_are setup.most (map side opened.sides.items) (side_runs side dones) (views_of passes) leave.done;
           pinned = map (λ q. pinned_by q) (views_of passes);
+          calls = side_calls (passes_with chain_log (views_of passes) told);
           tell = rw (sym by.bundles_are) tell;
           held = looks_held (plan_of last.publisher).workers (plan_of last.publisher).past (views_of passes) count_is leave.settled (plan_of last.publisher).sweeps setup.source (run_terms setup)
               (first ∷ []) by.looks closed.sweeps (subst (λ (f : Footing). AreLooks setup.source (terms_of f) (first ∷ []) by.looks) to by.are) by.swept;
@@ -154,6 +180,12 @@ module _ {B E : Type 0} {bk : rulebook.Ghosts B} {ex : extra.Ghosts E} where
           pins = subst (λ (k : ℕ). OnePinRun k published (side_pins (map (λ q. pinned_by q) (views_of passes)))) (count_is ∙ sides_count ∙ sym sides_mid)
               (subst (λ (k : ℕ). OnePinRun (plan_of last.publisher).workers k (side_pins (map (λ q. pinned_by q) (views_of passes)))) (sym count)
               (subst (OnePinRun (plan_of last.publisher).workers (count_of (plan_of last.publisher))) (pins_are (views_of passes)) closed.run));
+          history = subst (λ (l : List Bundle). HaveOneHistory (run_terms setup) l (side_calls (passes_with chain_log (views_of passes) told))) by.bundles_are
+              (record {
+                readings = readings;
+                read = subst (λ (f : Footing). AreReadAs (terms_of f) bundles readings) (sym on) read;
+                one = joined readings (passes_with chain_log (views_of passes) told) (ended_home opened.table last passes home ended told grown);
+              });
         }
 
   -- a watcher that has published the first chains
@@ -198,7 +230,8 @@ module _ {B E : Type 0} {bk : rulebook.Ghosts B} {ex : extra.Ghosts E} where
           caches = keeps.0;
           served = keeps.1.0;
           named = subst AreNamed (sym (ap (λ (p : Plan (Chain B E bk ex)). p.past.filled) plan ∙ ap (λ (l : List (Chain B E bk ex)). l ∷ []) all))
-              (named_first (arc_value w.current) chains (names_on begins.naming (change [] lends.fresh) (arc_value w.current) no_generation 0 (of_none begins.naming.before begins.none) begins.serial begins.names.names) serve);
+              (named_first (arc_value w.current) chains (names_on begins.naming (change [] lends.fresh) (arc_value w.current) no_generation 0 (of_none begins.naming.before begins.none) begins.serial begins.names.names)
+              (have_caches bk.taken bk.said begins.naming (change [] lends.fresh) (arc_value w.current) are begins.names.names) serve);
           accounted = keeps.1.1;
         };
         first = count;

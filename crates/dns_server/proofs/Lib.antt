@@ -2,6 +2,7 @@ pub mod Sharings
 pub mod Caching
 pub mod Each
 pub mod Ended
+pub mod Histories
 pub mod Holding
 pub mod Joining
 pub mod Leaving

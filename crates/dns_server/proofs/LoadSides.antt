@@ -4,6 +4,7 @@ use Rattle.std.specs.Prelude.{IfSome}
 use Rattle.std.specs.List.{AllByRecursion, flat_map}
 use Rattle.std.proofs.lemmas.List.Concat.{flat_map-cons}
 use Rattle.std.proofs.lemmas.List.Sums.{sum_by-append, sum_by-cons}
+use Rattle.one_history.specs.Calls.{Call}
 use Rattle.outside.specs.declared.datagram.Datagram.{Datagram}
 use Rattle.outside.specs.declared.mark.Mark.{Mark}
 use Rattle.outside.specs.declared.mark.Mark.TheVariants.{Got, Pinned, RecvEnd, Sent, Unpinned}
@@ -20,14 +21,14 @@ use Rattle.load_maker.specs.Summary.{is_taken, taken_in}
 use Rattle.load_maker.specs.TakenLaws.{taken_count, took_all, took_first}
 use Rattle.run_meaning.specs.declared.work_end.WorkEnd.{WorkEnd}
 use Rattle.run_meaning.specs.declared.work_end.WorkEnd.TheVariants as ends
-use Rattle.run_meaning.specs.Turn.{Turn, datagrams, failed, marks_of, replied, silenced, starved, total, unread}
+use Rattle.run_meaning.specs.Turn.{IsLawful, Turn, datagrams, failed, marks_of, replied, silenced, starved, total, unread}
 use Rattle.run_meaning.specs.Workers.{Ending, WorkerRun}
 use Rattle.dns_server.specs.declared.report.Done.{Done}
 use Rattle.dns_server.specs.declared.status.Status.{Status}
 use Rattle.dns_server.specs.declared.status.Status.TheVariants as status
 use Rattle.dns_server.specs.Loading.{EndsLoad, HasNoFault}
-use Rattle.dns_server.specs.Report.{CauseOf, RunData, SomeFailed, Supplies, TellEach, TookAll}
-use Rattle.dns_server.specs.States.{RunSetup, SideRun, side_runs}
+use Rattle.dns_server.specs.Report.{CauseOf, RunData, RunsWith, SomeFailed, Supplies, TellEach, TookAll}
+use Rattle.dns_server.specs.States.{RunSetup, SideRun, run_terms, side_runs}
 
 -- the laws of a side in memory
 pub record IsMemory (side : SideRun) : Type 0 where
@@ -73,26 +74,29 @@ all_quiet (side ∷ sides) (script ∷ taken) e alone memory =
     (quiet_one side script (head_is side.state.script (Some script) _ _ e) alone.0 memory.0, all_quiet sides taken (tail_is side.state.script (Some script) _ _ e) alone.1 memory.1)
 
 -- so no worker could not receive any more
-none_failed : (setup : RunSetup) (bundles : List Bundle) (pinned : List (List ℕ)) (sides : List SideRun) → TellEach setup bundles pinned sides → AllByRecursion HasNoFault sides → SomeFailed sides → ⊥
-none_failed setup bundles pinned [] tell quiet some = some
-none_failed setup bundles [] (side ∷ sides) tell quiet some = tell
-none_failed setup bundles (serials ∷ pinned) (side ∷ sides) tell quiet (inl end) =
+none_failed : (setup : RunSetup) (bundles : List Bundle) (pinned : List (List ℕ)) (calls : List (List (Call Mark))) (sides : List SideRun) → TellEach setup bundles pinned calls sides → AllByRecursion HasNoFault sides → SomeFailed sides → ⊥
+none_failed setup bundles [] [] [] tell quiet some = some
+none_failed setup bundles [] [] (side ∷ sides) tell quiet some = tell
+none_failed setup bundles [] (c ∷ calls) sides tell quiet some = tell
+none_failed setup bundles (serials ∷ pinned) [] sides tell quiet some = tell
+none_failed setup bundles (serials ∷ pinned) (c ∷ calls) [] tell quiet some = tell
+none_failed setup bundles (serials ∷ pinned) (c ∷ calls) (side ∷ sides) tell quiet (inl end) =
     let rose = tell.0.failed end in
     let none = quiet.0.recv in
     omega (arith, rose, none)
-none_failed setup bundles (serials ∷ pinned) (side ∷ sides) tell quiet (inr some) = none_failed setup bundles pinned sides tell.1 quiet.1 some
+none_failed setup bundles (serials ∷ pinned) (c ∷ calls) (side ∷ sides) tell quiet (inr some) = none_failed setup bundles pinned calls sides tell.1 quiet.1 some
 
-pub ends_load : (how : Status) (setup : RunSetup) (run : RunData) (before after : HostCounts) (bundles : List Bundle) (pinned : List (List ℕ)) → CauseOf how setup run before after → run.published ≢ 0
-    → TellEach setup bundles pinned run.sides → AllByRecursion HasNoFault run.sides → EndsLoad how
-ends_load status.Usage setup run before after bundles pinned cause some tell quiet = cause
-ends_load (status.ReadFailed name) setup run before after bundles pinned cause some tell quiet = some cause.published
-ends_load status.OpenFailed setup run before after bundles pinned cause some tell quiet = some cause.0
-ends_load status.TellFailed setup run before after bundles pinned cause some tell quiet = cause
-ends_load (status.Refused why) setup run before after bundles pinned cause some tell quiet = some cause.published
-ends_load (status.StockShort name asked had) setup run before after bundles pinned cause some tell quiet = some cause.published
-ends_load status.NoMemory setup run before after bundles pinned cause some tell quiet = tt
-ends_load status.WorkerFailed setup run before after bundles pinned cause some tell quiet = none_failed setup bundles pinned run.sides tell quiet cause.some
-ends_load status.Ended setup run before after bundles pinned cause some tell quiet = tt
+pub ends_load : (how : Status) (setup : RunSetup) (run : RunData) (before after : HostCounts) (bundles : List Bundle) (pinned : List (List ℕ)) (calls : List (List (Call Mark))) → CauseOf how setup run before after → run.published ≢ 0
+    → TellEach setup bundles pinned calls run.sides → AllByRecursion HasNoFault run.sides → EndsLoad how
+ends_load status.Usage setup run before after bundles pinned calls cause some tell quiet = cause
+ends_load (status.ReadFailed name) setup run before after bundles pinned calls cause some tell quiet = some cause.published
+ends_load status.OpenFailed setup run before after bundles pinned calls cause some tell quiet = some cause.0
+ends_load status.TellFailed setup run before after bundles pinned calls cause some tell quiet = cause
+ends_load (status.Refused why) setup run before after bundles pinned calls cause some tell quiet = some cause.published
+ends_load (status.StockShort name asked had) setup run before after bundles pinned calls cause some tell quiet = some cause.published
+ends_load status.NoMemory setup run before after bundles pinned calls cause some tell quiet = tt
+ends_load status.WorkerFailed setup run before after bundles pinned calls cause some tell quiet = none_failed setup bundles pinned calls run.sides tell quiet cause.some
+ends_load status.Ended setup run before after bundles pinned calls cause some tell quiet = tt
 
 -- what was supplied
 pub record Supplied (before : SupplyData) (scripts : List (Option SideScriptData)) : Type 0 where
@@ -137,15 +141,16 @@ turns_took (turn ∷ turns) =
     omega (arith, e, parts, here, rest)
 
 -- a side whose worker has ended took all of its datagrams
-took_side : (lawful : Turn → Type 0) (most : ℕ) (pinned : List ℕ) (side : SideRun) (gets : List Datagram) (journal : List Mark) → side.state.script ≡ Some (gets_alone gets) → side.state.journal ≡ Some journal → IsMemory side
-    → IfSome side.state.journal (WorkerRun lawful most pinned side.worked) → side.worked.end ≡ ends.End → length gets < most → datagrams_in journal ≡ gets
-took_side lawful most pinned side gets journal script told memory run end few =
+took_side : (setup : RunSetup) (bundles : List Bundle) (pinned : List ℕ) (calls : List (Call Mark)) (side : SideRun) (gets : List Datagram) (journal : List Mark) → side.state.script ≡ Some (gets_alone gets) → side.state.journal ≡ Some journal → IsMemory side
+    → IfSome side.state.journal (RunsWith setup bundles pinned calls side.worked) → side.worked.end ≡ ends.End → length gets < setup.most → datagrams_in journal ≡ gets
+took_side setup bundles pinned calls side gets journal script told memory run end few =
     let follows : FollowsScript (gets_alone gets) journal = subst (λ (x : Option SideScriptData × Option (List Mark)). AnsweredSide x.0 x.1) (λ i. (script i, told i)) memory.answers in
-    let is : WorkerRun lawful most pinned side.worked journal = subst (λ (j : Option (List Mark)). IfSome j (WorkerRun lawful most pinned side.worked)) told run in
-    by is follows (subst (λ (e : WorkEnd). Ending most side.worked is.turns e is.ending) end is.ends).1
+    let told_run : RunsWith setup bundles pinned calls side.worked journal = subst (λ (j : Option (List Mark)). IfSome j (RunsWith setup bundles pinned calls side.worked)) told run in
+    let is = told_run.run in
+    by is follows (subst (λ (e : WorkEnd). Ending setup.most side.worked is.turns e is.ending) end is.ends).1
   where
-    by : (is : WorkerRun lawful most pinned side.worked journal) → FollowsScript (gets_alone gets) journal
-        → ((is.ending ≡ RecvEnd ∷ []) × (side.worked.taken < most)) ⊎ ((is.ending ≡ []) × (side.worked.taken ≡ most)) → datagrams_in journal ≡ gets
+    by : (is : WorkerRun (IsLawful bundles (run_terms setup)) setup.most pinned side.worked journal) → FollowsScript (gets_alone gets) journal
+        → ((is.ending ≡ RecvEnd ∷ []) × (side.worked.taken < setup.most)) ⊎ ((is.ending ≡ []) × (side.worked.taken ≡ setup.most)) → datagrams_in journal ≡ gets
     by is follows (inl e) = took_all gets journal (flat_map marks_of is.turns) follows (is.told ∙ ap (λ (l : List Mark). flat_map marks_of is.turns ++ l) e.0)
     by is follows (inr e) =
         let whole : journal ≡ flat_map marks_of is.turns = is.told ∙ (ap (λ (l : List Mark). flat_map marks_of is.turns ++ l) e.0 ∙ append-nil (flat_map marks_of is.turns)) in
@@ -159,18 +164,20 @@ took_side lawful most pinned side gets journal script told memory run end few =
         absurd (omega (arith, least, count, taken, first, short, all, most_is, few))
 
 -- sides whose workers have ended took all of their datagrams
-pub took_each : (setup : RunSetup) (bundles : List Bundle) (pinned : List (List ℕ)) (sides : List SideRun) (taken others : List SideScriptData) (gets : List (List Datagram)) (journals : List (List Mark))
+pub took_each : (setup : RunSetup) (bundles : List Bundle) (pinned : List (List ℕ)) (calls : List (List (Call Mark))) (sides : List SideRun) (taken others : List SideScriptData) (gets : List (List Datagram)) (journals : List (List Mark))
     → map (λ (side : SideRun). side.state.script) sides ≡ map (λ (s : SideScriptData). Some s) taken → map gets_alone gets ≡ taken ++ others
     → map (λ (side : SideRun). side.state.journal) sides ≡ map (λ (j : List Mark). Some j) journals
-    → AllByRecursion IsMemory sides → TellEach setup bundles pinned sides → AllByRecursion TookAll sides → AllByRecursion (λ (l : List Datagram). length l < setup.most) gets
+    → AllByRecursion IsMemory sides → TellEach setup bundles pinned calls sides → AllByRecursion TookAll sides → AllByRecursion (λ (l : List Datagram). length l < setup.most) gets
     → map datagrams_in journals ≡ take (length journals) gets
-took_each setup bundles pinned sides taken others gets [] scripts given told memory tell ended few = refl
-took_each setup bundles pinned [] taken others gets (journal ∷ journals) scripts given told memory tell ended few = absurd cc
-took_each setup bundles pinned (side ∷ sides) [] others gets (journal ∷ journals) scripts given told memory tell ended few = absurd cc
-took_each setup bundles pinned (side ∷ sides) (script ∷ taken) others [] (journal ∷ journals) scripts given told memory tell ended few = absurd cc
-took_each setup bundles [] (side ∷ sides) (script ∷ taken) others (first ∷ gets) (journal ∷ journals) scripts given told memory tell ended few = absurd tell
-took_each setup bundles (serials ∷ pinned) (side ∷ sides) (script ∷ taken) others (first ∷ gets) (journal ∷ journals) scripts given told memory tell ended few =
+took_each setup bundles pinned calls sides taken others gets [] scripts given told memory tell ended few = refl
+took_each setup bundles pinned calls [] taken others gets (journal ∷ journals) scripts given told memory tell ended few = absurd cc
+took_each setup bundles pinned calls (side ∷ sides) [] others gets (journal ∷ journals) scripts given told memory tell ended few = absurd cc
+took_each setup bundles pinned calls (side ∷ sides) (script ∷ taken) others [] (journal ∷ journals) scripts given told memory tell ended few = absurd cc
+took_each setup bundles [] [] (side ∷ sides) (script ∷ taken) others (first ∷ gets) (journal ∷ journals) scripts given told memory tell ended few = absurd tell
+took_each setup bundles [] (c ∷ calls) (side ∷ sides) (script ∷ taken) others (first ∷ gets) (journal ∷ journals) scripts given told memory tell ended few = absurd tell
+took_each setup bundles (serials ∷ pinned) [] (side ∷ sides) (script ∷ taken) others (first ∷ gets) (journal ∷ journals) scripts given told memory tell ended few = absurd tell
+took_each setup bundles (serials ∷ pinned) (c ∷ calls) (side ∷ sides) (script ∷ taken) others (first ∷ gets) (journal ∷ journals) scripts given told memory tell ended few =
     let own : side.state.script ≡ Some (gets_alone first) = head_is side.state.script (Some script) _ _ scripts ∙ ap (λ (s : SideScriptData). Some s) (sym (head_is (gets_alone first) script _ _ given)) in
-    let here = took_side _ setup.most serials side first journal own (head_is side.state.journal (Some journal) _ _ told) memory.0 tell.0.run ended.0.end few.0 in
-    let rest = took_each setup bundles pinned sides taken others gets journals (tail_is side.state.script (Some script) _ _ scripts) (tail_is (gets_alone first) script _ _ given) (tail_is side.state.journal (Some journal) _ _ told) memory.1 tell.1 ended.1 few.1 in
+    let here = took_side setup bundles serials c side first journal own (head_is side.state.journal (Some journal) _ _ told) memory.0 tell.0.run ended.0.end few.0 in
+    let rest = took_each setup bundles pinned calls sides taken others gets journals (tail_is side.state.script (Some script) _ _ scripts) (tail_is (gets_alone first) script _ _ given) (tail_is side.state.journal (Some journal) _ _ told) memory.1 tell.1 ended.1 few.1 in
     λ i. here i ∷ rest i

@@ -68,7 +68,7 @@ module _ (program : Program) (count : ℕ) (inner : RunData) (runs : RunsInMemor
       let way = both_ways (queries_of count) in
       let all = all_queries count in
       let each : map datagrams_in (udp ∷ tcp ∷ []) ≡ queries_by Udp (queries_of count) ∷ queries_by Tcp (queries_of count) ∷ [] =
-      took_each (load_setup program) runs.runs.served.bundles runs.runs.served.pinned inner.sides given.taken given.others (queries_by Udp (queries_of count) ∷ queries_by Tcp (queries_of count) ∷ []) (udp ∷ tcp ∷ [])
+      took_each (load_setup program) runs.runs.served.bundles runs.runs.served.pinned runs.runs.served.calls inner.sides given.taken given.others (queries_by Udp (queries_of count) ∷ queries_by Tcp (queries_of count) ∷ []) (udp ∷ tcp ∷ [])
       scripts given.before_is told memory runs.runs.served.sides by.sides (omega (arith, way, all, few), (omega (arith, way, all, few), tt)) in
       let first : datagrams_in udp ≡ queries_by Udp (queries_of count) = cc in
       let second : datagrams_in tcp ≡ queries_by Tcp (queries_of count) = cc in
@@ -115,7 +115,7 @@ load_ran program count load inner run (Some told) {before} {after} is none runs 
         load_is = left.load_is ∙ is;
         some = λ e. left.some (sym left.published_is ∙ e);
         how = inner.status;
-        ends = ends_load inner.status (load_setup program) inner (host_of (load_of count)).counts runs.left.counts runs.runs.served.bundles runs.runs.served.pinned runs.runs.cause left.some runs.runs.served.sides calm;
+        ends = ends_load inner.status (load_setup program) inner (host_of (load_of count)).counts runs.left.counts runs.runs.served.bundles runs.runs.served.pinned runs.runs.served.calls runs.runs.cause left.some runs.runs.served.sides calm;
         runs = subst (RunsInMemory program count) same runs;
         quiet = subst (AllByRecursion HasNoFault) (sym left.sides_are) calm;
         took = λ ended udp tcp journals.

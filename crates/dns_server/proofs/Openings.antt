@@ -49,6 +49,7 @@ use Rattle.chain_meaning.specs.Steps.{block_extras}
 use Rattle.dns_server.specs.Report.{RunData, CauseOf, Finishes, IsEndStatus, IsFirstStatus, IsServed, Left, ReadGave, RefusesNone, RunsBehind, RunsCommand, Supplies, WasAccepted, build_status, open_status, opened_by, side_pins, status_refusals, stopped_run}
 use Rattle.dns_server.specs.States.{RunSetup, SideRun}
 use Rattle.dns_server.specs.WatchRun.{Tells}
+use Rattle.dns_server.proofs.Histories.{no_history}
 use Rattle.dns_server.proofs.Opened.{none_taken, sides_count}
 
 -- nothing was published and nothing pinned
@@ -94,10 +95,12 @@ stops_open {stock} {setup} {before} {after} how watch back places scripts script
     one_each = each;
     back = inl (refl, refl);
     pinned = [];
+    calls = [];
     sides = tt;
     held = tt;
     lent = tt;
     pins = no_pins;
+    history = no_history (run_terms setup);
   };
   refused = λ none. refused;
   cause = cause;
@@ -213,10 +216,12 @@ serves setup before after how fresh read published plans places sides left is_fr
         one_each = one_each;
         back = inr by.scripts;
         pinned = by.pinned;
+        calls = by.calls;
         sides = by.tell;
         held = by.held;
         lent = by.lent;
         pins = by.pins;
+        history = by.history;
       };
       refused = λ none. absurd (some none);
       cause = end_cause left.stock setup before.counts after.counts (Some left.watch) left.sides left.published left.starved how some stands;
@@ -404,10 +409,12 @@ not_opened {stock} {setup} {before} {after} how told supply cause = record {
     one_each = refl;
     back = inl (refl, refl);
     pinned = [];
+    calls = [];
     sides = tt;
     held = tt;
     lent = tt;
     pins = no_pins;
+    history = no_history (run_terms setup);
   };
   refused = λ none. tt;
   cause = cause;
@@ -455,10 +462,12 @@ opened_before {setup} {run} {first} {before} {after} watch opens runs =
         one_each = behind.one_each;
         back = behind.back;
         pinned = behind.pinned;
+        calls = behind.calls;
         sides = behind.sides;
         held = behind.held;
         lent = behind.lent;
         pins = behind.pins;
+        history = behind.history;
       };
       refused = runs.refused;
       cause = subst (λ (c : HostCounts). CauseOf run.status setup run c after.counts) opens.counts runs.cause;

@@ -7,6 +7,7 @@ pub mod Caches
 pub mod Holding
 pub mod Lending
 pub mod WatchRun
+pub mod Readings
 pub mod Report
 pub mod Roles
 pub mod Loading

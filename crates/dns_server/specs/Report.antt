@@ -6,6 +6,8 @@ use Rattle.std.specs.Prelude.{length, map, reverse}
 use Rattle.std.specs.Prelude.{Option, None, Some, IfSome, option_map, Result, Ok, Err}
 use Rattle.std.specs.List.{flat_map, AllByRecursion}
 use Rattle.dns_data.specs.declared.limit.TheConstants as limits
+use Rattle.one_history.specs.Calls.{Call}
+use Rattle.outside.specs.declared.mark.Mark.{Mark}
 use Rattle.outside.specs.declared.mark.WatchMark.{WatchMark}
 use Rattle.outside.specs.Causes.{Rose, RoseBy, RoseJust, HostCounts}
 use Rattle.outside.specs.Hosts.{HostState, HostTold, IsFreshWatch, OpenedSide, SupplyData, AddsHost}
@@ -23,9 +25,9 @@ use Rattle.corefile_bundle.specs.Gathering.{GathersFrom, OneRead, marks_of}
 use Rattle.run_meaning.specs.declared.work_end.WorkEnd.{WorkEnd}
 use Rattle.run_meaning.specs.declared.work_end.WorkEnd.TheVariants as ends
 use Rattle.pin_core.specs.{OnePinRun, PinMark, pin_marks}
-use Rattle.query_worker.specs.{last_seen}
+use Rattle.query_worker.specs.{MakeCalls, last_seen}
 use Rattle.run_meaning.specs.Turn.{IsLawful}
-use Rattle.run_meaning.specs.Workers.{WorkerRun}
+use Rattle.run_meaning.specs.Workers.{Worked, WorkerRun}
 use Rattle.reload_watch.specs.declared.fault.ReadFault.{ReadFault}
 use Rattle.reload_watch.specs.declared.fault.ReadFault.TheVariants as fault
 use Rattle.chain_build.specs.{PlansData}
@@ -37,6 +39,7 @@ use Rattle.run_meaning.specs.WatchTurn.{AreLooks}
 use Rattle.run_meaning.specs.WatchRun.{EndsWatch}
 use Rattle.run_meaning.specs.Answers.{Refuses}
 use Rattle.reload_watch.specs.{all_refused, refusals_by}
+use Rattle.reload_watch.specs.Histories.{HaveOneHistory}
 use Rattle.run_meaning.specs.WatchTurn.{all_starved, bundles_of, watch_marks}
 use Rattle.dns_server.specs.declared.report.Ran.{Ran}
 use Rattle.chain_meaning.specs.declared.refusal.Refusal.{Refusal}
@@ -46,6 +49,7 @@ use Rattle.chain_meaning.specs.{Terms}
 use Rattle.chain_meaning.specs.Accepting.{IsAccepted}
 use Rattle.chain_meaning.specs.Steps.{block_extras}
 use Rattle.extra_stock.specs.{IsShort}
+use Rattle.dns_server.specs.Each.{Each3}
 use Rattle.dns_server.specs.Holding.{AreHeld, AreHeldBehind}
 use Rattle.dns_server.specs.Lending.{AreLent, AreLentBehind, lent_by}
 use Rattle.dns_server.specs.Opening.{BeginsSides, RefusesSides, TakesSides, WantsSides}
@@ -77,14 +81,22 @@ run_data side watch title ran = record {
   load = None;
 }
 
+-- a worker's run by the published bundles, under pins of these serials, the last one first, and its
+-- calls of what workers share: those that its datagrams made, one turn's behind another's
+pub record RunsWith (setup : RunSetup) (bundles : List Bundle) (pinned : List ℕ)
+    (calls : List (Call Mark)) (worked : Worked) (journal : List Mark) : Type 0 where
+  pub run : WorkerRun (IsLawful bundles (run_terms setup)) setup.most pinned worked journal
+  pub each : List (List (Call Mark))
+  pub made : MakeCalls bundles (run_terms setup) run.turns each
+  pub calls_are : calls ≡ flat_map (λ of_turn. of_turn) each
+
 -- a side that tells its journal tells a worker's run by the published bundles, under pins of these
--- serials, the last one first; the worker took no more than it was told, and has seen the last of
--- these serials; one that could not receive met 64 failing calls; and the side was told once that
--- its worker has ended
-pub record TellsRun (setup : RunSetup) (bundles : List Bundle) (pinned : List ℕ) (side : SideRun)
-    : Type 0 where
-  pub run : IfSome side.state.journal
-      (WorkerRun (IsLawful bundles (run_terms setup)) setup.most pinned side.worked)
+-- serials, the last one first, with these calls; the worker took no more than it was told, and has
+-- seen the last of these serials; one that could not receive met 64 failing calls; and the side was
+-- told once that its worker has ended
+pub record TellsRun (setup : RunSetup) (bundles : List Bundle) (pinned : List ℕ)
+    (calls : List (Call Mark)) (side : SideRun) : Type 0 where
+  pub run : IfSome side.state.journal (RunsWith setup bundles pinned calls side.worked)
   pub at_most : side.worked.taken ≤ setup.most
   pub seen : side.worked.seen < length bundles
   pub last : side.worked.seen ≡ last_seen pinned
@@ -92,13 +104,10 @@ pub record TellsRun (setup : RunSetup) (bundles : List Bundle) (pinned : List �
   pub starved : side.worked.end ≡ ends.NoMemory → 0 < side.worked.starved
   pub left : side.state.left ≡ 1
 
--- each side does, under pins of these serials
-abbrev pub TellEach : RunSetup → List Bundle → List (List ℕ) → List SideRun → Type 0
-TellEach setup bundles [] [] = Unit {0}
-TellEach setup bundles [] (side ∷ sides) = ⊥
-TellEach setup bundles (pinned ∷ others) [] = ⊥
-TellEach setup bundles (pinned ∷ others) (side ∷ sides) =
-    TellsRun setup bundles pinned side × TellEach setup bundles others sides
+-- each side does, under pins of these serials, with these calls
+abbrev pub TellEach : RunSetup → List Bundle → List (List ℕ) → List (List (Call Mark))
+    → List SideRun → Type 0
+TellEach setup bundles pinned calls sides = Each3 (TellsRun setup bundles) pinned calls sides
 
 -- the marks of pins of these serials, the last one first, by side
 abbrev pub side_pins : List (List ℕ) → List (List PinMark)
@@ -129,10 +138,12 @@ pub record Finishes (setup : RunSetup) (first : Bundle) (sides : List SideState)
   pub goes : WatchGoesOn watch left.watch
   pub scripts : map (λ side. side.state.script) left.sides ≡ scripts_of sides
   pub pinned : List (List ℕ)
-  pub tell : TellEach setup (bundles_of first looks) pinned left.sides
+  pub calls : List (List (Call Mark))
+  pub tell : TellEach setup (bundles_of first looks) pinned calls left.sides
   pub held : AreHeld pinned (first ∷ []) looks
   pub lent : AreLent (lent_by setup (length left.sides) left.stock) pinned (first ∷ []) looks
   pub pins : OnePinRun (length left.sides) left.published (side_pins pinned)
+  pub history : HaveOneHistory (run_terms setup) (bundles_of first looks) calls
 
 -- each published bundle is accepted
 pub record IsServed (terms : Terms) (bundle : Bundle) : Type 0 where
@@ -193,7 +204,8 @@ OpensSides setup run (bundle ∷ others) sides =
 
 -- a run by a command: one list of published bundles stands behind the watch's looks, the sides that
 -- were opened, and each side's journal; the pins and unpins of all sides and the publications are
--- one run of the machine of pins. A watch that was opened is handed back.
+-- one run of the machine of pins, and the calls of all sides one history of each cache. A watch
+-- that was opened is handed back.
 pub record ServesBy (setup : RunSetup) (run : RunData) (before after : HostState) : Type 0 where
   pub bundles : List Bundle
   pub count : length bundles ≡ run.published
@@ -209,10 +221,12 @@ pub record ServesBy (setup : RunSetup) (run : RunData) (before after : HostState
   pub one_each : length scripts ≡ length places
   pub back : HandsBack run.published run.sides scripts
   pub pinned : List (List ℕ)
-  pub sides : TellEach setup bundles pinned run.sides
+  pub calls : List (List (Call Mark))
+  pub sides : TellEach setup bundles pinned calls run.sides
   pub held : AreHeldBehind pinned bundles looks
   pub lent : AreLentBehind (lent_by setup (length run.sides) run.stock) pinned bundles looks
   pub pins : OnePinRun (length run.sides) run.published (side_pins pinned)
+  pub history : HaveOneHistory (run_terms setup) bundles calls
 
 -- nothing was published
 pub record IsRefused (run : RunData) (P : Type 0) : Type 0 where
@@ -334,10 +348,12 @@ pub record ServesBehind (setup : RunSetup) (run : RunData) (watch : WatchState)
   pub one_each : length scripts ≡ length places
   pub back : HandsBack run.published run.sides scripts
   pub pinned : List (List ℕ)
-  pub sides : TellEach setup bundles pinned run.sides
+  pub calls : List (List (Call Mark))
+  pub sides : TellEach setup bundles pinned calls run.sides
   pub held : AreHeldBehind pinned bundles looks
   pub lent : AreLentBehind (lent_by setup (length run.sides) run.stock) pinned bundles looks
   pub pins : OnePinRun (length run.sides) run.published (side_pins pinned)
+  pub history : HaveOneHistory (run_terms setup) bundles calls
 
 -- how many patterns a watch refused in a run that published nothing, by its status
 abbrev pub status_refusals : Status → ℕ

@@ -11,9 +11,11 @@ ghost use Rattle.dns_server.specs.Stocking.{data_weighs, stock_data};
 ghost use Rattle.extra_stock.specs.{names_weigh};
 ghost use Rattle.reload_watch.specs.{all_weigh};
 
+use crate::history::one_history;
 use crate::report::Done;
 use crate::roles::{Role, Shared, act_all, part, push_workers};
 use crate::setup::Setup;
+use all_home::all_home;
 use chain_build::{Chain, take_back};
 use extra_stock::Stock;
 use outside::{Side, Watch};
@@ -98,6 +100,8 @@ pub(crate) fn finish<
     } = watcher;
     let totals = table.close(publisher, passes, &mut home);
     take_back(&mut home, &mut stock, &mut caches);
+    all_home::<Chain<B, E>>();
+    one_history();
     Finished {
         dones,
         watch,

@@ -5,7 +5,9 @@
 
 mod ending;
 mod finishing;
+mod history;
 mod loading;
+mod reading;
 mod report;
 mod roles;
 mod rooms;

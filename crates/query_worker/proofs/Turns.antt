@@ -18,15 +18,15 @@ use Rattle.query_worker.specs.declared.worker.Tally.{Tally}
 use Rattle.run_meaning.specs.declared.work_end.WorkEnd.{WorkEnd}
 use Rattle.run_meaning.specs.declared.work_end.WorkEnd.TheVariants as ends
 use Rattle.query_worker.specs.Laws.{all_as}
-use Rattle.query_worker.specs.Pins.{PastPin, IsByPin, IsOfPass, TakeUnder, TellsPins, CountsPins}
+use Rattle.query_worker.specs.Pins.{PastPin, IsByPin, IsOfPass, TakeUnder, CountsPins}
 use Rattle.query_worker.specs.Pins.{last_seen, pinned_by}
 use Rattle.query_worker.specs.States.{worked_of}
 use Rattle.query_worker.specs.Tally.{TurnEnds, IsIdle, tallied, with_miss, starved_in_row}
 use Rattle.run_meaning.specs.Turn.{Turn, failed, unread, replied, silenced, starved, marks_of}
 use Rattle.run_meaning.specs.Turn.{datagrams, starved_in, serials, NeverFall, total}
-use Rattle.query_worker.specs.Worker.{TakesOne, AddsTurn, pin_of}
+use Rattle.query_worker.specs.Worker.{TakesOne, AddsTurn, RunsUnder, pin_of}
 use Rattle.run_meaning.specs.Workers.{Ending, last_row, last_unread, HasNoLongRow, NoneBehind}
-use Rattle.run_meaning.specs.Workers.{AreTurns, WorkerRun}
+use Rattle.run_meaning.specs.Workers.{AreTurns}
 
 total-push : (count : Turn → ℕ) (turns : List Turn) (turn : Turn) → total count (turns ++ turn ∷ []) ≡ total count turns + count turn
 total-push count [] turn = omega arith
@@ -399,8 +399,7 @@ module _ {B E : Type 0} {bk : rulebook.Ghosts B} {ex : extra.Ghosts E} where
 
   -- a worker's run that has ended
   pub record Stopped (most : ℕ) (a c : SideState) (q : PassView (Chain B E bk ex)) (t : Tally) (end : WorkEnd) : Type 0 where
-    pub run : Grows a c (WorkerRun (IsOfPass q.turns) most (pinned_by q) (worked_of t end))
-    pub pins : Grows a c (TellsPins q.turns)
+    pub run : Grows a c (RunsUnder q.turns most (worked_of t end))
     pub counts : CountsPins t q
     pub settled : q.taken ≡ None
 
@@ -409,8 +408,11 @@ module _ {B E : Type 0} {bk : rulebook.Ghosts B} {ex : extra.Ghosts E} where
       → marks ≡ flat_map marks_of turns ++ ending → AreTurns (IsOfPass q.turns) t.pins t.starved turns → TakeUnder (reverse q.turns) turns → AllByRecursion (λ n. n ≤ t.seen) (flat_map serials turns)
       → CountsPins t q → flat_map serials turns ≡ reverse (pinned_by q) → q.taken ≡ None → NoneBehind most 0 turns → t.pins ≤ most → Ending most (worked_of t end) turns end ending → Stopped most a c q t end
   closes {marks = marks} turns ending adds told are under seen counts pinned settled behind le ends = record {
-    run = record { marks = marks; told = adds; are = record { turns = turns; ending = ending; told = told; are = are; at_most = le; none_behind = behind; pinned_are = pinned; seen_all = seen; ends = ends } };
-    pins = record { marks = marks; told = adds; are = record { turns = turns; ending = ending; told = told; under = under } };
+    run = record {
+      marks = marks;
+      told = adds;
+      are = record { run = record { turns = turns; ending = ending; told = told; are = are; at_most = le; none_behind = behind; pinned_are = pinned; seen_all = seen; ends = ends }; under = under };
+    };
     counts = counts;
     settled = settled;
   }

@@ -80,7 +80,6 @@ module _ {B E : Type 0} {bk : rulebook.Ghosts B} {ex : extra.Ghosts E} where
       let stays = stays-then was.stays takes.stays in
       subst (λ (x : SideState). WorksToEnd most start (record after { side = x }) end) (sym left) (record {
         run = left_run stopped.run;
-        pins = left_run stopped.pins;
         counts = stopped.counts;
         settled = stopped.settled;
         number = same_number takes.what before.pass after.pass takes.told.marks takes.told.are ∙ was.number;

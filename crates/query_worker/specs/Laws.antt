@@ -32,7 +32,7 @@ all_as P Q to [] are = tt
 all_as P Q to (turn ∷ turns) are = (to turn are.0, all_as P Q to turns are.1)
 
 -- turns that are lawful in one way, and so in another
-pub run_as : {most : ℕ} {pinned : List ℕ} {worked : Worked} {journal : List Mark}
+abbrev pub run_as : {most : ℕ} {pinned : List ℕ} {worked : Worked} {journal : List Mark}
     (P Q : Turn → Type 0)
     → ((turn : Turn) → P turn → Q turn)
     → WorkerRun P most pinned worked journal

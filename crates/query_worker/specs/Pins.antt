@@ -1,7 +1,7 @@
 -- The pins of a worker's pass, and the turns that stand for them. This server's own rule.
-use Rattle.std.specs.Prelude.{◌≡◌, ◌≤◌, ◌<◌, ◌⊎◌, ℕ, ◌+◌, List, [], ◌∷◌, ◌++◌, length, reverse}
+use Rattle.std.specs.Prelude.{◌≡◌, ◌≤◌, ◌<◌, ◌⊎◌, ℕ, ◌+◌, List, [], ◌∷◌, length}
 use Rattle.std.specs.Prelude.{None, Some, slice_get}
-use Rattle.std.specs.List.{flat_map, AllByRecursion}
+use Rattle.std.specs.List.{AllByRecursion}
 use Rattle.outside.specs.declared.datagram.Datagram.{Datagram}
 use Rattle.outside.specs.declared.mark.Mark.{Mark}
 use Rattle.corefile_blocks.specs.declared.bundle.Bundle.{Bundle}
@@ -23,7 +23,7 @@ use Rattle.chain_meaning.specs.{Ground}
 use Rattle.query_worker.specs.declared.worker.Tally.{Tally}
 use Rattle.query_worker.specs.declared.worker.Worker.{Worker}
 use Rattle.query_worker.specs.Tally.{IsIdle}
-use Rattle.run_meaning.specs.Turn.{Turn, failed, unread, replied, silenced, starved, marks_of}
+use Rattle.run_meaning.specs.Turn.{Turn, failed, unread, replied, silenced, starved}
 
 -- the serials that a pass has pinned, the last one first
 abbrev pub pinned_by : {C : Type 0} → PassView C → List ℕ
@@ -91,14 +91,6 @@ module _ {B E : Type 0} {b : rulebook.Ghosts B} {e : extra.Ghosts E} where
   TakeUnder (pin ∷ pins) (unread ∷ turns) = TakeUnder (pin ∷ pins) turns
   TakeUnder [] (turn ∷ turns) = ⊥
   TakeUnder (pin ∷ pins) (turn ∷ turns) = IsByPin pin turn × TakeUnder pins turns
-
-  -- the journal is a list of turns and an ending, and the turns that took a datagram did so under
-  -- just these pins, the last one first, in order
-  pub record TellsPins (pins : List (PastPin (Chain B E b e))) (journal : List Mark) : Type 0 where
-    pub turns : List Turn
-    pub ending : List Mark
-    pub told : journal ≡ flat_map marks_of turns ++ ending
-    pub under : TakeUnder (reverse pins) turns
 
   -- the chain of the pin is of the bundle that was published with its serial, on this basis
   abbrev pub IsOf : List Bundle → Ground → PastPin (Chain B E b e) → Type 0

@@ -1,6 +1,7 @@
 -- A turn of a worker and all that it does, by its side, its pass and what it counts. This server's
 -- own rule.
 use Rattle.std.specs.Prelude.{◌≡◌, ◌≤◌, ◌<◌, ℕ, ◌+◌, Bool, List, [], ◌∷◌, Option, None}
+use Rattle.std.specs.Prelude.{reverse}
 use Rattle.dns_data.specs.declared.limit.TheConstants as limits
 use Rattle.outside.specs.declared.mark.Mark.{Mark}
 use Rattle.outside.specs.declared.mark.Mark.TheVariants.{RecvEnd, RecvFailed, Sent}
@@ -8,6 +9,7 @@ use Rattle.outside.specs.Causes.{NoneFell, Rose, RoseBy, raised}
 use Rattle.outside.specs.Marks.{Adds, Grows}
 use Rattle.outside.specs.States.{SideState, Stays}
 use Rattle.pin_table.specs.declared.views.PassView.{PassView}
+use Rattle.pin_table.specs.Known.{turn_serials}
 use Rattle.pin_table.specs.Steps.{idle_pass}
 use Rattle.chain_meaning.specs.declared.served.Served.{Served}
 use Rattle.chain_meaning.specs.declared.served.Served.TheVariants.{Reply, Silent, NoMemory}
@@ -19,11 +21,11 @@ use Rattle.query_worker.specs.declared.turn.Turned.{Turned}
 use Rattle.query_worker.specs.declared.turn.Turned.TheVariants as turned
 use Rattle.run_meaning.specs.declared.work_end.WorkEnd.{WorkEnd}
 use Rattle.run_meaning.specs.declared.work_end.WorkEnd.TheVariants as ends
-use Rattle.query_worker.specs.Pins.{CountsPins, IsByPin, IsOfPass, PastPin, TellsPins, pinned_by}
+use Rattle.query_worker.specs.Pins.{CountsPins, IsByPin, IsOfPass, PastPin, TakeUnder}
 use Rattle.query_worker.specs.States.{WorkerState, worked_of}
 use Rattle.query_worker.specs.Tally.{TurnEnds, tallied}
 use Rattle.run_meaning.specs.Turn.{Turn, marks_of, starved_in}
-use Rattle.run_meaning.specs.Workers.{WorkerRun}
+use Rattle.run_meaning.specs.Workers.{Worked, WorkerRun}
 
 -- a pin that gave this chain, and how it came home
 abbrev pub pin_of : {C : Type 0} → ℕ → C → C → PastPin C
@@ -87,14 +89,19 @@ module _ {B E : Type 0} {b : rulebook.Ghosts B} {e : extra.Ghosts E} where
     pub failed : what ≡ turned.RecvFailed → Rose before.side.counts.recv after.side.counts.recv
     pub stays : Stays before.side after.side
 
+  -- the journal is that of a worker's run by these pins, the last one first; its turns that took a
+  -- datagram did so under just these, in order
+  pub record RunsUnder (pins : List (PastPin (Chain B E b e))) (most : ℕ) (worked : Worked)
+      (journal : List Mark) : Type 0 where
+    pub run : WorkerRun (IsOfPass pins) most (turn_serials pins) worked journal
+    pub under : TakeUnder (reverse pins) run.turns
+
   -- all that a worker did until it ended so: the run that its side's journal tells, by the pins
   -- that its pass made, and what it counted
   pub record WorksToEnd (most : ℕ) (before after : WorkerState (Chain B E b e))
       (end : WorkEnd) : Type 0 where
     pub run : Grows before.side after.side
-        (WorkerRun (IsOfPass after.pass.turns) most (pinned_by after.pass)
-        (worked_of after.tally end))
-    pub pins : Grows before.side after.side (TellsPins after.pass.turns)
+        (RunsUnder after.pass.turns most (worked_of after.tally end))
     pub counts : CountsPins after.tally after.pass
     pub number : after.pass.worker ≡ before.pass.worker
     pub settled : after.pass.taken ≡ None

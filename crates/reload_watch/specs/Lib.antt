@@ -8,6 +8,10 @@ pub mod KeepsLaws
 pub mod AccountsLaws
 pub mod StartLaws
 pub mod EndLaws
+pub mod TurningLaws
+pub mod GenerationsLaws
+pub mod HistoryLaws
+pub mod Histories
 pub mod Keeping
 pub mod Look
 pub mod Looked

@@ -1,7 +1,9 @@
 -- A run of which no call failed ends by no status that a failing call brings.
 use Rattle.std.proofs.Common.{◌≡◌, ◌≢◌, ◌⊎◌, ℕ, List, [], ◌∷◌, Option, None, Some, IfSome, option_map, refl, sym, ap, ◌∙◌, subst, inl, inr, ⊎_elim, arith}
 use Rattle.std.specs.List.{AllByRecursion}
+use Rattle.one_history.specs.Calls.{Call}
 use Rattle.outside.specs.declared.datagram.Wrote.{Wrote}
+use Rattle.outside.specs.declared.mark.Mark.{Mark}
 use Rattle.outside.specs.declared.datagram.Wrote.TheVariants as wrote
 use Rattle.outside.specs.Causes.{Rose}
 use Rattle.outside.specs.Hosts.{HostState, TellsOneLine}
@@ -33,13 +35,15 @@ pub record NoneFailed (run : RunData) (before after : HostState) : Type 0 where
   pub opens : after.counts.opens ≡ 0
   pub tells : after.counts.tells ≡ 0
 
-no_side : (setup : RunSetup) (bundles : List Bundle) (pinned : List (List ℕ)) (sides : List SideRun) → TellEach setup bundles pinned sides → AllByRecursion Receives sides → SomeFailed sides → ⊥
-no_side setup bundles [] [] tell all some = some
-no_side setup bundles [] (side ∷ sides) tell all some = tell
-no_side setup bundles (serials ∷ pinned) [] tell all some = some
-no_side setup bundles (serials ∷ pinned) (side ∷ sides) tell all (inl is) =
+no_side : (setup : RunSetup) (bundles : List Bundle) (pinned : List (List ℕ)) (calls : List (List (Call Mark))) (sides : List SideRun) → TellEach setup bundles pinned calls sides → AllByRecursion Receives sides → SomeFailed sides → ⊥
+no_side setup bundles [] [] [] tell all some = some
+no_side setup bundles [] [] (side ∷ sides) tell all some = tell
+no_side setup bundles [] (c ∷ calls) sides tell all some = tell
+no_side setup bundles (serials ∷ pinned) [] sides tell all some = tell
+no_side setup bundles (serials ∷ pinned) (c ∷ calls) [] tell all some = some
+no_side setup bundles (serials ∷ pinned) (c ∷ calls) (side ∷ sides) tell all (inl is) =
     let rose = tell.0.failed is in let none = all.0 in absurd (omega (arith, rose, none))
-no_side setup bundles (serials ∷ pinned) (side ∷ sides) tell all (inr some) = no_side setup bundles pinned sides tell.1 all.1 some
+no_side setup bundles (serials ∷ pinned) (c ∷ calls) (side ∷ sides) tell all (inr some) = no_side setup bundles pinned calls sides tell.1 all.1 some
 
 went_out : {line : List ℕ} {named final : Status} {before after : HostState} (result : Wrote) → TellsOneLine before after line result → final ≡ after_tell result named → after.counts.tells ≡ 0 → final ≡ named
 went_out wrote.Ok tells is none = is
@@ -81,7 +85,7 @@ module _ {program : Program} {words : List (List ℕ)} {env : List Pair} {run : 
   no_worker_fails is =
       let how = ends status.WorkerFailed (λ e. absurd cc) is in
       caused status.WorkerFailed how (λ e. absurd cc) (λ setup runs.
-      no_side setup runs.served.bundles runs.served.pinned run.sides runs.served.sides none.sides (cause_of status.WorkerFailed how runs).some)
+      no_side setup runs.served.bundles runs.served.pinned runs.served.calls run.sides runs.served.sides none.sides (cause_of status.WorkerFailed how runs).some)
 
   pub no_read_fails : (name : List ℕ) → run.status ≢ status.ReadFailed name
   no_read_fails name is =

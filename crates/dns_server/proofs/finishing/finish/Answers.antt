@@ -13,6 +13,9 @@ use Rattle.reload_watch.specs.{all_weigh, chain_seats, chain_weighs}
 use Rattle.dns_server.specs.Stocking.{count_name, stock_data}
 use Rattle.lent_caches.specs.Held.{caches_data}
 use Rattle.pin_table.specs.{plan_of}
+use Rattle.pin_table.specs.Closing.{joined_plan}
+use Rattle.reload_watch.specs.Histories.{IsHome}
+use Rattle.reload_watch.specs.HistoryLaws.{home_asks}
 use Rattle.dns_server.proofs.Caching.{closed_held}
 use Rattle.dns_server.proofs.Leaving.{finishes, idle_all, part_count, parted, zip_count}
 use Rattle.dns_server.proofs.Joining.{all_worked, leave}
@@ -178,7 +181,23 @@ returns-clause-finishes g c =
     let more = c.take_back.ensures.weighs w in
     let all = both.1.extras.weighs w in
     names_map title w c.take_back.new.stock.spare.items ∙ omega (arith, moved, none, more, all) in
-    finishes side watch (run_setup c.args.setup g.B.Rulebook.taken g.B.Rulebook.said (map g.E.Extra.title o.watcher.stock.judges.items)) o c.in-Some-Watch.watcher c.part.new.dones.items c.part.new.passes.items others c.close-totals.result.published (stock_data g.E.Extra.title c.take_back.new.stock) spare_is refl c.requires.opened both.1 leaves end.published end.closed end.traced
+    let w = c.in-Some-Watch.watcher in
+    let passes = c.part.new.passes.items in
+    let count = part_count IsPart others c.part.new.dones.items passes c.part.ensures in
+    let ended = zip_count (Becomes side watch task) starts others both.0 in
+    let start = start_count o.table 0 o.sides.items starts c.push_workers.ensures.start in
+    let asks = home_asks o.table w passes keeps in
+    let home : IsHome o.table w passes c.close-totals.new.home.items = record {
+      keeps = keeps;
+      each = omega (arith, count, ended, start, c.requires.opened.workers, both.1.workers);
+      closed = end.closed;
+      traced = end.traced;
+      home_is = end.home;
+      sum = λ f of. end.sum f of keeps.stands;
+      all = c.all_home.ensures (joined_plan (plan_of w.publisher) passes) (omega (arith, keeps.workers, keeps.few)) asks.0 asks.1;
+      whole = c.take_back.ensures.whole;
+    } in
+    finishes side watch (run_setup c.args.setup g.B.Rulebook.taken g.B.Rulebook.said (map g.E.Extra.title o.watcher.stock.judges.items)) o c.in-Some-Watch.watcher c.part.new.dones.items c.part.new.passes.items others c.close-totals.result.published (stock_data g.E.Extra.title c.take_back.new.stock) spare_is refl c.requires.opened both.1 leaves end.published end.closed end.traced c.close-totals.new.home.items home (λ readings pins is. c.one_history.ensures readings pins is)
 
 pub take_back-requires-clause-obey : goal.take_back-requires-clause-obey
 take_back-requires-clause-obey g c =

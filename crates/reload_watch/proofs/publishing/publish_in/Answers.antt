@@ -15,7 +15,7 @@ use Rattle.lent_caches.specs.Building.{CanLendTimes, lent_times}
 use Rattle.lent_caches.specs.Held.{caches_data}
 use Rattle.reload_watch.specs.NextLaws.{Keeps, next_absent, next_can, next_keeps, next_out, next_served, next_undone}
 use Rattle.reload_watch.specs.Named.{AreNamed}
-use Rattle.reload_watch.specs.NamedLaws.{named-push, names_on, of_plans}
+use Rattle.reload_watch.specs.NamedLaws.{have_caches, named-push, names_on, of_plans}
 use Rattle.reload_watch.proofs.Caching.{long_last, naming_is}
 use Rattle.reload_watch.proofs.Stocked.{short_less}
 use Rattle.outside.specs.declared.mark.WatchMark.TheVariants.{Published}
@@ -183,7 +183,8 @@ returns-in-Ok-build-clause-keeping g c =
       served = next_served p held naming is c.args.plans next mid named.are named.names after chains (caches_data c.build.new.caches) pub_is.published built.made.by long lent;
       named = subst AreNamed (sym pub_is.published.filled)
           (named-push p.past.filled current next chains (count_of p) k.named k.current (long_last c.args.table.now w k) k.count
-          (names_on naming _ next (plans_generation current) (count_of p) (of_plans current naming.before of) c.published-serial.ensures named.names.names) built.made.by);
+          (names_on naming _ next (plans_generation current) (count_of p) (of_plans current naming.before of) c.published-serial.ensures named.names.names)
+          (have_caches g.B.Rulebook.taken g.B.Rulebook.said naming _ next named.are named.names.names) built.made.by);
       accounted = pub_is.accounted;
     }
 

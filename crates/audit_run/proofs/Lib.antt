@@ -6,7 +6,7 @@ pub mod Followed
 pub mod Judged
 pub mod Tails
 pub mod Walked
-pub mod Turned
 pub mod Sided
+pub mod Turned
 pub mod Worked
 pub mod Unworked

@@ -1,5 +1,5 @@
 -- How a turn ends.
-use Rattle.std.proofs.Common.{◌≡◌, ℕ, Bool, List, [], ◌∷◌, length, Option, Some, None, refl}
+use Rattle.std.proofs.Common.{◌≡◌, ℕ, Bool, List, [], ◌∷◌, ◌++◌, length, Option, Some, None, refl}
 use Rattle.std.proofs.Common.{sym, ap, ◌∙◌, inl, inr, subst}
 use Rattle.std.specs.Prelude.{◌⊎◌}
 use Rattle.outside.specs.declared.mark.Mark.{Mark}
@@ -20,6 +20,26 @@ nothing_more a xs e = cc
 sent_apart : (reply : List ℕ) (out : Bool) (serial : ℕ) → Sent reply out ≡ Unpinned serial → ⊥
 sent_apart reply out serial e = cc
 
+-- where memory ran out the turn ends at once
+unpins : (reply : Option (List ℕ)) (serial : ℕ) (more : List Mark)
+    → TurnTail reply serial (Unpinned serial ∷ more) more
+unpins None serial more = refl
+unpins (Some reply) serial more = inr refl
+
+-- no mark is left
+pub none_early : (reply : Option (List ℕ)) (serial : ℕ) → EndsTurn reply serial [] (tail.Fails 0)
+none_early reply serial = inr (record {
+  number = refl;
+  never = λ more t. never reply more t;
+  other = Unpinned serial ∷ [];
+  may = λ more. unpins reply serial more;
+})
+  where
+    never : (r : Option (List ℕ)) (more : List Mark) → TurnTail r serial [] more → ⊥
+    never None more t = nothing_more (Unpinned serial) more t
+    never (Some bytes) more (inl t) = nothing_more (Sent bytes t.0) (Unpinned serial ∷ more) t.1
+    never (Some bytes) more (inr t) = nothing_more (Unpinned serial) more t
+
 module _ (serial : ℕ) (first : Mark) (rest : List Mark) where
   -- the first mark may not stand there
   bad_at_first : (reply : Option (List ℕ))
@@ -32,6 +52,8 @@ module _ (serial : ℕ) (first : Mark) (rest : List Mark) where
     is = refl;
     number = refl;
     never = never;
+    other = Unpinned serial ∷ [];
+    may = λ more. unpins reply serial more;
   })
 
   pub no_reply_bad : (first ≡ Unpinned serial → ⊥)
@@ -64,6 +86,10 @@ module _ (serial : ℕ) (first : Mark) (rest : List Mark) where
           (rest_of first (Sent reply t.0) [] (Unpinned serial ∷ more) t.1)
       early more (inr t) = no_unpin (first_of first (Unpinned serial) [] more t)
 
+      sends : (more : List Mark)
+          → TurnTail (Some reply) serial (first ∷ Unpinned serial ∷ more) more
+      sends more = inl (out, ap (λ m. m ∷ Unpinned serial ∷ more) is)
+
       bad_second : (bad : Mark) → (bad ≡ Unpinned serial → ⊥) → (other more : List Mark)
           → TurnTail (Some reply) serial (first ∷ bad ∷ other) more → ⊥
       bad_second bad no_second other more (inl t) =
@@ -78,6 +104,9 @@ module _ (serial : ℕ) (first : Mark) (rest : List Mark) where
         number = ap (λ l. length (first ∷ l)) e ∙ sym h.0;
         never = λ more t. early more
             (subst (λ l. TurnTail (Some reply) serial (first ∷ l) more) e t);
+        other = Unpinned serial ∷ [];
+        may = λ more. subst (λ l. TurnTail (Some reply) serial
+            (first ∷ (l ++ Unpinned serial ∷ more)) more) (sym e) (sends more);
       })
       by (bad ∷ left) e = inl (record {
         front = first ∷ [];
@@ -86,4 +115,6 @@ module _ (serial : ℕ) (first : Mark) (rest : List Mark) where
         is = ap (λ l. first ∷ l) e;
         number = sym h.0;
         never = bad_second bad (h.1 bad left e);
+        other = Unpinned serial ∷ [];
+        may = sends;
       })

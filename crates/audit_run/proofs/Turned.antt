@@ -1,12 +1,11 @@
 -- What a turn of a side's journal comes to.
-use Rattle.std.proofs.Common.{◌≡◌, ◌≤◌, ◌<◌, ◌+◌, ℕ, List, [], ◌∷◌, ◌++◌, length, length-append}
+use Rattle.std.proofs.Common.{◌≡◌, ◌≤◌, ◌+◌, ℕ, true, List, [], ◌∷◌, ◌++◌, length, length-append}
 use Rattle.std.proofs.Common.{Option, Some, None, refl, sym, ap, subst, ◌∙◌, inl, inr, arith}
 use Rattle.std.proofs.Common.{append_assoc}
 use Rattle.std.specs.Prelude.{◌⊎◌}
-use Rattle.dns_data.specs.declared.limit.TheConstants as limits
 use Rattle.outside.specs.declared.datagram.Datagram.{Datagram}
 use Rattle.outside.specs.declared.mark.Mark.{Mark}
-use Rattle.outside.specs.declared.mark.Mark.TheVariants.{Got, Pinned}
+use Rattle.outside.specs.declared.mark.Mark.TheVariants.{Got, Pinned, Sent, Unpinned}
 use Rattle.chain_meaning.specs.declared.served.Served.{Served}
 use Rattle.chain_meaning.specs.declared.served.Served.TheVariants.{NoMemory, Reply, Silent}
 use Rattle.run_meaning.specs.declared.work_end.WorkEnd.{WorkEnd}
@@ -14,14 +13,24 @@ use Rattle.audit_run.specs.declared.walk.Walk.{Walk}
 use Rattle.audit_run.specs.Own.{AllOwn, behind_own, own_part}
 use Rattle.audit_run.specs.declared.turn_meaning.TurnMeans.{TurnMeans}
 use Rattle.audit_run.specs.declared.turn_meaning.TurnMeans.TheVariants as means
-use Rattle.audit_run.specs.Walking.{HasReply, HasReplyOr, TailEndsEarly, TailIsBad, TurnTail}
-use Rattle.audit_run.specs.Walking.{behind_datagram, reply_in}
-use Rattle.audit_run.specs.Walks.{EndsEarly, FailsAt, GoesOn, IsBad, IsOffAt, MayEnd, Meanings}
-use Rattle.audit_run.specs.Walks.{MeansSo, TurnEnds}
+use Rattle.audit_run.specs.declared.walk.Step.{Step}
+use Rattle.audit_run.specs.declared.walk.Step.TheVariants as step
+use Rattle.audit_run.specs.Walking.{HasReply, HasReplyOr, MayTake, PinsSo, TailEndsEarly, TailIsBad}
+use Rattle.audit_run.specs.Walking.{TurnTail, TurnsSo, behind_datagram, reply_in}
+use Rattle.audit_run.specs.Walks.{EndsEarly, FailsAt, GoesOn, GoesSomehow, IsBad, IsOffAt, MayEnd}
+use Rattle.audit_run.specs.Walks.{Meanings, MeansSo, TurnEnds}
+use Rattle.audit_run.proofs.Sided.{taken_goes}
 use Rattle.audit_run.proofs.Tails.{first_of, nothing_more}
 use Rattle.audit_run.proofs.Walked.{both_parts, head_none, none_behind, own_all}
 use Rattle.audit_run.proofs.Walked.{own_front, own_is, behind_is, tail_front, turn_at, turn_in}
 use Rattle.audit_run.proofs.Walked.{turn_out}
+
+-- some marks of a turn's end
+some_end : (served : Served) (serial : ℕ) (more : List Mark)
+    → (tail : List Mark) × TurnEnds served serial tail more
+some_end (Reply reply) serial more = (Sent reply true ∷ Unpinned serial ∷ more, (true, refl))
+some_end (Silent why) serial more = (Unpinned serial ∷ more, refl)
+some_end NoMemory serial more = (Unpinned serial ∷ more, refl)
 
 pub pin_same : (s t : ℕ) → Pinned s ≡ Pinned t → s ≡ t
 pin_same s t e = cc
@@ -32,9 +41,52 @@ module _ (serves : Meanings) (most : ℕ) (end : WorkEnd)
   abbrev Ends : Walk → List Mark → Type 0
   Ends v marks = MayEnd serves most end v marks
 
-  module _ (serial : ℕ) (behind : List Mark) (reply : Option (List ℕ))
+  -- a turn that met want of memory at once
+  starved_turn : (serial : ℕ) → MayTake most end w serial → serves serial d [] NoMemory
+      → (other : List Mark) → Ends (behind_datagram w serial) other
+      → Ends w (Got d ∷ Pinned serial ∷ Unpinned serial ∷ other)
+  starved_turn serial take so other goes =
+      turn_in serves most end w d (Pinned serial ∷ Unpinned serial ∷ other) take.more take.few
+      (record {
+        serial = serial;
+        marks = [];
+        served = NoMemory;
+        tail = Unpinned serial ∷ other;
+        more = other;
+        low = take.low;
+        serves_so = so;
+        is = refl;
+        tail_is = refl;
+        goes = goes;
+      })
+
+  module _ (serial : ℕ) (take : MayTake most end w serial) (behind : List Mark)
+      (reply : Option (List ℕ))
       (has : HasReply (λ marks served. serves serial d marks served) (own_part behind) serial reply)
     where
+      -- what may follow this turn
+      follows : GoesSomehow serves most end (behind_datagram w serial)
+      follows = taken_goes serves most end w serial take.behind
+
+      -- a turn with the marks that serving made, and this tail
+      tailed : (tail : List Mark) → TurnTail reply serial tail follows.0
+          → Ends w (Got d ∷ Pinned serial ∷ (own_part behind ++ tail))
+      tailed tail is =
+          let one = has.one tail follows.0 is in
+          turn_in serves most end w d (Pinned serial ∷ (own_part behind ++ tail)) take.more take.few
+          (record {
+            serial = serial;
+            marks = own_part behind;
+            served = one.0;
+            tail = tail;
+            more = follows.0;
+            low = take.low;
+            serves_so = one.1;
+            is = refl;
+            tail_is = one.2;
+            goes = follows.1;
+          })
+
       -- with other marks behind those that serving made
       other_at : (tail : List Mark) → own_part tail ≡ [] → behind_own tail ≡ tail
           → Ends w (Got d ∷ Pinned serial ∷ (own_part behind ++ tail))
@@ -53,11 +105,10 @@ module _ (serves : Meanings) (most : ℕ) (end : WorkEnd)
             t.goes,
           )
 
-      pub goes_on : w.taken < most → w.row < limits.FAILURES → w.last ≤ serial → (more : List Mark)
-          → TurnTail reply serial (behind_own behind) more
+      pub goes_on : (more : List Mark) → TurnTail reply serial (behind_own behind) more
           → GoesOn serves most end w (Got d ∷ Pinned serial ∷ behind)
           (behind_datagram w serial) more
-      goes_on many few low more tail =
+      goes_on more tail =
           let t = tail_front reply serial (behind_own behind) more tail in
           let m = own_part behind in
           let split : (other : List Mark) → (m ++ t.front) ++ other ≡ m ++ (t.front ++ other) =
@@ -69,14 +120,14 @@ module _ (serves : Meanings) (most : ℕ) (end : WorkEnd)
             some = omega arith;
             on = λ other goes.
                 let one = has.one (t.front ++ other) other (t.on other) in
-                turn_in serves most end w d (Pinned serial ∷ ((m ++ t.front) ++ other)) many few
-                (record {
+                turn_in serves most end w d (Pinned serial ∷ ((m ++ t.front) ++ other)) take.more
+                take.few (record {
                   serial = serial;
                   marks = m;
                   served = one.0;
                   tail = t.front ++ other;
                   more = other;
-                  low = low;
+                  low = take.low;
                   serves_so = one.1;
                   is = ap (λ l. Pinned serial ∷ l) (split other);
                   tail_is = one.2;
@@ -86,6 +137,7 @@ module _ (serves : Meanings) (most : ℕ) (end : WorkEnd)
                 let o = other_at (t.front ++ other) (t.none other) (t.all other)
                 (subst (λ l. Ends w (Got d ∷ Pinned serial ∷ l)) (split other) h) in
                 subst (λ l. Ends (behind_datagram w serial) l) (t.one other o.0 o.1) o.2;
+            goes = follows;
           }
 
       -- a mark of the turn's end may not stand there
@@ -112,6 +164,10 @@ module _ (serves : Meanings) (most : ℕ) (end : WorkEnd)
                 let o = other_at (t.front ++ t.bad ∷ other) none.0 none.1
                 (subst (λ l. Ends w (Got d ∷ Pinned serial ∷ l)) (joined other) h) in
                 t.never other o.0 o.1;
+            other = t.other ++ follows.0;
+            may = subst (λ l. Ends w (Got d ∷ Pinned serial ∷ l))
+                (sym (append_assoc m t.front (t.other ++ follows.0)))
+                (tailed (t.front ++ (t.other ++ follows.0)) (t.may follows.0));
           }
         where
           no_own : (front : List Mark) (bad : Mark) (rest other : List Mark)
@@ -136,6 +192,11 @@ module _ (serves : Meanings) (most : ℕ) (end : WorkEnd)
             never = λ h.
                 let u = turn_at serves most end own w d serial behind h in
                 t.never u.more (has.all u.served (behind_own behind) u.more u.serves_so u.tail_is);
+            more = t.other ++ follows.0;
+            may = subst (λ l. Ends w (Got d ∷ Pinned serial ∷ l))
+                (sym (ap (λ l. l ++ (t.other ++ follows.0)) (both_parts behind)
+                ∙ append_assoc m (behind_own behind) (t.other ++ follows.0)))
+                (tailed (behind_own behind ++ (t.other ++ follows.0)) (t.may follows.0));
           }
 
       pub tail_fails : (at : ℕ)
@@ -147,11 +208,13 @@ module _ (serves : Meanings) (most : ℕ) (end : WorkEnd)
       tail_fails at (inr t) = inr (tail_early at t)
 
   -- a mark that serving may not have made
-  pub off_bad : (serial : ℕ) (behind : List Mark) (at : ℕ)
+  pub off_bad : (serial : ℕ) → MayTake most end w serial → (behind : List Mark) (at : ℕ)
       → IsOffAt (λ marks served. serves serial d marks served) (own_part behind) at
       → IsBad serves most end w (Got d ∷ Pinned serial ∷ behind) (2 + at)
-  off_bad serial behind at off =
+  off_bad serial take behind at off =
       let tail = behind_own behind in
+      let follows = taken_goes serves most end w serial take.behind in
+      let ends = some_end off.served serial follows.0 in
       let number = off.number in
       record {
         front = Got d ∷ Pinned serial ∷ off.front;
@@ -168,14 +231,29 @@ module _ (serves : Meanings) (most : ℕ) (end : WorkEnd)
             own_front off.front off.bad off.rest other (subst AllOwn off.is (own_all behind)) in
             off.never (own_part other) u.served
             (subst (λ l. serves serial d l u.served) marks u.serves_so);
+        other = off.other ++ ends.0;
+        may = turn_in serves most end w d (Pinned serial ∷ (off.front ++ (off.other ++ ends.0)))
+            take.more take.few (record {
+              serial = serial;
+              marks = off.front ++ off.other;
+              served = off.served;
+              tail = ends.0;
+              more = follows.0;
+              low = take.low;
+              serves_so = off.may;
+              is = ap (λ l. Pinned serial ∷ l) (sym (append_assoc off.front off.other ends.0));
+              tail_is = ends.1;
+              goes = follows.1;
+            });
       }
 
   -- a pin that may not stand there
-  pub pin_bad : (first : Mark) (rest : List Mark)
+  pub pin_bad : MayTake most end w w.last → serves w.last d [] NoMemory → (first : Mark)
+      (rest : List Mark)
       → ((serial : ℕ) (marks : List Mark) (served : Served) → first ≡ Pinned serial
       → w.last ≤ serial → serves serial d marks served → ⊥)
       → IsBad serves most end w (Got d ∷ first ∷ rest) 1
-  pin_bad first rest never = record {
+  pin_bad take so first rest never = record {
     front = Got d ∷ [];
     bad = first;
     rest = rest;
@@ -185,15 +263,41 @@ module _ (serves : Meanings) (most : ℕ) (end : WorkEnd)
         let t = (turn_out serves most end w d (first ∷ other) h).2 in
         never t.serial t.marks t.served
         (first_of first (Pinned t.serial) other (t.marks ++ t.tail) t.is) t.low t.serves_so;
+    other = Pinned w.last ∷ Unpinned w.last ∷ (taken_goes serves most end w w.last take.behind).0;
+    may = starved_turn w.last take so (taken_goes serves most end w w.last take.behind).0
+        (taken_goes serves most end w w.last take.behind).1;
   }
 
-  pub no_pin : EndsEarly serves most end w (Got d ∷ []) 1
-  no_pin = record {
+  pub no_pin : MayTake most end w w.last → serves w.last d [] NoMemory
+      → EndsEarly serves most end w (Got d ∷ []) 1
+  no_pin take so = record {
     number = refl;
     never = λ h.
         let t = (turn_out serves most end w d [] h).2 in
         nothing_more (Pinned t.serial) (t.marks ++ t.tail) t.is;
+    more = Pinned w.last ∷ Unpinned w.last ∷ (taken_goes serves most end w w.last take.behind).0;
+    may = starved_turn w.last take so (taken_goes serves most end w w.last take.behind).0
+        (taken_goes serves most end w w.last take.behind).1;
   }
+
+  -- a turn behind its pin
+  pub pins_turn : (serial : ℕ) (behind : List Mark) (step : Step) → w.last ≤ serial
+      → PinsSo serves serial d behind step → MayTake most end w w.last
+      → TurnsSo serves most end w d (Pinned serial ∷ behind) step
+  pins_turn serial behind (step.Goes other more) low so take =
+      subst (λ s. GoesOn serves most end w (Got d ∷ Pinned serial ∷ behind) (behind_datagram w s)
+      more.now) (sym so.0) (so.1 most end w (record {
+        more = take.more;
+        few = take.few;
+        low = low;
+        behind = take.behind;
+      }))
+  pins_turn serial behind (step.Fails at) low so take = so most end w (record {
+    more = take.more;
+    few = take.few;
+    low = low;
+    behind = take.behind;
+  })
 
 -- what a turn may reply
 module _ (serves : List Mark → Served → Type 0) (marks : List Mark) (serial : ℕ) where

@@ -284,5 +284,7 @@ module _ (serves : Meanings) (most : ℕ) (end : WorkEnd) (journal : List Mark) 
       → JudgesSide serves most end journal result
       → TellsWorker serves most end journal result
   tells_worker (Ok done) h = is_workers serves most end journal h
-  tells_worker (Err (fault.Mark at)) h = bad_denies at h
+  tells_worker (Err (fault.Mark at)) (inl h) = bad_denies at h
+  tells_worker (Err (fault.Mark at)) (inr none) =
+      λ h. none.never journal (may_end_so serves most end journal h)
   tells_worker (Err fault.NoMemory) h = tt

@@ -25,16 +25,22 @@ pub echoes_own : (serial : ℕ) (d : Datagram) (marks : List Mark) (served : Ser
     → echoes serial d marks served → AllOwn marks
 echoes_own serial d marks served h = subst AllOwn (sym h.1) tt
 
-pub echo_off : (serial : ℕ) (d : Datagram) (marks : List Mark) → (length marks == 0) ≡ false
-    → IsOffAt (echoes serial d) marks 0
-echo_off serial d [] some = cc
-echo_off serial d (m ∷ marks) some = record {
+pub echoes_starve : (serial : ℕ) (d : Datagram) → serial < 2 → echoes serial d [] NoMemory
+echoes_starve serial d low = (low, refl, tt)
+
+pub echo_off : (serial : ℕ) (d : Datagram) (marks : List Mark) → serial < 2
+    → (length marks == 0) ≡ false → IsOffAt (echoes serial d) marks 0
+echo_off serial d [] low some = cc
+echo_off serial d (m ∷ marks) low some = record {
   front = [];
   bad = m;
   rest = marks;
   is = refl;
   number = refl;
   never = λ other served h. none m other h.1;
+  other = [];
+  served = NoMemory;
+  may = (low, refl, tt);
 }
   where
     none : (m : Mark) (other : List Mark) → m ∷ other ≡ [] → ⊥

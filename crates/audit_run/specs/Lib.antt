@@ -14,6 +14,7 @@ pub mod RunHistoriesLaws
 pub mod Own
 pub mod Walks
 pub mod Walking
+pub mod WalksLaws
 pub mod WorkerRuns
 pub mod Published
 pub mod Echo

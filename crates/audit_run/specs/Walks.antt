@@ -69,16 +69,22 @@ module _ (serves : Meanings) (most : ℕ) (end : WorkEnd) where
   abbrev pub MayEnd : Walk → List Mark → Type 0
   MayEnd w marks = (turns : List Turn) × Runs w turns marks
 
+  -- a worker may go on from there, and end
+  abbrev pub GoesSomehow : Walk → Type 0
+  GoesSomehow w = (other : List Mark) × MayEnd w other
+
   -- so many marks are those of a turn, and what follows may end the run exactly where it may
-  -- behind that
+  -- behind that, as something may
   pub record GoesOn (w : Walk) (marks : List Mark) (v : Walk) (more : List Mark) : Type 0 where
     pub front : List Mark
     pub is : marks ≡ front ++ more
     pub some : 0 < length front
     pub on : (other : List Mark) → MayEnd v other → MayEnd w (front ++ other)
     pub back : (other : List Mark) → MayEnd w (front ++ other) → MayEnd v other
+    pub goes : GoesSomehow v
 
-  -- the mark with this number may not stand there, whatever stands behind it
+  -- the mark with this number may not stand there, whatever stands behind it, while with another
+  -- in its place a worker may go on and end
   pub record IsBad (w : Walk) (marks : List Mark) (at : ℕ) : Type 0 where
     pub front : List Mark
     pub bad : Mark
@@ -86,13 +92,18 @@ module _ (serves : Meanings) (most : ℕ) (end : WorkEnd) where
     pub is : marks ≡ front ++ bad ∷ rest
     pub number : length front ≡ at
     pub never : (other : List Mark) → MayEnd w (front ++ bad ∷ other) → ⊥
+    pub other : List Mark
+    pub may : MayEnd w (front ++ other)
 
-  -- or the marks end too early
+  -- or the marks end too early: with more of them a worker may end
   pub record EndsEarly (w : Walk) (marks : List Mark) (at : ℕ) : Type 0 where
     pub number : length marks ≡ at
     pub never : MayEnd w marks → ⊥
+    pub more : List Mark
+    pub may : MayEnd w (marks ++ more)
 
-  -- no run of a worker has these marks, as those up to this one tell, or all of them
+  -- the first mark with which no worker goes on, or the number of the marks where they end too
+  -- early
   abbrev pub FailsAt : Walk → List Mark → ℕ → Type 0
   FailsAt w marks at = IsBad w marks at ⊎ EndsEarly w marks at
 
@@ -103,7 +114,8 @@ TurnEnds (Reply reply) serial marks more =
 TurnEnds (Silent why) serial marks more = marks ≡ Unpinned serial ∷ more
 TurnEnds NoMemory serial marks more = marks ≡ Unpinned serial ∷ more
 
--- the mark with this number may not stand there, whatever follows
+-- the mark with this number may not stand there, whatever follows, while with another in its place
+-- the marks mean something
 pub record IsOffAt (serves : List Mark → Served → Type 0) (marks : List Mark) (at : ℕ) : Type 0
   where
     pub front : List Mark
@@ -112,6 +124,9 @@ pub record IsOffAt (serves : List Mark → Served → Type 0) (marks : List Mark
     pub is : marks ≡ front ++ bad ∷ rest
     pub number : length front ≡ at
     pub never : (other : List Mark) (served : Served) → serves (front ++ bad ∷ other) served → ⊥
+    pub other : List Mark
+    pub served : Served
+    pub may : serves (front ++ other) served
 
 -- what a datagram means by its own marks: a reply, none, that they end too early, or that the one
 -- with this number may not stand there, whatever follows

@@ -1,7 +1,8 @@
 //! Whether a side's journal is that of a worker.
-ghost use Rattle.std.specs.Prelude.{◌≡◌, ◌∷◌, IfOk};
-ghost use Rattle.audit_run.specs.Walking.{EndsSo, JudgesSide, StepsSo, has_ended};
-ghost use Rattle.audit_run.specs.Walks.{row_limit};
+ghost use Rattle.std.specs.Prelude.{◌≡◌, ◌<◌, ◌∷◌, IfOk};
+ghost use Rattle.audit_run.specs.Walking.{EndsSo, JudgesSide, StepsSo, TellsPlace, has_ended};
+ghost use Rattle.audit_run.specs.Walking.{may_begin, may_take};
+ghost use Rattle.audit_run.specs.Walks.{GoesSomehow, row_limit};
 ghost use Rattle.audit_run.specs.WorkerRuns.{TellsWorker};
 
 use crate::turn_meaning::TurnMeaning;
@@ -23,6 +24,7 @@ pub fn judge_side<M: TurnMeaning>(
     most: u64,
 ) -> Result<(), SideFault>
     ensures judges { JudgesSide (M.serves meaning.now) most end marks.now result }
+    ensures place { TellsPlace (M.serves meaning.now) most end marks.now result }
     ensures tells { TellsWorker (M.serves meaning.now) most end marks.now result }
 {
     walk_along(alloc, meaning, marks, end, most)
@@ -37,6 +39,9 @@ fn walk_along<M: TurnMeaning>(
 ) -> Result<(), SideFault>
     ensures { JudgesSide (M.serves meaning.now) most end marks.now result }
 {
+    if !may_begin(end, most) {
+        return Err(SideFault::Mark(0));
+    }
     let mut walk = Walk {
         taken: 0,
         row: 0,
@@ -68,6 +73,7 @@ fn step<'a, M: TurnMeaning>(
     most: u64,
     marks: (&'a Mark, &'a [Mark]),
 ) -> Result<Stepped<'a>, NoMemory>
+    requires { GoesSomehow (M.serves meaning.now) most end walk.old }
     ensures { IfOk result (λ stepped. StepsSo (M.serves meaning.now) most end walk.old
         (marks.entry.0.now ∷ marks.entry.1.now) walk.new stepped) }
 {
@@ -87,16 +93,45 @@ fn step<'a, M: TurnMeaning>(
             Ok(Stepped::Goes(behind))
         }
         Mark::RecvEnd => Ok(ended(end, behind)),
-        Mark::Got(datagram) => match take_turn(alloc, meaning, walk, datagram, behind)? {
-            Step::Goes(serial, more) => {
-                walk.taken += 1;
-                walk.row = 0;
-                walk.last = serial;
-                Ok(Stepped::Goes(more))
+        Mark::Got(datagram) => {
+            if !may_take(walk, end, most) {
+                return Ok(Stepped::Fails(0));
             }
-            Step::Fails(at) => Ok(Stepped::Fails(at)),
-        },
+            if meaning.count() <= walk.last {
+                return Ok(Stepped::Fails(0));
+            }
+            match take_turn(alloc, meaning, walk, datagram, behind)? {
+                Step::Goes(serial, more) => {
+                    walk.taken += 1;
+                    walk.row = 0;
+                    walk.last = serial;
+                    Ok(Stepped::Goes(more))
+                }
+                Step::Fails(at) => Ok(Stepped::Fails(at)),
+            }
+        }
         _ => Ok(Stepped::Fails(0)),
+    }
+}
+
+// Whether a worker may end so at all.
+fn may_begin(end: WorkEnd, most: u64) -> bool
+    ensures { result ≡ may_begin most end }
+{
+    match end {
+        WorkEnd::End => true,
+        WorkEnd::RecvFailed | WorkEnd::NoMemory => 0 < most,
+    }
+}
+
+// Whether a worker that ends so may take a datagram there.
+fn may_take(walk: &Walk, end: WorkEnd, most: u64) -> bool
+    requires { walk.now.taken < most }
+    ensures { result ≡ may_take most end walk.now }
+{
+    match end {
+        WorkEnd::End => walk.taken < most,
+        WorkEnd::RecvFailed | WorkEnd::NoMemory => walk.taken + 1 < most,
     }
 }
 

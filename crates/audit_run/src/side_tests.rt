@@ -9,7 +9,7 @@ use std::test::Fail;
 struct Echo {}
 
 impl TurnMeaning for Echo {
-    ghost use Rattle.audit_run.specs.Echo.{echoes, echoes_own, echoes_within};
+    ghost use Rattle.audit_run.specs.Echo.{echoes, echoes_own, echoes_starve, echoes_within};
 
     ghost serves = { λ echo. echoes };
 
@@ -35,6 +35,8 @@ impl TurnMeaning for Echo {
     }
 
     ghost within = { λ echo. echoes_within };
+
+    ghost starves = { λ echo. echoes_starve };
 
     ghost own = { λ echo. echoes_own };
 }

@@ -1,8 +1,9 @@
 //! What a datagram means by the marks that serving it took, as far as a judge asks for it.
-ghost use Rattle.std.specs.Prelude.{◌≡◌, ◌<◌, ℕ, IfOk, List};
+ghost use Rattle.std.specs.Prelude.{◌≡◌, ◌<◌, ℕ, IfOk, List, []};
 ghost use Rattle.outside.specs.declared.datagram.Datagram.{Datagram};
 ghost use Rattle.outside.specs.declared.mark.Mark.{Mark};
 ghost use Rattle.chain_meaning.specs.declared.served.Served.{Served};
+ghost use Rattle.chain_meaning.specs.declared.served.Served.TheVariants as served;
 ghost use Rattle.audit_run.specs.Own.{AllOwn};
 ghost use Rattle.audit_run.specs.Walks.{Meanings, MeansSo};
 
@@ -48,6 +49,9 @@ pub trait TurnMeaning {
 
     ghost within: { (s : Self) (serial : ℕ) (d : Datagram) (marks : List Mark) (served : Served)
         → serves s serial d marks served → serial < published s };
+
+    ghost starves: { (s : Self) (serial : ℕ) (d : Datagram) → serial < published s
+        → serves s serial d [] served.NoMemory };
 
     ghost own: { (s : Self) (serial : ℕ) (d : Datagram) (marks : List Mark) (served : Served)
         → serves s serial d marks served → AllOwn marks };

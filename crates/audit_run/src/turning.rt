@@ -1,8 +1,7 @@
 //! A turn of a side's journal, by what its datagram means.
 ghost use Rattle.std.specs.Prelude.{◌≡◌, ◌<◌, ℕ, IfOk, MatchOption};
-ghost use Rattle.dns_data.specs.declared.limit.TheConstants as limits;
 ghost use Rattle.outside.specs.declared.mark.Mark.TheVariants.{Pinned};
-ghost use Rattle.audit_run.specs.Walking.{PinsSo, TurnsSo, reply_in};
+ghost use Rattle.audit_run.specs.Walking.{MayTake, PinsSo, TurnsSo, reply_in};
 
 use crate::turn_meaning::{TurnMeaning, TurnMeans};
 use crate::walk::{Step, Tail, Walk};
@@ -19,8 +18,8 @@ pub(crate) fn take_turn<'a, M: TurnMeaning>(
     datagram: &Datagram,
     marks: &'a [Mark],
 ) -> Result<Step<'a>, NoMemory>
-    ensures { IfOk result (λ step. (most : ℕ) (end : _) → walk.now.taken < most
-        → walk.now.row < limits.FAILURES
+    requires { walk.now.last < M.published meaning.now }
+    ensures { IfOk result (λ step. (most : ℕ) (end : _) → MayTake most end walk.now walk.now.last
         → TurnsSo (M.serves meaning.now) most end walk.now datagram.now marks.now step) }
 {
     let Some((first, behind)) = marks.split_first() else {

@@ -10,7 +10,7 @@ use Rattle.audit_run.proofs.Turned.{goes_on, has_reply, off_bad, tail_fails}
 use Rattle.audit_run.proofs.turning.pinned_turn.Goals as goal
 
 pub returns-in-Err : goal.returns-in-Err
-returns-in-Err g c = λ most end w.
+returns-in-Err g c = λ most end w take.
     let all = g.M.TurnMeaning.serves c.args.meaning.now in
     let serves = all c.args.serial c.args.datagram.now in
     let own = c.split_at.ensures.front ∙ c.own_count-count.ensures.own in
@@ -19,12 +19,12 @@ returns-in-Err g c = λ most end w.
     (sym c.in-Err.ensures)
     (has_reply serves (own_part c.args.marks.now) c.args.serial c.in_ok-means.means means) in
     inl (off_bad all most end (g.met.M.TurnMeaning.own c.args.meaning.now) w c.args.datagram.now
-    c.args.serial c.args.marks.now c.in-Err.at off)
+    c.args.serial take c.args.marks.now c.in-Err.at off)
 
 pub returns-in-Ends : goal.returns-in-Ends
 returns-in-Ends g c = (
   refl,
-  λ most end w many few low.
+  λ most end w take.
       let all = g.M.TurnMeaning.serves c.args.meaning.now in
       let serves = all c.args.serial c.args.datagram.now in
       let own = c.split_at.ensures.front ∙ c.own_count-count.ensures.own in
@@ -34,13 +34,13 @@ returns-in-Ends g c = (
       (sym c.in-Ok.ensures)
       (has_reply serves (own_part c.args.marks.now) c.args.serial c.in_ok-means.means means) in
       goes_on all most end (g.met.M.TurnMeaning.own c.args.meaning.now) w c.args.datagram.now
-      c.args.serial c.args.marks.now c.in-Ok.reply has many few low c.in-Ends.more.now
+      c.args.serial take c.args.marks.now c.in-Ok.reply has c.in-Ends.more.now
       (subst (λ l. EndsTurn c.in-Ok.reply c.args.serial l (tail.Ends c.in-Ends.more)) behind
       c.in-Ends.ensures),
 )
 
 pub returns : goal.returns
-returns g c = λ most end w.
+returns g c = λ most end w take.
     let all = g.M.TurnMeaning.serves c.args.meaning.now in
     let serves = all c.args.serial c.args.datagram.now in
     let own = c.split_at.ensures.front ∙ c.own_count-count.ensures.own in
@@ -57,6 +57,6 @@ returns g c = λ most end w.
     subst (λ n. FailsAt all most end w
     (Got c.args.datagram.now ∷ Pinned c.args.serial ∷ c.args.marks.now) n) number
     (tail_fails all most end (g.met.M.TurnMeaning.own c.args.meaning.now) w c.args.datagram.now
-    c.args.serial c.args.marks.now c.in-Ok.reply has c.in-Fails.at
+    c.args.serial take c.args.marks.now c.in-Ok.reply has c.in-Fails.at
     (subst (λ l. EndsTurn c.in-Ok.reply c.args.serial l (tail.Fails c.in-Fails.at)) behind
     c.in-Fails.ensures))

@@ -1,9 +1,16 @@
 use Rattle.std.proofs.Common.{sym, subst, ◌∙◌, ◌∷◌}
 use Rattle.std.proofs.lemmas.Bool.{false≢true}
+use Rattle.std.proofs.lemmas.List.{nil_from_length}
 use Rattle.audit_run.specs.declared.walk.Tail.TheVariants as tail
 use Rattle.audit_run.specs.Walking.{EndsTurn}
-use Rattle.audit_run.proofs.Tails.{no_reply_bad, reply_bad, sent_ends}
+use Rattle.audit_run.proofs.Tails.{no_reply_bad, none_early, reply_bad, sent_ends}
 use Rattle.audit_run.proofs.walking.tail_of.Goals as goal
+
+pub returns-in_default : goal.returns-in_default
+returns-in_default c =
+    subst (λ l. EndsTurn c.args.reply.now c.args.serial l (tail.Fails 0))
+    (sym (nil_from_length c.args.marks.now c.in_default.ensures.cases))
+    (none_early c.args.reply.now c.args.serial)
 
 pub returns-in_default-reply : goal.returns-in_default-reply
 returns-in_default-reply c =

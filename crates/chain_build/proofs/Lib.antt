@@ -16,5 +16,6 @@ pub mod Logging
 pub mod PlacesOfParts
 pub mod LoggedWalks
 pub mod CachedWalks
+pub mod Givings
 pub mod LoggedCalls
 pub mod Tried

@@ -54,8 +54,10 @@ use Rattle.chain_build.specs.declared.block_chain.BackAnswerer.TheVariants as be
 use Rattle.chain_build.specs.declared.block_chain.FrontAnswerer.TheVariants as before
 use Rattle.chain_build.specs.declared.block_chain.FrontAnswerer.{FrontAnswerer}
 use Rattle.chain_build.specs.declared.ended.Ended.{Ended}
+use Rattle.chain_build.specs.declared.given.Given.{Given}
+use Rattle.chain_build.specs.Giving.{gave}
 use Rattle.chain_build.proofs.Logging.{calls_then, inners_apart, inners_then, logged_any, logged_as, logged_by, logged_forward, logged_nothing, logged_quiet, logged_then, shards_then}
-use Rattle.chain_build.proofs.Walks.{decided-err, others}
+use Rattle.chain_build.proofs.Walks.{gave-err, others}
 
 -- the calls that inner marks tell, one after another
 behind_logged : (number : Option ℕ) (a b : List InnerMark) {x y z : List (List Mark)} → Logged number (pool_calls_in (map Inner a)) x y → Logged number (pool_calls_in (map Inner b)) y z
@@ -320,9 +322,9 @@ tb_fails means next {e} {result = Err f} fails p none =
     record { takes = record { marks = p.takes.marks; told = p.takes.told; stays = p.takes.stays; took = took-starved means next e f p.takes.marks p.takes.took none }; logged = p.logged }
 
 -- plugins of others
-pub others_starved_by : (numbers : CallNumbers) (says : Query → Option Decision) (steps : List Step) (q : Query) (result : Result Ended NoMemory) (answer : AnswerData) (s : SideState) (uses : BlockUses)
-    → IsErr result → TakesBy numbers (mean (Others says ∷ steps) q) (decided result answer) (taking s uses) (taking s uses)
-others_starved_by numbers says steps q result answer s uses fails = tb_starved numbers (mean (Others says ∷ steps) q) (decided-err result answer fails) (mean_nothing (Others says ∷ steps) q)
+pub others_starved_by : (numbers : CallNumbers) (says : Query → Option Decision) (steps : List Step) (q : Query) (result : Result Given NoMemory) (answer : AnswerData) (s : SideState) (uses : BlockUses)
+    → IsErr result → TakesBy numbers (mean (Others says ∷ steps) q) (gave result answer) (taking s uses) (taking s uses)
+others_starved_by numbers says steps q result answer s uses fails = tb_starved numbers (mean (Others says ∷ steps) q) (gave-err result answer fails) (mean_nothing (Others says ∷ steps) q)
 
 pub others_say_by : (numbers : CallNumbers) (says : Query → Option Decision) (steps : List Step) (q : Query) (v : Decision) (s : SideState) (uses : BlockUses)
     → says q ≡ Some v → TakesBy numbers (mean (Others says ∷ steps) q) (Ok v) (taking s uses) (taking s uses)
@@ -358,7 +360,7 @@ quiet_code q ended code cause answer line out {s} {t} is same told stays =
     subst (λ (e : Ended). TakesQuietly (error_noted q (decision_of e answer)) (Ok (decision_of e answer)) s t) (sym is)
     (quiet_note (error_line q code cause) (decision.Code code cause) out (subst (λ (l : List ℕ). Adds s t (noted l out)) same told) stays)
 
-quiet_nothing : {A : Type 0} (means : List Mark → Meaning A) {v : A} {s : SideState} → ((left : List Mark) → means left ≡ Done v left) → TakesQuietly means (Ok v) s s
+pub quiet_nothing : {A : Type 0} (means : List Mark → Meaning A) {v : A} {s : SideState} → ((left : List Mark) → means left ≡ Done v left) → TakesQuietly means (Ok v) s s
 quiet_nothing means {s = s} so = record { takes = record { marks = []; told = adds-nothing s; stays = stays-nothing s; took = so }; pools = refl; shards = refl }
 
 pub quiet_other : (q : Query) (ended : Ended) (answer : AnswerData) {s : SideState} → ((code : Code) (cause : Cause) → ended ≢ end.Code code cause)

@@ -28,12 +28,18 @@ use Rattle.chain_meaning.specs.MeanLaws.{answer_nothing, extras_say, mean-step, 
 use Rattle.chain_meaning.specs.Steps.{Answerer, Forward, Step, Others, extra_says, verdict_decides}
 use Rattle.chain_build.specs.Compiled.{back_of}
 use Rattle.chain_build.specs.Walking.{Answered, Restored, Said, Tries, answered, decided, decision_of}
+use Rattle.chain_build.specs.Giving.{gave}
 use Rattle.chain_build.specs.declared.block_chain.BackAnswerer.{BackAnswerer}
 use Rattle.chain_build.specs.declared.ended.Ended.{Ended}
+use Rattle.chain_build.specs.declared.given.Given.{Given}
 
 pub decided-err : (result : Result Ended NoMemory) (answer : AnswerData) → IsErr result → IsErr (decided result answer)
 decided-err (Ok e) answer fails = absurd cc
 decided-err (Err x) answer fails = refl
+
+pub gave-err : (result : Result Given NoMemory) (answer : AnswerData) → IsErr result → IsErr (gave result answer)
+gave-err (Ok g) answer fails = absurd cc
+gave-err (Err x) answer fails = refl
 
 -- want of memory before the first mark
 pub asks-starved : {A : Type 0} (means : List Mark → Meaning A) {result : Result A NoMemory} {old : SideState} {k : Kept}

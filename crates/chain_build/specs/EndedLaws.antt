@@ -27,7 +27,7 @@ use Rattle.chain_build.specs.Workers.{chains_lents}
 use Rattle.chain_build.specs.declared.chain.Chain.{Chain}
 
 module _ {B E : Type 0} {bk : rulebook.Ghosts B} {ex : extra.Ghosts E} where
-  -- the cache of this name has gone, and what its capacities allow is legal for what its blocks read
+  -- the cache of this name has gone, and what its capacities allow is legal for these blocks
   pub record GoneFor (legal : BlockReading → List Mark → Type 0) (published : List CacheName) (chains : List (Chain B E bk ex)) (name : CacheName) (reads : BlockReading) : Type 0 where
     pub gone : HasGone published (chains_lents chains) name
     pub fits : (marks : List Mark) → IsLegal gone.cache.capacities marks → legal reads marks

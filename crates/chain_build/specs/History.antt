@@ -1,7 +1,6 @@
--- What generations read, and the names of their caches, by serial and block. This server's own
--- rule.
+-- What generations read, and the names of their caches. This server's own rule.
 use Rattle.std.specs.Prelude.{◌≡◌, ℕ, zero, suc, ◌+◌, Bool, List, [], ◌∷◌, map, is_some, Option}
-use Rattle.std.specs.Prelude.{Some, None, option_map}
+use Rattle.std.specs.Prelude.{None, option_map}
 use Rattle.block_readings.specs.Readings.{BlockReading}
 use Rattle.lent_caches.specs.Judging.{plan_read}
 use Rattle.lent_caches.specs.Named.{NamedData}

@@ -1,5 +1,5 @@
 -- The pins of a pass, with the calls of their turns, are those of a history.
-use Rattle.std.proofs.Common.{◌≡◌, ◌<◌, ℕ, zero, suc, ◌==◌, Bool, true, false, List, [], ◌∷◌, length, Option, Some, None, slice_get, if◌then◌else◌, refl, sym, ap, subst}
+use Rattle.std.proofs.Common.{◌≡◌, ◌<◌, ℕ, zero, suc, ◌==◌, List, [], ◌∷◌, length, Option, Some, None, slice_get, if◌then◌else◌, refl, sym, ap, subst}
 use Rattle.std.specs.Prelude.{All, slice_index_or}
 use Rattle.std.proofs.lemmas.List.Elements.{All-cons, All-head, All-nil, All-tail}
 use Rattle.one_history.specs.Calls.{Call}
@@ -9,7 +9,7 @@ use Rattle.pin_table.specs.declared.views.PassView.{PassView}
 use Rattle.pin_table.specs.declared.views.Turn.{Turn}
 use Rattle.pin_table.specs.Shown.{Chained}
 use Rattle.pin_table.specs.Tags.{AreGiven, Identity, IsKeptLog, log_kept}
-use Rattle.chain_build.specs.HistoryPins.{AllGrown, ArePassesGrown, passes_with, pin_of, pins_with}
+use Rattle.chain_build.specs.HistoryPins.{AllGrown, ArePassesGrown, passes_with, pins_with}
 
 -- the two sayings of a log that was kept
 pub same_log : {N : Type 0} (o : Option (List (List N))) (l : List (List N)) → IsKeptLog o l → history.IsKeptLog o l

@@ -1,17 +1,17 @@
 -- The seats of the chains that came home, by worker, serial and block, and by the name of a cache.
-use Rattle.std.proofs.Common.{◌≡◌, ◌<◌, ◌∙◌, ℕ, ◌+◌, ◌==◌, ◌&&◌, Bool, true, false, List, [], ◌∷◌, ◌++◌, map, Option, Some, None, if◌then◌else◌, eqb-true, refl, sym, ap, subst, arith, append_assoc}
+use Rattle.std.proofs.Common.{◌≡◌, ◌<◌, ◌∙◌, ℕ, ◌+◌, ◌==◌, ◌&&◌, Bool, false, List, [], ◌∷◌, ◌++◌, map, Option, Some, None, if◌then◌else◌, eqb-true, refl, sym, ap, subst, arith, append_assoc}
 use Rattle.std.proofs.lemmas.Bool.{and_left, and_parts}
 use Rattle.std.specs.Arc.{arc_value}
 use Rattle.std.specs.Box.{box_value}
 use Rattle.cache_shards.specs.Answers.{IsLegal}
 use Rattle.lent_caches.specs.ApartLaws.{both}
-use Rattle.lent_caches.specs.Held.{IsWhole, LentData, lent_data}
-use Rattle.lent_caches.specs.Ledger.{HasGone, filled_named, logs_named}
+use Rattle.lent_caches.specs.Held.{LentData, lent_data}
+use Rattle.lent_caches.specs.Ledger.{HasGone, logs_named}
 use Rattle.lent_caches.specs.Names.{same_name}
 use Rattle.lent_caches.specs.declared.name.CacheName.{CacheName}
 use Rattle.lent_caches.specs.declared.uses.LentCache.{LentCache}
 use Rattle.one_history.specs.Join.{shard_logs}
-use Rattle.one_history.specs.Logs.{Home, Place, home_log, part_at}
+use Rattle.one_history.specs.Logs.{Place, home_log, part_at}
 use Rattle.one_history.specs.Runs.{SHARDS}
 use Rattle.one_history.specs.Seats as history
 use Rattle.one_history.specs.Seats.{SeatLog, is_seat, marks_of, named, same_cache, seat_log}
@@ -19,10 +19,9 @@ use Rattle.outside.specs.declared.mark.Mark.{Mark}
 use Rattle.plugin_api.specs.declared.extra.Extra as extra
 use Rattle.plugin_api.specs.declared.rulebook.Rulebook as rulebook
 use Rattle.chain_build.specs.Lending.{lents_in, uses_lents}
-use Rattle.chain_build.specs.Logs.{chain_places}
 use Rattle.chain_build.specs.Seats.{AreOtherChains, ArePlaced, IsOtherChain, Owner, chain_seats, home_of, name_of, owner_of, seat_in, seat_of, seats_from, seats_home}
 use Rattle.chain_build.specs.SeatsLaws.{shard_laid}
-use Rattle.chain_build.specs.Workers.{chain_lents, chain_log, chains_lents, plans_of}
+use Rattle.chain_build.specs.Workers.{chain_log, chains_lents}
 use Rattle.chain_build.specs.declared.block_uses.BlockUses.{BlockUses}
 use Rattle.chain_build.specs.declared.chain.Chain.{Chain}
 

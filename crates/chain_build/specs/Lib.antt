@@ -32,6 +32,7 @@ pub mod Reading
 pub mod Replying
 pub mod Walking
 pub mod Logs
+pub mod Giving
 pub mod LoggedWalks
 pub mod WalkingLaws
 -- what public clauses cite

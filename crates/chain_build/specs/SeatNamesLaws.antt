@@ -1,10 +1,9 @@
 -- The seats of the chains that came home have the names of their blocks' caches, and no two are of
 -- one chain at one block.
-use Rattle.std.proofs.Common.{◌≡◌, ◌≢◌, ◌<◌, ◌∙◌, eqb-true, ℕ, zero, suc, ◌+◌, ◌==◌, ◌&&◌, Bool, true, false, List, [], ◌∷◌, ◌++◌, map, option_map, Option, Some, None, refl, sym, ap, subst, arith}
+use Rattle.std.proofs.Common.{◌≡◌, ◌<◌, ◌∙◌, ℕ, zero, suc, ◌+◌, ◌==◌, ◌&&◌, false, List, [], ◌∷◌, ◌++◌, map, option_map, Option, Some, None, sym, ap, arith}
 use Rattle.std.proofs.lemmas.Bool.{and_left, and_right, ne_eqb}
 use Rattle.std.specs.Arc.{arc_value}
 use Rattle.std.specs.Box.{box_value}
-use Rattle.lent_caches.specs.Named.{NamedData}
 use Rattle.lent_caches.specs.declared.uses.LentCache.{LentCache}
 use Rattle.one_history.specs.Names.{Names}
 use Rattle.one_history.specs.Seats.{AreSeats, IsOther, SeatLog, is_chains}
@@ -12,7 +11,7 @@ use Rattle.outside.specs.declared.mark.Mark.{Mark}
 use Rattle.plugin_api.specs.declared.extra.Extra as extra
 use Rattle.plugin_api.specs.declared.rulebook.Rulebook as rulebook
 use Rattle.chain_build.specs.History.{AreNamedBy, name_in, named_name}
-use Rattle.chain_build.specs.Seats.{AreOtherChains, IsOtherChain, Owner, name_of, owner_of, seat_in, seat_of, seats_from, seats_home}
+use Rattle.chain_build.specs.Seats.{AreOtherChains, IsOtherChain, Owner, owner_of, seat_in, seat_of, seats_from, seats_home}
 use Rattle.chain_build.specs.Uses.{AreUsed, UseShape, chain_named, chain_shape, lent_cache, use_shape}
 use Rattle.chain_build.specs.declared.block.BlockChain.{BlockChain}
 use Rattle.chain_build.specs.declared.block_uses.BlockUses.{BlockUses}

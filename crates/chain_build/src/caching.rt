@@ -11,6 +11,7 @@ ghost use Rattle.chain_meaning.specs.CallsByRun.{numbers_in};
 ghost use Rattle.chain_meaning.specs.Mean.{mean};
 ghost use Rattle.chain_meaning.specs.declared.decision.Decision.TheVariants as decision;
 ghost use Rattle.chain_build.specs.Caches.{IsFairFor};
+ghost use Rattle.chain_build.specs.Giving.{gave};
 ghost use Rattle.chain_build.specs.LoggedWalks.{TakesBy, taking};
 ghost use Rattle.chain_build.specs.Plans.{behind_of, inner_of};
 ghost use Rattle.chain_build.specs.Uses.{IsUsed, SameUses};
@@ -20,6 +21,7 @@ use crate::back::run_behind;
 use crate::block::BlockChain;
 use crate::block_uses::BlockUses;
 use crate::ended::Ended;
+use crate::given::{Given, as_given, hit_of};
 use crate::room::{PluginRoom, WalkRoom};
 use crate::walk::Walk;
 use cache_plugin::{CacheQuery, Decided, Found, Missed};
@@ -40,13 +42,13 @@ pub fn run_inner<'a, R: Wait, S: Side>(
     uses: &mut BlockUses,
     side: &mut S,
     room: &mut WalkRoom,
-) -> Result<Ended<'a>, NoMemory>
+) -> Result<Given<'a>, NoMemory>
     requires clear { room.old.plugins.slot ≡ no_answer }
     requires used { IsUsed chain.now uses.old }
     ensures same { SameUses uses.old uses.new }
     ensures takes { TakesBy (numbers_in (inner_of chain.now) walk.now.query.now)
         (mean (inner_of chain.now) walk.now.query.now)
-        (decided result room.new.plugins.slot) (taking (S.state side.old) uses.old)
+        (gave result room.new.plugins.slot) (taking (S.state side.old) uses.old)
         (taking (S.state side.new) uses.new) }
 {
     if let Some(plan) = &chain.cache {
@@ -61,10 +63,10 @@ pub fn run_inner<'a, R: Wait, S: Side>(
         }
     }
     room.plugins.kept = Kept::Off;
-    run_behind(walk, chain, &mut uses.pools, side, room)
+    as_given(run_behind(walk, chain, &mut uses.pools, side, room))
 }
 
-// Looks into the cache, and runs what stands behind it on a miss.
+// Looks into the cache, which lends the entry of a hit, and runs what stands behind it on a miss.
 #[inline(never)]
 fn run_cached<'a, R: Wait, S: Side>(
     asked: &CacheQuery<'_, R>,
@@ -72,7 +74,7 @@ fn run_cached<'a, R: Wait, S: Side>(
     uses: &mut BlockUses,
     side: &mut S,
     room: &mut WalkRoom,
-) -> Result<Ended<'a>, NoMemory>
+) -> Result<Given<'a>, NoMemory>
     requires clear { room.old.plugins.slot ≡ no_answer }
     requires used { IsUsed chain.now uses.old }
     requires plan { chain.now.cache ≡ Some asked.now.plan.now }
@@ -80,23 +82,15 @@ fn run_cached<'a, R: Wait, S: Side>(
     ensures same { SameUses uses.old uses.new }
     ensures takes { TakesBy (numbers_in (inner_of chain.now) asked.now.query.now)
         (cached (mean (behind_of chain.now)) asked.now.plan.now asked.now.query.now)
-        (decided result room.new.plugins.slot) (taking (S.state side.old) uses.old)
+        (gave result room.new.plugins.slot) (taking (S.state side.old) uses.old)
         (taking (S.state side.new) uses.new) }
 {
     let Some(cache) = &mut uses.cache else {
         unreachable!()
     };
     match cache.find(asked, side)? {
-        Found::Hit(entry, moment) => {
-            give(
-                asked.alloc,
-                asked.plan,
-                &entry,
-                moment,
-                &mut room.plugins.slot,
-            )
-        }
-        Found::Miss(missed) => run_missed(asked, chain, missed, uses, side, room),
+        Found::Hit(entry, moment) => Ok(Given::Hit(hit_of(chain, entry, moment))),
+        Found::Miss(missed) => as_given(run_missed(asked, chain, missed, uses, side, room)),
     }
 }
 

@@ -5,10 +5,11 @@ ghost use Rattle.acl_plugin.specs.{acl_say};
 ghost use Rattle.chain_meaning.specs.CallsByRun.{numbers_in};
 ghost use Rattle.chain_meaning.specs.Mean.{mean, nothing};
 ghost use Rattle.chain_build.specs.Compiled.{front_answerer, front_of, middle_of};
+ghost use Rattle.chain_build.specs.Giving.{gave};
 ghost use Rattle.chain_build.specs.LoggedWalks.{TakesBy, TakesCalls, chain_runs, taking};
 ghost use Rattle.chain_build.specs.Plans.{inner_of, others_of, rest_of};
 ghost use Rattle.chain_build.specs.Uses.{IsUsed, SameUses};
-ghost use Rattle.chain_build.specs.Walking.{Answered, decided};
+ghost use Rattle.chain_build.specs.Walking.{Answered};
 
 use crate::block::BlockChain;
 use crate::block_chain::{ChainRest, FrontAnswerer, FrontStep, MiddleRest};
@@ -16,6 +17,7 @@ use crate::block_uses::BlockUses;
 use crate::caching::run_inner;
 use crate::ended::Ended;
 use crate::extras::Extras;
+use crate::given::Given;
 use crate::noting::{note_error, note_query};
 use crate::room::{FrontRoom, WalkRoom};
 use crate::translating::run_dns64;
@@ -36,7 +38,7 @@ pub fn run_front<'a, R: Wait, S: Side, X: Extras>(
     extras: &mut X,
     side: &mut S,
     room: &mut FrontRoom,
-) -> Result<Ended<'a>, NoMemory>
+) -> Result<Given<'a>, NoMemory>
     requires clear { room.old.walk.plugins.slot ≡ no_answer }
     requires used { IsUsed steps.behind.now uses.old }
     ensures same { SameUses uses.old uses.new }
@@ -45,7 +47,7 @@ pub fn run_front<'a, R: Wait, S: Side, X: Extras>(
         ++ rest_of (X.says extras.old) steps.entry.behind.now) walk.now.query.now)
         (mean (map front_of steps.entry.front.now
         ++ rest_of (X.says extras.old) steps.entry.behind.now) walk.now.query.now)
-        (decided result room.new.walk.plugins.slot) (taking (S.state side.old) uses.old)
+        (gave result room.new.walk.plugins.slot) (taking (S.state side.old) uses.old)
         (taking (S.state side.new) uses.new) }
     ensures stays { X.says extras.new ≡ X.says extras.old }
     ensures set { X.directives extras.new ≡ X.directives extras.old }
@@ -57,16 +59,16 @@ pub fn run_front<'a, R: Wait, S: Side, X: Extras>(
     let rest = ChainRest { front, behind };
     match step {
         FrontStep::Errors => {
-            let ended = run_front(walk, rest, uses, extras, side, room)?;
-            note_error(walk.alloc, walk.query, ended, side)
+            let given = run_front(walk, rest, uses, extras, side, room)?;
+            note_error(walk.alloc, walk.query, given, side)
         }
         FrontStep::Log(plan) => {
-            let ended = run_front(walk, rest, uses, extras, side, room)?;
+            let given = run_front(walk, rest, uses, extras, side, room)?;
             note_query(
                 walk.alloc,
                 plan,
                 walk.query,
-                ended,
+                given,
                 &room.walk.plugins.slot,
                 side,
             )
@@ -83,7 +85,7 @@ pub fn run_middle<'a, R: Wait, S: Side, X: Extras>(
     extras: &mut X,
     side: &mut S,
     room: &mut WalkRoom,
-) -> Result<Ended<'a>, NoMemory>
+) -> Result<Given<'a>, NoMemory>
     requires clear { room.old.plugins.slot ≡ no_answer }
     requires used { IsUsed steps.behind.now uses.old }
     ensures same { SameUses uses.old uses.new }
@@ -91,7 +93,7 @@ pub fn run_middle<'a, R: Wait, S: Side, X: Extras>(
         (numbers_in (inner_of steps.entry.behind.now) walk.now.query.now)
         (mean (map middle_of steps.entry.middle.now
         ++ others_of (X.says extras.old) steps.entry.behind.now) walk.now.query.now)
-        (decided result room.new.plugins.slot) (taking (S.state side.old) uses.old)
+        (gave result room.new.plugins.slot) (taking (S.state side.old) uses.old)
         (taking (S.state side.new) uses.new) }
     ensures stays { X.says extras.new ≡ X.says extras.old }
     ensures set { X.directives extras.new ≡ X.directives extras.old }
@@ -101,7 +103,7 @@ pub fn run_middle<'a, R: Wait, S: Side, X: Extras>(
         return run_others(walk, behind, uses, extras, side, room);
     };
     match front_answer(walk.alloc, plugin, walk.query, &mut room.plugins.slot)? {
-        Some(ended) => Ok(ended),
+        Some(ended) => Ok(Given::Ended(ended)),
         None => {
             let rest = MiddleRest { middle, behind };
             run_middle(walk, rest, uses, extras, side, room)
@@ -119,19 +121,19 @@ fn run_others<'a, R: Wait, S: Side, X: Extras>(
     extras: &mut X,
     side: &mut S,
     room: &mut WalkRoom,
-) -> Result<Ended<'a>, NoMemory>
+) -> Result<Given<'a>, NoMemory>
     requires clear { room.old.plugins.slot ≡ no_answer }
     requires used { IsUsed chain.now uses.old }
     ensures same { SameUses uses.old uses.new }
     ensures takes { TakesBy (numbers_in (inner_of chain.now) walk.now.query.now)
         (mean (others_of (X.says extras.old) chain.now) walk.now.query.now)
-        (decided result room.new.plugins.slot) (taking (S.state side.old) uses.old)
+        (gave result room.new.plugins.slot) (taking (S.state side.old) uses.old)
         (taking (S.state side.new) uses.new) }
     ensures stays { X.says extras.new ≡ X.says extras.old }
     ensures set { X.directives extras.new ≡ X.directives extras.old }
 {
     match extras.answer(walk.alloc, walk.query, &mut room.plugins.slot)? {
-        Some(ended) => Ok(ended),
+        Some(ended) => Ok(Given::Ended(ended)),
         None => run_inner(walk, chain, uses, side, room),
     }
 }

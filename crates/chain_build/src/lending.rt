@@ -1,6 +1,7 @@
 //! The uses of a chain: a part of each pool of its generation, and a use of each cache that is
 //! held.
-ghost use Rattle.std.specs.Prelude.{◌≡◌, ◌<◌, ◌-◌, ◌++◌, ℕ, [], ◌∷◌, length, map, IfOk, OnOk, OnErr};
+ghost use Rattle.std.specs.Prelude.{◌≡◌, ◌<◌, ◌-◌, ◌++◌, ℕ, [], ◌∷◌, length, map};
+ghost use Rattle.std.specs.Prelude.{IfOk, OnOk, OnErr};
 ghost use Rattle.std.specs.List.{All};
 ghost use Rattle.forward_plugin.specs.PoolParts as pool;
 ghost use Rattle.lent_caches.specs.Building.{AreNewUses, CanLendEach};

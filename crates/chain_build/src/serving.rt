@@ -15,6 +15,7 @@ ghost use Rattle.chain_meaning.specs.Serving.{answer_in, block_of, chain_decides
 ghost use Rattle.chain_meaning.specs.Serving.{query_decides, query_of};
 ghost use Rattle.chain_meaning.specs.Steps.{steps_of};
 ghost use Rattle.chain_meaning.specs.declared.decision.Decision.TheVariants as decision;
+ghost use Rattle.chain_build.specs.Giving.{decision_in, gave};
 ghost use Rattle.chain_build.specs.LoggedWalks.{TakesAt, TakesCalls, chain_runs, serving, taking};
 ghost use Rattle.chain_build.specs.Logs.{held_log, shape_of};
 ghost use Rattle.chain_build.specs.Plans.{heads_in, inner_of, steps_in};
@@ -23,7 +24,7 @@ ghost use Rattle.chain_build.specs.Replying.{Finishes, TellsServing};
 ghost use Rattle.chain_build.specs.Replying.{lent_of, whole_answer, whole_message};
 ghost use Rattle.chain_build.specs.Holding.{IsHeld, IsSame};
 ghost use Rattle.chain_build.specs.Uses.{IsUsed, SameUses};
-ghost use Rattle.chain_build.specs.Walking.{IsUncoded, NotesCodes, Tries, decided, decision_of};
+ghost use Rattle.chain_build.specs.Walking.{IsUncoded, NotesCodes, Tries, decision_of};
 
 use crate::asking::{
     fill_query, header_reply, is_known_version, limit_of, opt_reply, reply_message, upper_code,
@@ -37,7 +38,9 @@ use crate::chain::Chain;
 use crate::ended::Ended;
 use crate::extras::NoExtras;
 use crate::front::run_front;
+use crate::given::Given;
 use crate::held::Held;
+use crate::hits::finish_hit;
 use crate::plans::Plans;
 use crate::room::{FrontRoom, Room};
 use crate::translating::passes_dns64;
@@ -141,7 +144,7 @@ fn reply<R: Wait, B: Rulebook, E: Extra, S: Side>(
     fill_query(&mut room.query, datagram, beside);
     let slot = &mut room.front.walk.plugins.slot;
     let Some(found) = chain_for(&room.query, beside, plans, slot) else {
-        return finish_apart(alloc, datagram, beside, Ended::Reply, room);
+        return finish_apart(alloc, datagram, beside, Given::Ended(Ended::Reply), room);
     };
     match try_chain::<B>(alloc, found.1, &room.query, &mut room.front) {
         Ok(Some(ended)) => finish(alloc, datagram, beside, ended, room),
@@ -152,7 +155,7 @@ fn reply<R: Wait, B: Rulebook, E: Extra, S: Side>(
                 query: &room.query,
             };
             match run_found(&walk, plans, found, held, side, &mut room.front) {
-                Ok(ended) => finish_apart(alloc, datagram, beside, ended, room),
+                Ok(given) => finish_apart(alloc, datagram, beside, given, room),
                 Err(NoMemory) => Served::NoMemory,
             }
         }
@@ -160,21 +163,24 @@ fn reply<R: Wait, B: Rulebook, E: Extra, S: Side>(
     }
 }
 
-// The reply of a chain that ended so, off the common way.
+// The reply of a chain that gave so, off the common way.
 #[inline(never)]
 fn finish_apart(
     alloc: Global,
     datagram: &Datagram,
     beside: AskedBeside,
-    ended: Ended<'_>,
+    given: Given<'_>,
     room: &mut Room,
 ) -> Served
     requires asked { room.old.query ≡ query_of datagram.now
         (asked_by room.old.query.name beside) }
     ensures { Finishes datagram.now (asked_by room.old.query.name beside)
-        (decision_of ended.entry room.old.front.walk.plugins.slot) result }
+        (decision_in given.entry room.old.front.walk.plugins.slot) result }
 {
-    finish(alloc, datagram, beside, ended, room)
+    match given {
+        Given::Ended(ended) => finish(alloc, datagram, beside, ended, room),
+        Given::Hit(hit) => finish_hit(alloc, datagram, beside, hit, room),
+    }
 }
 
 // The reply of a chain that ended so, where it has one, with the answer of a reply in the slot.
@@ -400,7 +406,7 @@ fn run_found<'a, R: Wait, B: Rulebook, E: Extra, S: Side>(
     held: &mut Held<B, E>,
     side: &mut S,
     room: &mut FrontRoom,
-) -> Result<Ended<'a>, NoMemory>
+) -> Result<Given<'a>, NoMemory>
     requires clear { room.old.walk.plugins.slot ≡ no_answer }
     requires holds { IsHeld plans.now held.old }
     requires extras { slice_get plans.now.extras found.0 ≡ Some found.1.now.extras }
@@ -409,7 +415,7 @@ fn run_found<'a, R: Wait, B: Rulebook, E: Extra, S: Side>(
         (chain_calls (steps_in B.said found.entry.1.now) held.old.serial found.entry.0
         walk.now.query.now)
         (chain_decides (steps_in B.said found.entry.1.now) walk.now.query.now)
-        (decided result room.new.walk.plugins.slot)
+        (gave result room.new.walk.plugins.slot)
         (serving (S.state side.old) (held_log held.old.uses.items))
         (serving (S.state side.new) (held_log held.new.uses.items)) }
     ensures holds { IsHeld plans.now held.new }
@@ -429,14 +435,14 @@ fn run_chain<'a, R: Wait, B: Rulebook, E: Extra, S: Side>(
     uses: &mut BlockUses,
     side: &mut S,
     room: &mut FrontRoom,
-) -> Result<Ended<'a>, NoMemory>
+) -> Result<Given<'a>, NoMemory>
     requires clear { room.old.walk.plugins.slot ≡ no_answer }
     requires seated { seats.old ≡ chain.now.extras }
     requires used { IsUsed chain.now uses.old }
     ensures takes { TakesCalls
         (chain_runs (steps_in B.said chain.now) walk.now.query.now)
         (chain_decides (steps_in B.said chain.now) walk.now.query.now)
-        (decided result room.new.walk.plugins.slot) (taking (S.state side.old) uses.old)
+        (gave result room.new.walk.plugins.slot) (taking (S.state side.old) uses.old)
         (taking (S.state side.new) uses.new) }
     ensures seated { seats.new ≡ seats.old }
     ensures same { SameUses uses.old uses.new }
@@ -456,7 +462,7 @@ fn run_chain<'a, R: Wait, B: Rulebook, E: Extra, S: Side>(
         return run_inner(walk, chain, uses, side, &mut room.walk);
     }
     set_code(&mut room.walk.plugins.slot, rcode::REFUSED);
-    Ok(Ended::Reply)
+    Ok(Given::Ended(Ended::Reply))
 }
 
 // Whether a chain has steps in front of its extras.

@@ -1,13 +1,16 @@
 //! The step `dns64`: what stands behind it runs once or twice, or for another name.
-ghost use Rattle.std.specs.Prelude.{◌≡◌, ◌<◌, ◌^◌, true, Some, IfOk, IfSome, IsTrue};
+ghost use Rattle.std.specs.Prelude.{◌≡◌, ◌++◌, ◌<◌, ◌^◌, true, map, Some, IfOk, IfSome, IsTrue};
 ghost use Rattle.dns_data.specs.Message.{no_answer};
 ghost use Rattle.dns64_plugin.specs.{translates};
+ghost use Rattle.chain_meaning.specs.CallsByRun.{numbers_in};
 ghost use Rattle.chain_meaning.specs.Mean.{mean};
 ghost use Rattle.chain_meaning.specs.Translating.{bound_of, combined_in, dns64_means, pointed_by};
 ghost use Rattle.chain_meaning.specs.Translating.{pointed_in};
-ghost use Rattle.chain_build.specs.LoggedWalks.{TakesCalls, chain_runs, dns64_runs, pointed_runs};
-ghost use Rattle.chain_build.specs.LoggedWalks.{taking};
-ghost use Rattle.chain_build.specs.Plans.{rest_of, run_of};
+ghost use Rattle.chain_build.specs.Compiled.{middle_of};
+ghost use Rattle.chain_build.specs.Giving.{gave};
+ghost use Rattle.chain_build.specs.LoggedWalks.{TakesBy, TakesCalls, chain_runs, dns64_runs};
+ghost use Rattle.chain_build.specs.LoggedWalks.{pointed_runs, taking};
+ghost use Rattle.chain_build.specs.Plans.{inner_of, others_of, rest_of, run_of};
 ghost use Rattle.chain_build.specs.Uses.{IsUsed, SameUses};
 ghost use Rattle.chain_build.specs.Walking.{PassesDns64, decided, decision_of};
 
@@ -17,7 +20,8 @@ use crate::block_uses::BlockUses;
 use crate::ended::Ended;
 use crate::extras::Extras;
 use crate::front::run_middle;
-use crate::room::FrontRoom;
+use crate::given::{Given, as_given, own};
+use crate::room::{FrontRoom, WalkRoom};
 use crate::walk::Walk;
 use dns_data::{NoMemory, Query, Slot};
 use dns64_plugin::{Dns64Plan, a_query, clear_for_second, needs_second, ptr_answer, ttl};
@@ -61,14 +65,14 @@ pub fn run_dns64<'a, R: Wait, S: Side, X: Extras>(
     extras: &mut X,
     side: &mut S,
     room: &mut FrontRoom,
-) -> Result<Ended<'a>, NoMemory>
+) -> Result<Given<'a>, NoMemory>
     requires clear { room.old.walk.plugins.slot ≡ no_answer }
     requires used { IsUsed chain.now uses.old }
     ensures same { SameUses uses.old uses.new }
     ensures takes { TakesCalls
         (chain_runs (rest_of (X.says extras.old) chain.now) walk.now.query.now)
         (mean (rest_of (X.says extras.old) chain.now) walk.now.query.now)
-        (decided result room.new.walk.plugins.slot) (taking (S.state side.old) uses.old)
+        (gave result room.new.walk.plugins.slot) (taking (S.state side.old) uses.old)
         (taking (S.state side.new) uses.new) }
     ensures stays { X.says extras.new ≡ X.says extras.old }
     ensures set { X.directives extras.new ≡ X.directives extras.old }
@@ -83,10 +87,10 @@ pub fn run_dns64<'a, R: Wait, S: Side, X: Extras>(
     };
     let at = Translating { plan, chain };
     if plan.translates(walk.query) {
-        return run_twice(walk, at, uses, extras, side, room);
+        return as_given(run_twice(walk, at, uses, extras, side, room));
     }
     if plan.ptr_query(walk.alloc, walk.query, &mut room.second)? {
-        return run_pointed(walk, at, uses, extras, side, room);
+        return as_given(run_pointed(walk, at, uses, extras, side, room));
     }
     run_middle(walk, rest, uses, extras, side, &mut room.walk)
 }
@@ -118,7 +122,7 @@ fn run_twice<'a, R: Wait, S: Side, X: Extras>(
     let middle = at.chain.middle.as_slice();
     let behind = at.chain;
     let rest = MiddleRest { middle, behind };
-    let ended = run_middle(walk, rest, uses, extras, side, &mut room.walk)?;
+    let ended = run_owned(walk, rest, uses, extras, side, &mut room.walk)?;
     let Some(bound) = bound_behind(ended, &room.walk.plugins.slot) else {
         return Ok(ended);
     };
@@ -129,8 +133,33 @@ fn run_twice<'a, R: Wait, S: Side, X: Extras>(
         alloc: walk.alloc,
         query: &room.second,
     };
-    let other = run_middle(&again, rest, uses, extras, side, &mut room.walk)?;
+    let other = run_owned(&again, rest, uses, extras, side, &mut room.walk)?;
     combine_reply(walk.alloc, at.plan, bound, other, room)
+}
+
+// Runs what stands behind `dns64`, which changes the answer: that of a hit is copied into the slot.
+fn run_owned<'a, R: Wait, S: Side, X: Extras>(
+    walk: &Walk<'_, R>,
+    steps: MiddleRest<'a>,
+    uses: &mut BlockUses,
+    extras: &mut X,
+    side: &mut S,
+    room: &mut WalkRoom,
+) -> Result<Ended<'a>, NoMemory>
+    requires clear { room.old.plugins.slot ≡ no_answer }
+    requires used { IsUsed steps.behind.now uses.old }
+    ensures same { SameUses uses.old uses.new }
+    ensures takes { TakesBy
+        (numbers_in (inner_of steps.entry.behind.now) walk.now.query.now)
+        (mean (map middle_of steps.entry.middle.now
+        ++ others_of (X.says extras.old) steps.entry.behind.now) walk.now.query.now)
+        (decided result room.new.plugins.slot) (taking (S.state side.old) uses.old)
+        (taking (S.state side.new) uses.new) }
+    ensures stays { X.says extras.new ≡ X.says extras.old }
+    ensures set { X.directives extras.new ≡ X.directives extras.old }
+{
+    let given = run_middle(walk, steps, uses, extras, side, room)?;
+    own(walk.alloc, given, &mut room.plugins.slot)
 }
 
 // What the first decision bounds TTLs by, where the rest runs again.
@@ -199,7 +228,7 @@ fn run_pointed<'a, R: Wait, S: Side, X: Extras>(
         alloc: walk.alloc,
         query: &room.second,
     };
-    let ended = run_middle(&inner, rest, uses, extras, side, &mut room.walk)?;
+    let ended = run_owned(&inner, rest, uses, extras, side, &mut room.walk)?;
     point_reply(walk.alloc, walk.query, ended, room)
 }
 

@@ -1,16 +1,14 @@
 -- What stands at a serial and a block of the published generations, and which of them a chain
 -- serves.
-use Rattle.std.proofs.Common.{◌≡◌, ◌≢◌, ◌<◌, inl, inr, ℕ, zero, suc, ◌+◌, Bool, true, List, [], ◌∷◌, ◌++◌, map, length, Option, Some, None, is_some, option_map, slice_get, refl, sym, ap, ◌∙◌, subst, arith}
-use Rattle.std.specs.Prelude.{slice_index_or}
+use Rattle.std.proofs.Common.{◌≡◌, ◌<◌, inl, inr, ℕ, zero, suc, List, [], ◌∷◌, map, length, Option, Some, None, is_some, option_map, slice_get, refl, sym, ap, ◌∙◌, subst, arith}
 use Rattle.std.specs.List.{All, AllByRecursion}
-use Rattle.std.proofs.lemmas.List.{length-map}
 use Rattle.std.proofs.lemmas.List.Elements.{All-head, All-tail}
 use Rattle.std.proofs.lemmas.Option.{none-some, same_Some}
 use Rattle.block_readings.specs.Readings.{BlockReading, block_reading}
 use Rattle.chain_build.specs.declared.block.BlockChain.{BlockChain}
 use Rattle.chain_build.specs.declared.chain.Chain.{Chain}
 use Rattle.chain_build.specs.{PlansData, chain_identity, chain_log, chain_places, ground_of, plans_of}
-use Rattle.chain_build.specs.History.{AllHave, AreNamedBy, AreReadApart, has_cache, name_in, names_of, readings_of}
+use Rattle.chain_build.specs.History.{AllHave, AreNamedBy, AreReadApart, name_in, names_of, readings_of}
 use Rattle.chain_build.specs.KeysLaws.{reads_apart}
 use Rattle.chain_build.specs.Lending.{IsNamed}
 use Rattle.chain_build.specs.LentsLaws.{IsIn, somes}
@@ -26,7 +24,6 @@ use Rattle.dns_data.specs.declared.file.FileText.{FileText}
 use Rattle.lent_caches.specs.Named.{NamedData, named_data}
 use Rattle.lent_caches.specs.PlanLaws.{cached_stays}
 use Rattle.lent_caches.specs.declared.name.NamedCache.{NamedCache}
-use Rattle.one_history.specs.Logs.{Place}
 use Rattle.one_history.specs.Names as history
 use Rattle.one_history.specs.Runs.{reading}
 use Rattle.pin_table.specs.declared.views.Drain.{Drain}

@@ -1,25 +1,24 @@
 -- Once all chains are home, what the sides told gives one history of each cache.
-use Rattle.std.proofs.Common.{◌≡◌, ◌<◌, ◌≤◌, ◌⊎◌, inl, inr, ℕ, zero, suc, ◌+◌, true, List, [], ◌∷◌, ◌++◌, map, length, reverse, Option, Some, None, option_map, slice_get, refl, sym, ap, ◌∙◌, subst, arith}
+use Rattle.std.proofs.Common.{◌≡◌, ◌<◌, ◌⊎◌, inl, inr, ℕ, zero, suc, true, List, [], ◌∷◌, ◌++◌, map, length, reverse, Option, Some, option_map, slice_get, refl, sym, ap, ◌∙◌, subst, arith}
 use Rattle.std.specs.List.{All, sum_by}
 use Rattle.std.proofs.lemmas.List.{length-map, map-append}
 use Rattle.std.proofs.lemmas.List.Elements.{All-cons, All-head, All-nil, All-tail, All-weaker}
 use Rattle.std.proofs.lemmas.Option.{none-some, same_Some, slice_get-map}
-use Rattle.all_home.specs.AllHome.{AllHome, AreAccounted, AreFull, IsLive, HasDrain}
+use Rattle.all_home.specs.AllHome.{AreAccounted, AreFull, IsLive, HasDrain}
 use Rattle.block_readings.specs.Readings.{BlockReading}
 use Rattle.cache_shards.specs.Answers.{Capacities, IsLegal}
-use Rattle.cache_shards.specs.Planned.{planned_capacities}
 use Rattle.chain_build.specs.declared.chain.Chain.{Chain}
 use Rattle.chain_build.specs.{PlansData, chain_identity, chain_log, plans_of}
 use Rattle.chain_build.specs.EndedLaws.{GoneFor, IsOwned, drained_apart, home_seats}
-use Rattle.chain_build.specs.History.{has_cache, names_of, no_generation, readings_of}
+use Rattle.chain_build.specs.History.{has_cache, names_of, readings_of}
 use Rattle.chain_build.specs.HistoryPins.{ArePassesGrown, passes_with}
 use Rattle.chain_build.specs.HistoryPinsLaws.{IsToldPass, passes_long, same_log, worker_kept, worker_pins}
 use Rattle.chain_build.specs.LentsLaws.{IsIn, chain_uses, plans_caches}
 use Rattle.chain_build.specs.Naming.{name_at, plans_generation}
-use Rattle.chain_build.specs.Seats.{AreOtherChains, home_of, name_of, owner_of, seats_home}
+use Rattle.chain_build.specs.Seats.{home_of, owner_of, seats_home}
 use Rattle.chain_build.specs.Uses.{chain_named}
 use Rattle.chain_build.specs.Workers.{chain_lents, chains_lents}
-use Rattle.lent_caches.specs.Held.{AreWhole, CacheOf, HeldData, LentData, caches_data, given_all}
+use Rattle.lent_caches.specs.Held.{AreWhole, CacheOf, LentData, caches_data, given_all}
 use Rattle.lent_caches.specs.KeptLaws.{same_self}
 use Rattle.lent_caches.specs.Ledger.{AllOf, HasGone, count_named, use_names}
 use Rattle.lent_caches.specs.Named.{NamedData, named_of}
@@ -43,7 +42,6 @@ use Rattle.pin_table.specs.Shown.{Once}
 use Rattle.pin_table.specs.{IsKept, IsOfIdentity, plan_of, standing, views_of}
 use Rattle.pin_table.specs.Handles.{pass_of}
 use Rattle.pin_table.specs.Tags as tags
-use Rattle.plugin_api.specs.{PlanData}
 use Rattle.plugin_api.specs.declared.extra.Extra as extra
 use Rattle.plugin_api.specs.declared.rulebook.Rulebook as rulebook
 use Rattle.reload_watch.specs.declared.watcher.Watcher.{Watcher}

@@ -6,6 +6,7 @@ use Rattle.chain_meaning.specs.Caching.{cached}
 use Rattle.chain_build.specs.Plans.{behind_of, inner_of}
 use Rattle.chain_build.specs.WalkingLaws.{inner-beyond, inner-cached, inner-none}
 use Rattle.chain_build.proofs.CachedWalks.{inner_pool}
+use Rattle.chain_build.proofs.Givings.{tb_result}
 use Rattle.chain_build.proofs.LoggedWalks.{takes_by, tb_as}
 use Rattle.chain_build.proofs.caching.run_inner.Goals as goal
 use Rattle.chain_build.proofs.caching.run_inner.Goals.{in-Some+else-covers, in_default}
@@ -25,4 +26,5 @@ returns-clause-takes g c =
       | in-Some+else-covers w ↦ inner-beyond chain.cache w.in-Some.plan (behind_of chain) q w.in-Some.is (sym w.covers.ensures ∙ w.if-covers.false)
       | in_default w ↦ inner-none chain.cache (behind_of chain) q w.in_default.is
     ] in
-    tb_as (mean (behind_of chain) q) _ (ap (λ pool. record { shard = shard; pool = pool }) (inner_pool chain.cache (behind_of chain) q)) same (takes_by shard c.args.uses.now.cache c.run_behind.ensures.asks)
+    tb_result (mean (inner_of chain) q) (c.as_given.ensures c.run_behind.new.room.plugins.slot)
+    (tb_as (mean (behind_of chain) q) _ (ap (λ pool. record { shard = shard; pool = pool }) (inner_pool chain.cache (behind_of chain) q)) same (takes_by shard c.args.uses.now.cache c.run_behind.ensures.asks))

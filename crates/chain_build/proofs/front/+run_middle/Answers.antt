@@ -7,7 +7,7 @@ use Rattle.chain_build.specs.Compiled.{front_answerer, middle_of}
 use Rattle.chain_build.specs.Plans.{inner_of, others_of}
 use Rattle.chain_build.specs.WalkingLaws.{middle-answers, middle-end}
 use Rattle.chain_build.proofs.LoggedWalks.{tb_as, tb_nothing, tb_starved}
-use Rattle.chain_build.proofs.Walks.{answers, decided-err, goes}
+use Rattle.chain_build.proofs.Walks.{answers, gave-err, goes}
 use Rattle.chain_build.proofs.front.+run_middle.Goals as goal
 
 pub returns-in_default-clause-takes : goal.returns-in_default-clause-takes
@@ -18,7 +18,7 @@ returns-in_default-clause-takes g t c =
 pub returns-in_err-ended-clause-takes : goal.returns-in_err-ended-clause-takes
 returns-in_err-ended-clause-takes g t c =
     let steps = map middle_of c.args.steps.middle.now ++ others_of (g.X.Extras.says c.args.extras.now) c.args.steps.behind.now in
-    tb_starved (numbers_in (inner_of c.args.steps.behind.now) c.args.walk.now.query.now) (mean steps c.args.walk.now.query.now) (decided-err _ c.front_answer.new.slot c.from_residual.ensures.0) (mean_nothing steps c.args.walk.now.query.now)
+    tb_starved (numbers_in (inner_of c.args.steps.behind.now) c.args.walk.now.query.now) (mean steps c.args.walk.now.query.now) (gave-err _ c.front_answer.new.slot c.from_residual.ensures.0) (mean_nothing steps c.args.walk.now.query.now)
 
 pub returns-in-Some-2-clause-takes : goal.returns-in-Some-2-clause-takes
 returns-in-Some-2-clause-takes g t c =

@@ -1,21 +1,21 @@
-use Rattle.std.proofs.Common.{◌≡◌, rules}
-use Rattle.plain_plugins.specs.{error_line}
+use Rattle.std.proofs.Common.{Ok, refl, subst, sym}
 use Rattle.chain_meaning.specs.Mean.{error_noted}
-use Rattle.chain_meaning.specs.MeanLaws.{error_nothing}
-use Rattle.chain_build.specs.Walking.{decision_of}
-use Rattle.chain_build.proofs.LoggedWalks.{quiet_code, quiet_other, quiet_starved}
-use Rattle.chain_build.proofs.Walks.{decided-err}
+use Rattle.chain_build.specs.Giving.{decision_in, gave}
+use Rattle.chain_build.specs.LoggedWalks.{TakesQuietly}
+use Rattle.chain_build.specs.declared.given.Given.{Given}
+use Rattle.chain_build.specs.declared.given.Given.TheVariants as given
+use Rattle.chain_build.proofs.Givings.{quiet_result}
+use Rattle.chain_build.proofs.LoggedWalks.{quiet_nothing}
 use Rattle.chain_build.proofs.noting.note_error.Goals as goal
 
-pub returns-in_err-line : goal.returns-in_err-line
-returns-in_err-line g c answer =
-    let v = decision_of c.args.ended answer in
-    quiet_starved (error_noted c.args.query.now v) (decided-err c.from_residual.result answer c.from_residual.ensures.0) (error_nothing c.args.query.now v)
+pub returns-in-Ended : goal.returns-in-Ended
+returns-in-Ended g c answer =
+    let q = c.args.query.now in
+    subst (λ (x : Given). TakesQuietly (error_noted q (decision_in x answer)) (gave c.as_given.result answer) (g.S.Side.state c.args.side.now) (g.S.Side.state c.note_ended.new.side)) (sym c.in-Ended.is)
+    (quiet_result (error_noted q (decision_in (given.Ended c.in-Ended.ended) answer)) (c.as_given.ensures answer) (c.note_ended.ensures answer))
 
-pub returns-in-Code : goal.returns-in-Code
-returns-in-Code g c answer =
-    let line : c.as_bytes.result.now ≡ error_line c.args.query.now c.in-Code.code c.in-Code.cause = search rules in
-    quiet_code c.args.query.now c.args.ended c.in-Code.code c.in-Code.cause answer c.as_bytes.result.now c.note.result c.in-Code.is line c.note.ensures.told c.note.ensures.counts.stays
-
-pub returns : goal.returns
-returns g c answer = quiet_other c.args.query.now c.args.ended answer c.in_default.not-Code
+pub returns-in-Hit : goal.returns-in-Hit
+returns-in-Hit g c answer =
+    let q = c.args.query.now in
+    subst (λ (x : Given). TakesQuietly (error_noted q (decision_in x answer)) (Ok (decision_in (given.Hit c.in-Hit.hit) answer)) (g.S.Side.state c.args.side.now) (g.S.Side.state c.args.side.now)) (sym c.in-Hit.is)
+    (quiet_nothing (error_noted q (decision_in (given.Hit c.in-Hit.hit) answer)) (λ left. refl))

@@ -2,6 +2,7 @@ use Rattle.std.proofs.Common.{◌∙◌}
 use Rattle.chain_meaning.specs.CallsByRun.{chain_calls}
 use Rattle.chain_meaning.specs.Serving.{chain_decides}
 use Rattle.chain_meaning.specs.declared.decision.Decision.TheVariants as decision
+use Rattle.chain_build.specs.Giving.{decision_in}
 use Rattle.chain_build.specs.Logs.{held_log}
 use Rattle.chain_build.specs.Plans.{steps_in}
 use Rattle.chain_build.specs.Workers.{server_in}
@@ -26,7 +27,7 @@ returns-in-Ok-Some-clause-tells g c =
 pub returns-in-Ok-clause-tells : goal.returns-in-Ok-clause-tells
 returns-in-Ok-clause-tells g c =
     told_by g.B.Rulebook.taken g.B.Rulebook.said c.args.plans.now c.args.held.now.serial c.args.arrived.now.datagram.now c.args.room.now.query.name c.args.beside c.fill_query.new.query
-    (decision_of c.in-Ok.ended c.run_found.new.room.walk.plugins.slot) c.finish_apart-in-Ok.result c.tell.ensures.accepted c.requires.asks c.fill_query.ensures
+    (decision_in c.in-Ok.given c.run_found.new.room.walk.plugins.slot) c.finish_apart-in-Ok.result c.tell.ensures.accepted c.requires.asks c.fill_query.ensures
     (chain_calls (steps_in g.B.Rulebook.said c.in-Some.found.1.now) c.args.held.now.serial c.in-Some.found.0 c.fill_query.new.query) _ _ (c.in-Some.ensures.calls c.args.held.now.serial)
     (takes_at (chain_decides (steps_in g.B.Rulebook.said c.in-Some.found.1.now) c.fill_query.new.query) _ c.in-Some.ensures.some c.in-Ok.ensures.takes) c.finish_apart-in-Ok.ensures
 

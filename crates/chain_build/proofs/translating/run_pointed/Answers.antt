@@ -19,5 +19,5 @@ returns-clause-takes g c =
     let chain = c.args.at.chain.now in
     let q = c.args.walk.now.query.now in
     let steps = run_of (g.X.Extras.says c.args.extras.now) chain in
-    pointed_takes steps c.args.at.plan.now q c.args.room.now.second (decision_of c.in_ok-ended.ended c.run_middle.new.room.plugins.slot) c.point_reply.result c.point_reply.new.room.walk.plugins.slot
+    pointed_takes steps c.args.at.plan.now q c.args.room.now.second (decision_of c.in_ok-ended.ended c.run_owned.new.room.plugins.slot) c.point_reply.result c.point_reply.new.room.walk.plugins.slot
     (run_as chain c.as_slice-middle.result.now c.args.room.now.second c.as_slice-middle.ensures refl c.in_ok-ended.ensures.takes) c.point_reply.ensures

@@ -20,7 +20,7 @@ returns-in_default-clause-takes g c =
     let chain = c.args.at.chain.now in
     let q = c.args.walk.now.query.now in
     let steps = run_of (g.X.Extras.says c.args.extras.now) chain in
-    let v = decision_of c.in_ok-ended.ended c.run_middle.new.room.plugins.slot in
+    let v = decision_of c.in_ok-ended.ended c.run_owned.new.room.plugins.slot in
     twice_takes steps c.args.at.plan.now q c.requires.both (run_as chain c.as_slice-middle.result.now q c.as_slice-middle.ensures refl c.in_ok-ended.ensures.takes)
     (second_stands steps c.args.at.plan.now q v (sym c.bound_behind.ensures.value ∙ c.in_default.is))
 
@@ -30,7 +30,7 @@ returns-in_err-a_query-clause-takes g c =
     let chain = c.args.at.chain.now in
     let q = c.args.walk.now.query.now in
     let steps = run_of (g.X.Extras.says c.args.extras.now) chain in
-    let v = decision_of c.in_ok-ended.ended c.run_middle.new.room.plugins.slot in
+    let v = decision_of c.in_ok-ended.ended c.run_owned.new.room.plugins.slot in
     twice_takes steps c.args.at.plan.now q c.requires.both (run_as chain c.as_slice-middle.result.now q c.as_slice-middle.ensures refl c.in_ok-ended.ensures.takes)
     (second_starved steps c.args.at.plan.now q v c.in-Some.bound (decided c.from_residual-in_err-a_query.result _) (sym c.bound_behind.ensures.value ∙ c.in-Some.is)
     (decided-err c.from_residual-in_err-a_query.result _ c.from_residual-in_err-a_query.ensures.0))
@@ -41,7 +41,7 @@ returns-in_err-other-clause-takes g c =
     let chain = c.args.at.chain.now in
     let q = c.args.walk.now.query.now in
     let steps = run_of (g.X.Extras.says c.args.extras.now) chain in
-    let v = decision_of c.in_ok-ended.ended c.run_middle.new.room.plugins.slot in
+    let v = decision_of c.in_ok-ended.ended c.run_owned.new.room.plugins.slot in
     twice_takes steps c.args.at.plan.now q c.requires.both (run_as chain c.as_slice-middle.result.now q c.as_slice-middle.ensures refl c.in_ok-ended.ensures.takes)
     (second_fails steps c.args.at.plan.now q v c.a_query.new.second c.in-Some.bound (decided c.from_residual-in_err-other.result _) (sym c.bound_behind.ensures.value ∙ c.in-Some.is) c.in_ok-a_query.ensures
     (decided-err c.from_residual-in_err-other.result _ c.from_residual-in_err-other.ensures.0)
@@ -53,9 +53,9 @@ returns-clause-takes g c =
     let chain = c.args.at.chain.now in
     let q = c.args.walk.now.query.now in
     let steps = run_of (g.X.Extras.says c.args.extras.now) chain in
-    let v = decision_of c.in_ok-ended.ended c.run_middle.new.room.plugins.slot in
+    let v = decision_of c.in_ok-ended.ended c.run_owned.new.room.plugins.slot in
     twice_takes steps c.args.at.plan.now q c.requires.both (run_as chain c.as_slice-middle.result.now q c.as_slice-middle.ensures refl c.in_ok-ended.ensures.takes)
-    (second_takes steps c.args.at.plan.now q v c.a_query.new.second c.in-Some.bound (decision_of c.in_ok-other.other c.run_middle-2.new.room.plugins.slot) c.combine_reply.result c.combine_reply.new.room.walk.plugins.slot
+    (second_takes steps c.args.at.plan.now q v c.a_query.new.second c.in-Some.bound (decision_of c.in_ok-other.other c.run_owned-2.new.room.plugins.slot) c.combine_reply.result c.combine_reply.new.room.walk.plugins.slot
     (sym c.bound_behind.ensures.value ∙ c.in-Some.is) c.in_ok-a_query.ensures
     (run_as chain c.as_slice-middle.result.now c.a_query.new.second c.as_slice-middle.ensures c.in_ok-ended.ensures.stays c.in_ok-other.ensures.takes)
     c.combine_reply.ensures)

@@ -12,7 +12,7 @@ from program import PROGRAM, Rows, needs_program  # noqa: E402
 
 SECONDS = 120
 # The least and the most queries, and one more than a name's round.
-COUNTS = [1, 2, 3, 1499, 1500, 1501, 20_000]
+COUNTS = [1, 2, 3, 1000, 1499, 1500, 1501, 20_000]
 MOST = 100_000
 # Processor seconds, journals and all: some five times what was measured, so that a busy machine isn't a fault.
 PROCESSOR = 5

@@ -1,5 +1,5 @@
 -- What the sides of a load took, by their scripts and their laws.
-use Rattle.std.proofs.Common.{◌≡◌, ◌≢◌, ◌∙◌, ◌≤◌, ◌<◌, ◌+◌, ◌⊎◌, ℕ, zero, suc, cond, List, [], ◌∷◌, ◌++◌, length, map, take, Option, Some, None, append-nil, refl, sym, ap, subst, inl, inr, arith}
+use Rattle.std.proofs.Common.{◌≡◌, ◌≢◌, ◌∙◌, ◌≤◌, ◌<◌, ◌+◌, ◌⊎◌, ℕ, zero, suc, cond, List, [], ◌∷◌, ◌++◌, length, map, take, Option, Some, None, append-nil, option_map, refl, sym, ap, subst, inl, inr, arith}
 use Rattle.std.specs.Prelude.{IfSome}
 use Rattle.std.specs.List.{AllByRecursion, flat_map}
 use Rattle.std.proofs.lemmas.List.Concat.{flat_map-cons}
@@ -12,9 +12,12 @@ use Rattle.outside.specs.Causes.{HostCounts}
 use Rattle.outside.specs.Hosts.{SupplyData}
 use Rattle.outside.specs.Script.{AnsweredSide, FollowsScript, HasNoOtherFaults, QuietSide, SideScriptData, gets_alone, recvs_in}
 use Rattle.outside.specs.States.{WatchState}
-use Rattle.outside_mem.specs.{side_state}
+use Rattle.outside.specs.WatchMarks.{AnsweredWatch}
+use Rattle.outside_mem.specs.{side_state, watch_state}
 use Rattle.outside_mem.specs.SideTold.{answered}
+use Rattle.outside_mem.specs.WatchTold.{watch_answered}
 use Rattle.outside_mem.specs.declared.side.MemSide.{MemSide}
+use Rattle.outside_mem.specs.declared.watch.MemWatch.{MemWatch}
 use Rattle.corefile_blocks.specs.declared.bundle.Bundle.{Bundle}
 use Rattle.load_maker.specs.{datagrams_in}
 use Rattle.load_maker.specs.Summary.{is_taken, taken_in}
@@ -45,6 +48,14 @@ all_memory (done ∷ dones) =
       },
       all_memory dones,
     )
+
+-- the law of a watch in memory
+abbrev pub IsMemoryWatch : WatchState → Type 0
+IsMemoryWatch watch = AnsweredWatch watch.script watch.journal
+
+pub memory_watch : (watch : Option MemWatch) → IfSome (option_map watch_state watch) IsMemoryWatch
+memory_watch None = tt
+memory_watch (Some w) = watch_answered w.feed w.journal w.tells
 
 -- a script that gives datagrams, and by which no call fails
 pub record GivesAlone (script : SideScriptData) : Type 0 where

@@ -10,6 +10,7 @@ pub mod WatchRun
 pub mod Readings
 pub mod Report
 pub mod Roles
+pub mod LoadCounts
 pub mod Loading
 pub mod Words
 pub mod Telling

@@ -12,6 +12,7 @@ use Rattle.load_maker.specs.declared.load.Load.{Load}
 use Rattle.load_maker.specs.{TellsAll, TellsSome, conf_name, datagrams_in, host_of, load_of, queries_by}
 use Rattle.load_maker.specs.{summary_lines, summary_of}
 use Rattle.load_maker.specs.Summary.{taken_in}
+use Rattle.dns_server.specs.LoadCounts.{load_summary}
 use Rattle.dns_server.specs.declared.report.LoadRun.{LoadRun}
 use Rattle.dns_server.specs.declared.status.Status.{Status}
 use Rattle.dns_server.specs.declared.status.Status.TheVariants as status
@@ -149,6 +150,13 @@ pub record TookQueries (load : Load) (count : ℕ) (udp tcp : List Mark) : Type 
   pub tcp_took : datagrams_in tcp ≡ queries_by Tcp load.datagrams
   pub all : taken_in udp + taken_in tcp ≡ count
 
+-- where both sides and the watch told their journals to the end, the summary is that which the
+-- number of queries alone gives
+abbrev pub LoadSays : ℕ → LoadData → Type 0
+LoadSays count load = load.watch.journal ≢ None → (udp tcp : List Mark)
+    → TellBoth load.sides udp tcp
+    → summary_of udp tcp load.published ≡ load_summary count
+
 -- how a run over memory that published something ends: no call of its sides fails
 abbrev pub EndsLoad : Status → Type 0
 EndsLoad status.NoMemory = Unit {0}
@@ -166,6 +174,7 @@ pub record HasRun (program : Program) (count : ℕ) (load : LoadData) (run : Run
   pub quiet : AllByRecursion HasNoFault load.sides
   pub took : how ≡ status.Ended → (udp tcp : List Mark) → TellBoth load.sides udp tcp
       → TookQueries load.load count udp tcp
+  pub says : how ≡ status.Ended → LoadSays count load
   pub tells : TellsLoad how load run.status before after
 
 -- a run over memory that published nothing came to the report's status

@@ -6,7 +6,7 @@ use Rattle.load_maker.specs.{load_state}
 use Rattle.dns_server.specs.Loading.{load_data, memory_setup}
 use Rattle.dns_server.specs.Report.{RunData, RunsCommand, run_data}
 use Rattle.dns_server.specs.Stocking.{StockData, brings, data_weighs, stock_data}
-use Rattle.dns_server.proofs.LoadSides.{all_memory}
+use Rattle.dns_server.proofs.LoadSides.{all_memory, memory_watch}
 use Rattle.dns_server.proofs.Loads.{load_ran, load_starves, told_stock}
 use Rattle.dns_server.proofs.Stocked.{data_is, names_map}
 use Rattle.dns_server.proofs.loading.run_load.Goals as goal
@@ -37,7 +37,7 @@ returns-clause-loads g c =
       runs = subst (λ (x : List ℕ × List (List ℕ) × HostState). RunsCommand (memory_setup g.B.Rulebook.taken g.B.Rulebook.said x.1 x.0) inner x.2 (load_state c.run_memory-ran.new.memory))
           (λ i. (c.in-Ok-loaded.ensures.conf i, c.in-Ok.ensures.parts.judges_are i, c.in-Ok-loaded.ensures.host i)) c.run_memory-ran.ensures.runs;
     })
-    (all_memory c.run_memory-ran.result.sides.items) (omega arith) c.tell_load.ensures.tells
+    (all_memory c.run_memory-ran.result.sides.items) (memory_watch c.run_memory-ran.result.watch) (omega arith) c.tell_load.ensures.tells
 
 pub returns-clause-extras : goal.returns-clause-extras
 returns-clause-extras g c = λ name.

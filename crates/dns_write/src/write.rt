@@ -205,6 +205,7 @@ fn room_for_records(limit: usize, opt: &Option<Opt>) -> usize
     }
 }
 
+#[inline(always)]
 #[tactic(auto, unfolding(crate::specs::Written::put_question))]
 fn put_question<'a>(writer: &mut Writer<'a>, parts: &MessageParts<'a>) -> Result<(), NoMemory>
     requires { writer.old ≡ empty }

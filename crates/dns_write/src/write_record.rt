@@ -90,7 +90,7 @@ fn put_address(
 
 // What stands behind the owner of an SRV record: all in front of its target by one put, and the
 // target, which is written whole (RFC 2782).
-#[inline]
+#[inline(always)]
 fn put_service(
     writer: &mut Writer<'_>,
     class: u16,

@@ -219,6 +219,7 @@ impl<'a> Writer<'a> {
 
     /// Puts the labels of the first name behind the header. With a zero byte behind them they are
     /// what `put_name` puts there, where no suffix of the name can stand before.
+    #[inline(always)]
     pub fn put_first_labels(&mut self, name: &'a Name) -> Result<(), NoMemory>
         requires { self.old ≡ empty }
         ensures text { OnOk result (put self.new (0 ∷ []) ≡ put_name self.old name.now) }

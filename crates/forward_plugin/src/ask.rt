@@ -10,7 +10,7 @@ use dns_write::{MessageParts, write_parts};
 use std::alloc::Global;
 
 /// The bytes of an ask whose id this word gives.
-pub(crate) fn ask_bytes(alloc: Global, word: u64, query: &Query) -> Result<Buffer, NoMemory>
+pub fn ask_bytes(alloc: Global, word: u64, query: &Query) -> Result<Buffer, NoMemory>
     ensures text { IfOk result (λ bytes. bytes ≡ ask_bytes word query.now) }
     ensures spelt { IfOk result (λ bytes. Spells bytes (ask_of word query.now)) }
 {

@@ -53,7 +53,7 @@ impl Model for ForwardPlan {
 
 impl ForwardPlan {
     /// Whether it is for this name.
-    pub(crate) fn is_for(&self, name: &Name) -> bool
+    pub fn is_for(&self, name: &Name) -> bool
         ensures { result ≡ is_for self.now name.now }
     {
         name.is_within(&self.from) && !is_in(name, self.except.as_slice())
@@ -82,7 +82,7 @@ impl ForwardPlan {
     }
 
     /// Over what its upstreams are asked.
-    pub(crate) fn by(&self, by: Transport) -> Transport
+    pub fn by(&self, by: Transport) -> Transport
         ensures { result ≡ by_of self.now by }
     {
         if self.is_forced {
@@ -92,7 +92,7 @@ impl ForwardPlan {
     }
 
     /// All upstreams, from this one on.
-    pub(crate) fn from_on(&self, start: usize) -> &[Numbered]
+    pub fn from_on(&self, start: usize) -> &[Numbered]
         requires { start < length self.now.upstreams }
         ensures { result.now ≡ cyclic start (numbered self.now.upstreams) }
     {
@@ -101,7 +101,7 @@ impl ForwardPlan {
     }
 
     /// The turn of a query.
-    pub(crate) fn turn(&self, drawn: Drawn) -> Turn
+    pub fn turn(&self, drawn: Drawn) -> Turn
         ensures value { result ≡ plan_turn self.now drawn }
         ensures inside { IfSome result.start (λ start. start < length self.now.upstreams) }
     {

@@ -10,7 +10,7 @@ use outside::Outcome;
 use std::alloc::Global;
 
 /// Whether an outcome is a reply that agrees. Its answer is then in the slot, which else stays.
-pub(crate) fn agreed_in(
+pub fn agreed_in(
     alloc: Global,
     word: u64,
     query: &Query,
@@ -85,7 +85,7 @@ fn is_plain(opt: &Option<Opt>) -> bool
 }
 
 /// Whether an outcome is a reply.
-pub(crate) fn is_got(outcome: &Outcome) -> bool
+pub fn is_got(outcome: &Outcome) -> bool
     ensures { result ≡ is_got outcome.now }
 {
     match outcome {

@@ -108,7 +108,7 @@ fn has_bit(mask: u16, number: u32) -> bool
 }
 
 /// Whether an upstream's bit is clear.
-pub(crate) fn is_up(mask: u16, numbered: &Numbered) -> bool
+pub fn is_up(mask: u16, numbered: &Numbered) -> bool
     ensures { result ≡ is_up mask numbered.now }
 {
     !has_bit(mask, numbered.number)

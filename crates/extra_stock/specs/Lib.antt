@@ -9,4 +9,4 @@ pub use Rattle.extra_stock.specs.Passing.{all_pass, all_taken, passing_book, pas
 pub use Rattle.extra_stock.specs.Shortage.{IsShort, SaysShort, first_short}
 pub use Rattle.extra_stock.specs.Stocks.{are_numbered, asked_by, in_chains, is_named, names_weigh}
 pub use Rattle.extra_stock.specs.Stocks.{seats_in, seats_of_chains}
-pub use Rattle.extra_stock.specs.Turns.{in_turn}
+pub use Rattle.extra_stock.specs.Turns.{in_turn, said_at}

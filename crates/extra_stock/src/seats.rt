@@ -1,5 +1,5 @@
 ghost use Rattle.std.specs.Prelude.{◌≡◌, IfOk};
-ghost use Rattle.extra_stock.specs.Turns.{in_turn};
+ghost use Rattle.extra_stock.specs.Turns.{in_turn, said_at};
 
 use crate::seat::Seat;
 use dns_data::{NoMemory, Query};
@@ -38,5 +38,16 @@ impl<B: Rulebook, E: Extra> Seats<B, E> {
             }
         }
         Ok(Verdict::Pass)
+    }
+
+    /// What the one at a place says of a query, which passes where there is none.
+    pub fn ask_at(&mut self, alloc: Global, at: usize, query: &Query) -> Result<Verdict, NoMemory>
+        ensures says { IfOk result (λ verdict. verdict ≡ said_at B.said self.old at query.now) }
+        ensures stays { self.new ≡ self.old }
+    {
+        match self.seats.get_mut(at) {
+            Some(seat) => seat.decide(alloc, query),
+            None => Ok(Verdict::Pass),
+        }
     }
 }

@@ -1,0 +1,9 @@
+pub mod Says
+pub mod Lines
+pub mod Names
+pub mod NamesLaws
+pub mod PickedLaws
+pub mod Trail
+pub mod TrailLaws
+pub mod Trails
+pub mod TrailsLaws

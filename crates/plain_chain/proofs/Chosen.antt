@@ -18,18 +18,23 @@ use Rattle.outside.specs.Meanings.{Done}
 use Rattle.outside.specs.declared.mark.Mark.{Mark}
 use Rattle.chain_meaning.specs.Mean.{mean, nothing}
 use Rattle.chain_meaning.specs.Serving.{block_decides, block_of, chain_decides, is_known_version, query_decides, refused}
+use Rattle.chain_meaning.specs.declared.decision.Decision.{Decision}
 use Rattle.chain_meaning.specs.declared.decision.Decision.TheVariants as decision
-use Rattle.plugin_api.specs.{Sayings}
-use Rattle.chain_meaning.specs.Steps.{Step, block_extras, cache_steps, dns64_steps, extra_steps, rewrite_steps, steps_of}
+use Rattle.plugin_api.specs.{PlanData, Sayings}
+use Rattle.chain_meaning.specs.Steps.{Step, block_extras, cache_steps, dns64_steps, extra_step, extra_steps, rewrite_steps, steps_of}
 use Rattle.chain_build.specs.Compiled.{back_of, front_of, middle_of}
-use Rattle.chain_build.specs.Plans.{behind_of, extras_in, heads_in, steps_in}
+use Rattle.chain_build.specs.Plans.{behind_of, extras_in, heads_in, inner_of, steps_in}
 use Rattle.chain_build.specs.declared.block.BlockChain.{BlockChain}
 use Rattle.corefile_blocks.specs.declared.bundle.Bundle.{Bundle}
 use Rattle.chain_build.specs.{ReadsBundle}
 use Rattle.chain_build.specs.declared.fault.CheckFault.{CheckFault}
 use Rattle.chain_build.specs.declared.fault.CheckFault.TheVariants as check
 use Rattle.plain_chain.specs.Reading.{ReadsPlain, has_extra, has_none, is_some_extra, plain_terms}
-use Rattle.plain_chain.specs.Steps.{plain_steps}
+use Rattle.plain_chain.specs.Steps.{plain_others, plain_rest, plain_run, plain_steps}
+use Rattle.plain_chain.specs.Traced.{chain_traced}
+use Rattle.chain_trail.specs.Trail.{bare, traced}
+use Rattle.chain_trail.specs.TrailLaws.{traced-means}
+use Rattle.chain_trail.specs.declared.reached.StepName.{StepName}
 
 -- what was read of the block of a number
 module _ (said : Sayings) (files : List FileText) (read : List BlockChain) (blocks : List Block) (same : map (steps_in said) read ≡ map (steps_of said files) blocks) where
@@ -115,12 +120,16 @@ both-true true true c p q e = e
 both-true false b c p q e = absurd cc
 both-true true false c p q e = absurd cc
 
--- a chain without extras and a cache is its own steps
-pub own-steps : (said : Sayings) (chain : BlockChain) → chain.extras ≡ [] → chain.cache ≡ None → steps_in said chain ≡ plain_steps chain.front chain
-own-steps said chain none uncached =
-    (λ i. heads_in chain ++ (extra_steps said (none i) ++ (cache_steps (uncached i) ++ behind_of chain)))
-    ∙ append_assoc (map front_of chain.front) (dns64_steps chain.dns64 ++ map middle_of chain.middle) (behind_of chain)
-    ∙ ap (λ (rest : List Step). map front_of chain.front ++ rest) (append_assoc (dns64_steps chain.dns64) (map middle_of chain.middle) (behind_of chain))
+-- a chain step by step
+pub chain-steps : (said : Sayings) (chain : BlockChain) → steps_in said chain ≡ plain_steps said chain.front chain
+chain-steps said chain =
+    append_assoc (map front_of chain.front) (dns64_steps chain.dns64 ++ map middle_of chain.middle) (plain_others said chain.extras chain)
+    ∙ ap (λ (rest : List Step). map front_of chain.front ++ rest) (append_assoc (dns64_steps chain.dns64) (map middle_of chain.middle) (plain_others said chain.extras chain))
+
+-- without extras it is no matter what they say
+pub none-say : (said other : Sayings) (chain : BlockChain) → chain.extras ≡ [] → steps_in said chain ≡ steps_in other chain
+none-say said other chain none =
+    (λ i. heads_in chain ++ (extra_steps said (none i) ++ inner_of chain)) ∙ (λ i. heads_in chain ++ (extra_steps other (sym none i) ++ inner_of chain))
 
 -- what a query of class IN is asked for
 pub asked-decides : (opt : Option Opt) (class : ℕ) (steps : Block → List Step) (blocks : List Block) (q : Query) (marks : List Mark) → is_known_version opt ≡ true → nat_eq class classes.IN ≡ true
@@ -155,18 +164,21 @@ no-steps [] none = refl
 no-steps (step ∷ steps) none = absurd (omega (arith, none))
 
 -- how many it has
-pub own-length : (said : Sayings) (chain : BlockChain) → chain.extras ≡ [] → chain.cache ≡ None
-    → length (steps_in said chain) ≡ length chain.front + (length (dns64_steps chain.dns64) + (length chain.middle + (length (rewrite_steps chain.rewrites) + length chain.back)))
-own-length said chain none uncached =
+pub own-length : (said : Sayings) (chain : BlockChain)
+    → length (steps_in said chain) ≡ length chain.front + (length (dns64_steps chain.dns64) + (length chain.middle + (length chain.extras + (length (cache_steps chain.cache) + (length (rewrite_steps chain.rewrites) + length chain.back)))))
+own-length said chain =
     omega (
       arith,
-      ap length (own-steps said chain none uncached),
-      length-append (map front_of chain.front) (dns64_steps chain.dns64 ++ (map middle_of chain.middle ++ behind_of chain)),
-      length-append (dns64_steps chain.dns64) (map middle_of chain.middle ++ behind_of chain),
-      length-append (map middle_of chain.middle) (behind_of chain),
+      ap length (chain-steps said chain),
+      length-append (map front_of chain.front) (plain_rest said chain),
+      length-append (dns64_steps chain.dns64) (plain_run said chain.middle chain),
+      length-append (map middle_of chain.middle) (plain_others said chain.extras chain),
+      length-append (extra_steps said chain.extras) (inner_of chain),
+      length-append (cache_steps chain.cache) (behind_of chain),
       length-append (rewrite_steps chain.rewrites) (map back_of chain.back),
       length-map chain.front front_of,
       length-map chain.middle middle_of,
+      length-map chain.extras (extra_step said),
       length-map chain.back back_of,
     )
 
@@ -185,6 +197,27 @@ some-dns64 (Some d) some = omega arith
 pub no-dns64 : (o : Option Directive) → is_some o ≡ false → length (dns64_steps o) ≡ 0
 no-dns64 None none = refl
 no-dns64 (Some d) none = absurd cc
+
+pub some-cache : (o : Option PlanData) → is_some o ≡ true → 0 < length (cache_steps o)
+some-cache None some = absurd cc
+some-cache (Some plan) some = omega arith
+
+pub no-cache : (o : Option PlanData) → is_some o ≡ false → length (cache_steps o) ≡ 0
+no-cache None none = refl
+no-cache (Some plan) none = absurd cc
+
+-- with its lines a chain decides what it decides without them
+pub traced-decides : (steps : List Step) (ns : List StepName) (q : Query) (marks : List Mark) → (chain_traced steps ns q marks).means ≡ chain_decides steps q marks
+traced-decides [] ns q marks = refl
+traced-decides (step ∷ steps) ns q marks = traced-means (step ∷ steps) ns q marks
+
+pub none-traced : (steps : List Step) (ns : List StepName) (q : Query) (v : Decision) → v ≡ refused → has_none steps ≡ true → (marks : List Mark) → chain_traced steps ns q marks ≡ record { lines = []; means = Done v marks }
+none-traced [] ns q v is e marks = ap (λ w. bare (Done w marks)) (sym is)
+none-traced (step ∷ steps) ns q v is e marks = absurd cc
+
+pub some-traced : (steps : List Step) (ns : List StepName) (q : Query) (marks : List Mark) → has_none steps ≡ false → chain_traced steps ns q marks ≡ traced steps ns q marks
+some-traced [] ns q marks e = absurd cc
+some-traced (step ∷ steps) ns q marks e = refl
 
 -- an element of a slice, as a value
 pub found_at : {X : Type 0} (o : Option (Bor X)) (xs : List X) (n : ℕ) → IfSome o (λ x. x.now ≡ get_or xs n x.now) → MatchOption o (length xs ≤ n) (λ x. (n < length xs) × HoldsAt (λ y. x.now ≡ y) xs n)

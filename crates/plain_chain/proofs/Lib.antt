@@ -1,7 +1,6 @@
 pub mod Rules
-pub mod Meaning
-pub mod Notes
-pub mod Translated
+pub mod Traced
+pub mod Trailing
+pub mod Keeping
 pub mod Chosen
-pub mod Asking
 pub mod Turned

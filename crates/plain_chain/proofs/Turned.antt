@@ -13,30 +13,27 @@ use Rattle.dns_wire.specs.declared.asked.Asked.{Asked}
 use Rattle.dns_write.specs.Written.{written}
 use Rattle.chain_meaning.specs.Serving.{Replies, answer_in, asked_decides, limit_of, query_decides, query_of, reply_of}
 use Rattle.chain_meaning.specs.declared.decision.Decision.{Decision}
-use Rattle.plain_chain.specs.Reading.{asks_extra, asks_forward}
-use Rattle.plain_chain.specs.Meant.{IsDone, IsOff, IsTail}
-use Rattle.plain_chain.specs.Serving.{AreLeft, GivesReply, IsShort}
+use Rattle.plain_chain.specs.Reading.{asks_extra}
+use Rattle.plain_marks.specs.Meant.{IsDone, IsOff}
+use Rattle.plain_chain.specs.Serving.{AreLeft, GivesReply, IsShort, IsTail}
 use Rattle.plain_chain.specs.Turning.{TurnDecides, TurnReplies, TurnStops, TurnWants}
 
--- what a query that was read is decided, where its block has no extra and no `forward`
-module _ (steps : Block → List Step) (blocks : List Block) (d : Datagram) (asked : Asked) (marks : List Mark) (q : Query) (is : q ≡ query_of d asked) (queries : QueriesThis d.bytes asked) (without : asks_extra asked.opt asked.question.class blocks q ≡ false) (quiet : asks_forward asked.opt asked.question.class blocks q ≡ false) where
+-- what a query that was read is decided, where its block has no extra
+module _ (steps : Block → List Step) (blocks : List Block) (d : Datagram) (asked : Asked) (marks : List Mark) (q : Query) (is : q ≡ query_of d asked) (queries : QueriesThis d.bytes asked) (without : asks_extra asked.opt asked.question.class blocks q ≡ false) where
   abbrev all : Query → List Mark → Meaning Decision
   all p left = query_decides asked.opt asked.question.class steps blocks p left
 
   own : asks_extra asked.opt asked.question.class blocks (query_of d asked) ≡ false
   own = subst (λ (p : Query). asks_extra asked.opt asked.question.class blocks p ≡ false) is without
 
-  alone : asks_forward asked.opt asked.question.class blocks (query_of d asked) ≡ false
-  alone = subst (λ (p : Query). asks_forward asked.opt asked.question.class blocks p ≡ false) is quiet
-
   pub wants-more : all q marks ≡ More → TurnWants steps blocks d marks
-  wants-more wants = record { asked = asked; queries = queries; own = own; alone = alone; wants = subst (λ (p : Query). all p marks ≡ More) is wants }
+  wants-more wants = record { asked = asked; queries = queries; own = own; wants = subst (λ (p : Query). all p marks ≡ More) is wants }
 
   pub stops-at : (left : List Mark) → IsOff (all q) marks left → TurnStops steps blocks d marks left
-  stops-at left off = record { asked = asked; queries = queries; own = own; alone = alone; off = subst (λ (p : Query). IsOff (all p) marks left) is off }
+  stops-at left off = record { asked = asked; queries = queries; own = own; off = subst (λ (p : Query). IsOff (all p) marks left) is off }
 
   pub decides-so : (P : Asked → Decision → Type 0) (v : Decision) (left : List Mark) → IsDone (all q) marks v left → P asked v → TurnDecides steps blocks d marks left P
-  decides-so P v left done holds = record { asked = asked; queries = queries; own = own; alone = alone; decision = v; done = subst (λ (p : Query). IsDone (all p) marks v left) is done; is = holds }
+  decides-so P v left done holds = record { asked = asked; queries = queries; own = own; decision = v; done = subst (λ (p : Query). IsDone (all p) marks v left) is done; is = holds }
 
 -- the reply to it
 pub replies-with : (d : Datagram) (asked : Asked) (v : Decision) (answer : AnswerData) (reply : List ℕ) → answer_in v ≡ Some answer → reply ≡ written (reply_of d asked answer) (limit_of d.by asked.opt) → Replies d reply asked v
@@ -62,7 +59,6 @@ turn-replies steps blocks d marks left used (Some reply) are (inr h) = inr (reco
   asked = h.asked;
   queries = h.queries;
   own = h.own;
-  alone = h.alone;
   decision = h.decision;
   left = left;
   are = are;
@@ -74,7 +70,6 @@ turn-replies steps blocks d marks left used None are (inr h) = inr (record {
   asked = h.asked;
   queries = h.queries;
   own = h.own;
-  alone = h.alone;
   decision = h.decision;
   left = left;
   are = are;
@@ -83,9 +78,9 @@ turn-replies steps blocks d marks left used None are (inr h) = inr (record {
 })
 
 pub turn-short : (steps : Block → List Step) (blocks : List Block) (d : Datagram) (marks : List Mark) → TurnWants steps blocks d marks → IsShort steps blocks d marks
-turn-short steps blocks d marks h = record { asked = h.asked; queries = h.queries; own = h.own; alone = h.alone; short = inl h.wants }
+turn-short steps blocks d marks h = record { asked = h.asked; queries = h.queries; own = h.own; short = inl h.wants }
 
 pub turn-off : (steps : Block → List Step) (blocks : List Block) (d : Datagram) (marks left : List Mark) → TurnStops steps blocks d marks left → IsShort steps blocks d marks
 turn-off steps blocks d marks left h =
     let all = asked_decides steps blocks d h.asked in
-    record { asked = h.asked; queries = h.queries; own = h.own; alone = h.alone; short = inr (ap all (h.off.is ∙ ap (λ (l : List Mark). h.off.used ++ l) h.off.first) ∙ h.off.off h.off.rest) }
+    record { asked = h.asked; queries = h.queries; own = h.own; short = inr (ap all (h.off.is ∙ ap (λ (l : List Mark). h.off.used ++ l) h.off.first) ∙ h.off.off h.off.rest) }

@@ -1,7 +1,6 @@
 -- What is read of a bundle once, and what that leaves of the maker of patterns.
 use Rattle.std.specs.Prelude.{◌≡◌, ◌<◌, ℕ, ◌^◌, nat_eq, ◌&&◌, Bool, true, false, List, [], ◌∷◌, length, map}
-use Rattle.std.specs.Prelude.{Option, None, Some, Result, Ok, Err, is_some, if◌then◌else◌}
-use Rattle.std.specs.Prelude.{◌||◌}
+use Rattle.std.specs.Prelude.{Option, None, Some, Result, Ok, Err, if◌then◌else◌}
 use Rattle.dns_data.specs.declared.block.Block.{Block}
 use Rattle.dns_data.specs.declared.directive.Directive.{Directive}
 use Rattle.dns_data.specs.declared.query.Query.{Query}
@@ -9,18 +8,14 @@ use Rattle.corefile_blocks.specs.declared.bundle.Bundle.{Bundle}
 use Rattle.outside.specs.{WatchState, raised, with_refusals}
 use Rattle.chain_meaning.specs.Accepting.{IsAccepted, IsRefusedWith}
 use Rattle.plugin_api.specs.{Sayings}
-use Rattle.plugin_api.specs.declared.ranks.Rank.TheVariants as rank
 use Rattle.plugin_api.specs.declared.verdict.Verdict.TheVariants as verdict
-use Rattle.chain_meaning.specs.Steps.{Step, Answers, Cache, Forward, block_extras, some_has}
-use Rattle.chain_meaning.specs.Steps.{steps_of}
+use Rattle.chain_meaning.specs.Steps.{Step, block_extras, steps_of}
 use Rattle.dns_data.specs.declared.class.TheConstants as classes
 use Rattle.dns_data.specs.declared.message.Opt.{Opt}
 use Rattle.chain_meaning.specs.Serving.{block_of, is_known_version}
 use Rattle.chain_meaning.specs.Grounds.{Terms, brought_of, terms_by}
 use Rattle.chain_build.specs.{is_of_pattern}
-use Rattle.chain_build.specs.Compiled.{back_of}
 use Rattle.chain_build.specs.Plans.{extras_in, steps_in}
-use Rattle.chain_build.specs.declared.block.BlockChain.{BlockChain}
 use Rattle.chain_build.specs.declared.fault.CheckFault.{CheckFault}
 use Rattle.chain_build.specs.declared.fault.CheckFault.TheVariants as check
 use Rattle.plain_chain.specs.declared.fault.PlainFault.{PlainFault}
@@ -77,28 +72,6 @@ has_extra (Some block) = is_some_extra (block_extras block)
 abbrev pub asks_extra : Option Opt → ℕ → List Block → Query → Bool
 asks_extra opt class blocks q =
     is_known_version opt && (nat_eq class classes.IN && has_extra (block_of blocks q))
-
--- whether a block has a directive `forward` or `cache`
-abbrev pub has_forward : Option Block → Bool
-has_forward None = false
-has_forward (Some block) =
-    some_has rank.Cache block.directives || some_has rank.Forward block.directives
-
--- whether a query with this OPT record and class is for a block, and that has one
-abbrev pub asks_forward : Option Opt → ℕ → List Block → Query → Bool
-asks_forward opt class blocks q =
-    is_known_version opt && (nat_eq class classes.IN && has_forward (block_of blocks q))
-
--- whether a step asks upstreams, or a cache
-abbrev pub asks_upstreams : List Step → Bool
-asks_upstreams [] = false
-asks_upstreams (Answers (Forward plans) ∷ steps) = true
-asks_upstreams (Cache plan ∷ steps) = true
-asks_upstreams (step ∷ steps) = asks_upstreams steps
-
--- whether a chain has a cache, or asks upstreams
-abbrev pub asks_outside : BlockChain → Bool
-asks_outside chain = is_some chain.cache || asks_upstreams (map back_of chain.back)
 
 -- whether there is no step
 abbrev pub has_none : List Step → Bool

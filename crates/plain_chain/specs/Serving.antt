@@ -1,7 +1,7 @@
 -- What a datagram means under a bundle by a list of marks: a reply or none, and how many of the
 -- marks are taken; or that the marks end too early, or are others than those that are taken. This
 -- server's own rule.
-use Rattle.std.specs.Prelude.{◌≡◌, ◌≤◌, ◌<◌, ◌⊎◌, ℕ, Bool, true, false, List, length, drop}
+use Rattle.std.specs.Prelude.{◌≡◌, ◌≤◌, ◌<◌, ◌⊎◌, ℕ, Bool, true, false, List, ◌++◌, length, drop}
 use Rattle.std.specs.Prelude.{Option}
 use Rattle.std.specs.Prelude.{Some, None, Result, Ok, Err}
 use Rattle.dns_data.specs.Message.{AnswerData}
@@ -21,7 +21,7 @@ use Rattle.chain_meaning.specs.Steps.{Step, steps_of}
 use Rattle.chain_meaning.specs.declared.decision.Decision.{Decision}
 use Rattle.chain_meaning.specs.declared.decision.Decision.TheVariants as decision
 use Rattle.plugin_api.specs.{Sayings}
-use Rattle.plain_chain.specs.Reading.{asks_extra, asks_forward, plain_terms}
+use Rattle.plain_chain.specs.Reading.{asks_extra, plain_terms}
 use Rattle.plain_chain.specs.declared.fault.PlainFault.{PlainFault}
 use Rattle.plain_chain.specs.declared.fault.PlainFault.TheVariants as fault
 use Rattle.plain_chain.specs.declared.serving.Plain.{Plain}
@@ -30,6 +30,11 @@ use Rattle.plain_chain.specs.declared.serving.Plain.{Plain}
 abbrev pub GivesAnswer : Decision → AnswerData → Bool → Type 0
 GivesAnswer v answer true = answer_in v ≡ Some answer
 GivesAnswer v answer false = v ≡ decision.Drop
+
+-- the first list is the end of the second
+pub record IsTail (left marks : List Mark) : Type 0 where
+  pub taken : List Mark
+  pub is : marks ≡ taken ++ left
 
 -- so many marks were taken, and these are left
 pub record AreLeft (used : ℕ) (left marks : List Mark) : Type 0 where
@@ -42,7 +47,6 @@ pub record IsDecided (steps : Block → List Step) (blocks : List Block) (d : Da
   pub asked : Asked
   pub queries : QueriesThis d.bytes asked
   pub own : asks_extra asked.opt asked.question.class blocks (query_of d asked) ≡ false
-  pub alone : asks_forward asked.opt asked.question.class blocks (query_of d asked) ≡ false
   pub decision : Decision
   pub left : List Mark
   pub are : AreLeft used left marks
@@ -55,7 +59,6 @@ pub record IsShort (steps : Block → List Step) (blocks : List Block) (d : Data
   pub asked : Asked
   pub queries : QueriesThis d.bytes asked
   pub own : asks_extra asked.opt asked.question.class blocks (query_of d asked) ≡ false
-  pub alone : asks_forward asked.opt asked.question.class blocks (query_of d asked) ≡ false
   pub short : (asked_decides steps blocks d asked marks ≡ More)
       ⊎ (asked_decides steps blocks d asked marks ≡ Off)
 
@@ -84,13 +87,6 @@ pub record AsksExtra (blocks : List Block) (d : Datagram) : Type 0 where
   pub queries : QueriesThis d.bytes asked
   pub has : asks_extra asked.opt asked.question.class blocks (query_of d asked) ≡ true
 
--- a datagram asks a block that has no extra's directive and has one of `forward`
-pub record AsksForward (blocks : List Block) (d : Datagram) : Type 0 where
-  pub asked : Asked
-  pub queries : QueriesThis d.bytes asked
-  pub own : asks_extra asked.opt asked.question.class blocks (query_of d asked) ≡ false
-  pub has : asks_forward asked.opt asked.question.class blocks (query_of d asked) ≡ true
-
 -- a bundle is accepted, where each directive of a name that no plugin has is taken for that of an
 -- extra, and this holds of its blocks
 pub record IsServed (bundle : Bundle) (default_port : ℕ) (P : List Block → Type 0) : Type 0 where
@@ -110,8 +106,6 @@ PlainServes bundle default_port d marks last (Err (fault.Refused why)) =
     IsRefusedWith (plain_terms default_port) bundle last why
 PlainServes bundle default_port d marks last (Err fault.HasExtra) =
     IsServed bundle default_port (λ blocks. AsksExtra blocks d)
-PlainServes bundle default_port d marks last (Err fault.HasForward) =
-    IsServed bundle default_port (λ blocks. AsksForward blocks d)
 PlainServes bundle default_port d marks last (Err fault.Short) =
     IsServed bundle default_port
     (λ blocks. (said : Sayings) → IsShort (steps_of said bundle.files) blocks d marks)

@@ -1,7 +1,7 @@
 -- What a datagram means under what was read of a bundle, by a list of marks: a reply or none, and
--- the marks that are left; that its block has an extra's directive, or one of `forward`; that the
--- marks end too early; or the marks from the first one on that is another than what is taken there.
--- This server's own rule.
+-- the marks that are left; that its block has an extra's directive; that the marks end too early;
+-- or the marks from the first one on that is another than what is taken there. This server's own
+-- rule.
 use Rattle.std.specs.Prelude.{◌≡◌, ◌⊎◌, ℕ, false, List, Option, Some, None, Result, Ok, Err}
 use Rattle.dns_data.specs.declared.block.Block.{Block}
 use Rattle.dns_lists.specs.declared.memory.NoMemory.{NoMemory}
@@ -14,9 +14,9 @@ use Rattle.chain_meaning.specs.Serving.{Replies, asked_decides, query_of}
 use Rattle.chain_meaning.specs.Steps.{Step}
 use Rattle.chain_meaning.specs.declared.decision.Decision.{Decision}
 use Rattle.chain_meaning.specs.declared.decision.Decision.TheVariants as decision
-use Rattle.plain_chain.specs.Meant.{IsDone, IsOff}
-use Rattle.plain_chain.specs.Reading.{asks_extra, asks_forward}
-use Rattle.plain_chain.specs.Serving.{AsksExtra, AsksForward, IsHeader, IsNoQuery}
+use Rattle.plain_marks.specs.Meant.{IsDone, IsOff}
+use Rattle.plain_chain.specs.Reading.{asks_extra}
+use Rattle.plain_chain.specs.Serving.{AsksExtra, IsHeader, IsNoQuery}
 use Rattle.plain_chain.specs.declared.turning.PlainTurn.{PlainTurn}
 use Rattle.plain_chain.specs.declared.turning.PlainTurn.TheVariants as turn
 
@@ -26,7 +26,6 @@ pub record TurnDecides (steps : Block → List Step) (blocks : List Block) (d : 
   pub asked : Asked
   pub queries : QueriesThis d.bytes asked
   pub own : asks_extra asked.opt asked.question.class blocks (query_of d asked) ≡ false
-  pub alone : asks_forward asked.opt asked.question.class blocks (query_of d asked) ≡ false
   pub decision : Decision
   pub done : IsDone (asked_decides steps blocks d asked) marks decision left
   pub is : P asked decision
@@ -37,7 +36,6 @@ pub record TurnWants (steps : Block → List Step) (blocks : List Block) (d : Da
   pub asked : Asked
   pub queries : QueriesThis d.bytes asked
   pub own : asks_extra asked.opt asked.question.class blocks (query_of d asked) ≡ false
-  pub alone : asks_forward asked.opt asked.question.class blocks (query_of d asked) ≡ false
   pub wants : asked_decides steps blocks d asked marks ≡ More
 
 -- the first mark that is left is another than what is taken there
@@ -46,7 +44,6 @@ pub record TurnStops (steps : Block → List Step) (blocks : List Block) (d : Da
   pub asked : Asked
   pub queries : QueriesThis d.bytes asked
   pub own : asks_extra asked.opt asked.question.class blocks (query_of d asked) ≡ false
-  pub alone : asks_forward asked.opt asked.question.class blocks (query_of d asked) ≡ false
   pub off : IsOff (asked_decides steps blocks d asked) marks left
 
 -- a reply, or none, and the marks that are left: what is no query takes none
@@ -64,7 +61,6 @@ abbrev pub Turns : (Block → List Step) → List Block → Datagram → List Ma
 Turns steps blocks d marks (Ok (turn.Done reply left)) =
     TurnReplies steps blocks d marks left.now reply
 Turns steps blocks d marks (Ok turn.HasExtra) = AsksExtra blocks d
-Turns steps blocks d marks (Ok turn.HasForward) = AsksForward blocks d
 Turns steps blocks d marks (Ok turn.More) = TurnWants steps blocks d marks
 Turns steps blocks d marks (Ok (turn.Off left)) = TurnStops steps blocks d marks left.now
 Turns steps blocks d marks (Err e) = Unit {0}

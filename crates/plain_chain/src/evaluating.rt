@@ -1,103 +1,112 @@
-//! What the steps of a block's chain mean, one after another: a plugin that answers decides, and a
-//! step round the rest takes or changes what stands behind what the rest meant.
+//! What the steps of a block's chain mean, one after another, with a line for each that is reached:
+//! a plugin that answers decides, and a step round the rest takes or changes what stands behind
+//! what the rest meant.
 
-ghost use Rattle.std.specs.Prelude.{◌≡◌, false, IfOk, map};
-ghost use Rattle.chain_build.specs.Compiled.{back_of};
-ghost use Rattle.chain_build.specs.Plans.{behind_of};
-ghost use Rattle.chain_meaning.specs.Mean.{mean};
-ghost use Rattle.plain_chain.specs.Meant.{IsAtOnce, Means};
-ghost use Rattle.plain_chain.specs.Reading.{asks_upstreams};
-ghost use Rattle.plain_chain.specs.Steps.{plain_run, plain_steps};
+ghost use Rattle.std.specs.Prelude.{◌≡◌, IfOk, drop};
+ghost use Rattle.chain_trail.specs.Trail.{traced};
+ghost use Rattle.chain_trail.specs.Trails.{Trails};
+ghost use Rattle.plain_chain.specs.Steps.{plain_others, plain_run, plain_steps};
 
-use crate::meant::Meant;
+use crate::asking::Asking;
+use crate::caching::decide_inner;
 use crate::noting::{behind_errors, behind_log};
-use crate::restoring::restored;
-use crate::saying::{back_says, front_says};
+use crate::reaching::{reach, rest_of};
+use crate::rulings::Rulings;
+use crate::saying::{extra_says, front_say, front_says};
 use crate::translating::translate;
-use chain_build::{BackAnswerer, BlockChain, FrontAnswerer, FrontStep};
+use chain_build::{FrontAnswerer, FrontStep};
 use chain_meaning::Decision;
-use dns_data::{NoMemory, Query};
+use chain_trail::{StepName, Trail, decision_say};
+use dns_data::NoMemory;
 use outside::Mark;
-use plugin_api::{Cause, Code};
-use rewrite_plugin::{Changed, RewriteRoom, change};
-use std::alloc::Global;
+use plain_marks::Meant;
 
-/// What these first steps mean of a chain without a cache, and behind them what stands behind
-/// those that note.
-pub(crate) fn evaluate<'a>(
-    alloc: Global,
+/// What these first steps mean, and behind them what stands behind those that note. The names are
+/// those of the steps.
+pub(crate) fn evaluate<'a, R: Rulings>(
+    asking: Asking<'_>,
+    rulings: &mut R,
     front: &[FrontStep],
-    chain: &BlockChain,
-    query: &Query,
+    names: &[StepName],
     marks: &'a [Mark],
-) -> Result<Meant<'a>, NoMemory>
-    requires { asks_upstreams (map back_of chain.now.back) ≡ false }
-    ensures { IfOk result
-        (Means (mean (plain_steps front.now chain.now) query.now) marks.now) }
+    trail: &mut Trail,
+) -> Result<Meant<'a, Decision>, NoMemory>
+    requires { R.directives rulings.old ≡ asking.chain.now.extras }
+    ensures trails { IfOk result (Trails
+        (traced (plain_steps (R.said rulings.old) front.now asking.entry.chain.now) names.now
+        asking.entry.query.now) marks.now trail.old trail.new) }
+    ensures stays { R.said rulings.new ≡ R.said rulings.old }
+    ensures set { R.directives rulings.new ≡ R.directives rulings.old }
 {
-    let Some((step, rest)) = front.split_first() else {
-        return Ok(Meant::Done(translate(alloc, chain, query)?, marks));
+    let Some((step, others)) = front.split_first() else {
+        return translate(asking, rulings, names, marks, trail);
     };
+    reach(asking.alloc, names, "pass", trail)?;
+    let meant = evaluate(asking, rulings, others, rest_of(names), marks, trail)?;
     match step {
-        FrontStep::Errors => {
-            let meant = evaluate(alloc, rest, chain, query, marks)?;
-            behind_errors(alloc, query, meant)
-        }
-        FrontStep::Log(plan) => {
-            let meant = evaluate(alloc, rest, chain, query, marks)?;
-            behind_log(alloc, plan, query, meant)
-        }
+        FrontStep::Errors => behind_errors(asking.alloc, asking.query, meant),
+        FrontStep::Log(plan) => behind_log(asking.alloc, plan, asking.query, meant),
     }
 }
 
-/// What these plugins decide, and where they go on what stands behind a cache.
-pub(crate) fn decide_run(
-    alloc: Global,
+/// What these plugins mean, and where they go on extras and what stands behind those.
+pub(crate) fn decide_run<'a, R: Rulings>(
+    asking: Asking<'_>,
+    rulings: &mut R,
     middle: &[FrontAnswerer],
-    chain: &BlockChain,
-    query: &Query,
-) -> Result<Decision, NoMemory>
-    requires { asks_upstreams (map back_of chain.now.back) ≡ false }
-    ensures { IfOk result (IsAtOnce (mean (plain_run middle.now chain.now) query.now)) }
+    names: &[StepName],
+    marks: &'a [Mark],
+    trail: &mut Trail,
+) -> Result<Meant<'a, Decision>, NoMemory>
+    requires { R.directives rulings.old ≡ asking.chain.now.extras }
+    ensures trails { IfOk result (Trails
+        (traced (plain_run (R.said rulings.old) middle.now asking.entry.chain.now) names.now
+        asking.entry.query.now) marks.now trail.old trail.new) }
+    ensures stays { R.said rulings.new ≡ R.said rulings.old }
+    ensures set { R.directives rulings.new ≡ R.directives rulings.old }
 {
-    let Some((plugin, rest)) = middle.split_first() else {
-        return decide_behind(alloc, chain, query);
+    let Some((plugin, others)) = middle.split_first() else {
+        return decide_others(asking, rulings, 0, names, marks, trail);
     };
-    match front_says(alloc, plugin, query)? {
-        Some(decision) => Ok(decision),
-        None => decide_run(alloc, rest, chain, query),
+    match front_says(asking.alloc, plugin, asking.query)? {
+        Some(decision) => {
+            reach(asking.alloc, names, front_say(plugin, &decision), trail)?;
+            Ok(Meant::Done(decision, marks))
+        }
+        None => {
+            reach(asking.alloc, names, "pass", trail)?;
+            decide_run(asking, rulings, others, rest_of(names), marks, trail)
+        }
     }
 }
 
-// What stands behind a cache: the rest decides for the query behind the rules, and its reply is
-// restored.
-fn decide_behind(alloc: Global, chain: &BlockChain, query: &Query) -> Result<Decision, NoMemory>
-    requires { asks_upstreams (map back_of chain.now.back) ≡ false }
-    ensures { IfOk result (IsAtOnce (mean (behind_of chain.now) query.now)) }
+// What the extras from this place on mean, and where they go on a cache and what stands behind it.
+fn decide_others<'a, R: Rulings>(
+    asking: Asking<'_>,
+    rulings: &mut R,
+    at: usize,
+    names: &[StepName],
+    marks: &'a [Mark],
+    trail: &mut Trail,
+) -> Result<Meant<'a, Decision>, NoMemory>
+    requires { R.directives rulings.old ≡ asking.chain.now.extras }
+    ensures trails { IfOk result (Trails
+        (traced (plain_others (R.said rulings.old) (drop at asking.entry.chain.now.extras)
+        asking.entry.chain.now) names.now asking.entry.query.now) marks.now trail.old trail.new) }
+    ensures stays { R.said rulings.new ≡ R.said rulings.old }
+    ensures set { R.directives rulings.new ≡ R.directives rulings.old }
 {
-    let rules = chain.rewrites.as_slice();
-    let back = chain.back.as_slice();
-    if rules.len() == 0 {
-        return decide_back(alloc, back, query);
+    if asking.chain.extras.len() <= at {
+        return decide_inner(asking, names, marks, trail);
     }
-    let mut room = RewriteRoom::new(alloc);
-    let mut changed = Changed::new(alloc);
-    change(alloc, rules, query, &mut room, &mut changed)?;
-    let decision = decide_back(alloc, back, &changed.query)?;
-    restored(alloc, rules, &changed, &mut room, decision)
-}
-
-// What the plugins that answer decide, behind a cache and the rules of `rewrite`. The end is
-// SERVFAIL.
-fn decide_back(alloc: Global, back: &[BackAnswerer], query: &Query) -> Result<Decision, NoMemory>
-    requires { asks_upstreams (map back_of back.now) ≡ false }
-    ensures { IfOk result (IsAtOnce (mean (map back_of back.now) query.now)) }
-{
-    let Some((plugin, rest)) = back.split_first() else {
-        return Ok(Decision::Code(Code::ServFail, Cause::EndOfChain));
-    };
-    match back_says(alloc, plugin, query)? {
-        Some(decision) => Ok(decision),
-        None => decide_back(alloc, rest, query),
+    match extra_says(asking.alloc, rulings, at, asking.query)? {
+        Some(decision) => {
+            reach(asking.alloc, names, decision_say(&decision), trail)?;
+            Ok(Meant::Done(decision, marks))
+        }
+        None => {
+            reach(asking.alloc, names, "pass", trail)?;
+            decide_others(asking, rulings, at + 1, rest_of(names), marks, trail)
+        }
     }
 }

@@ -8,9 +8,6 @@ pub enum PlainFault {
     Refused(Refusal),
     /// The block that is asked has an extra's directive, and what extras say isn't known here.
     HasExtra,
-    /// The block that is asked has no extra's directive and has one of `forward` or `cache`, and
-    /// neither is evaluated here.
-    HasForward,
     /// The marks end too early, or one is another than what is taken there.
     Short,
     NoMemory,

@@ -3,24 +3,16 @@ ghost use Rattle.std.specs.Prelude.{◌≡◌, ◌<◌};
 ghost use Rattle.outside.specs.Meanings.{Done};
 ghost use Rattle.chain_meaning.specs.Mean.{nothing};
 ghost use Rattle.chain_meaning.specs.declared.decision.Decision.TheVariants as decision;
-ghost use Rattle.plain_chain.specs.Meant.{Means};
+ghost use Rattle.plain_marks.specs.{Means};
 
 use chain_meaning::Decision;
 use dns_data::{Answer, Records};
 use outside::Mark;
+use plain_marks::Meant;
 use std::alloc::Global;
 
-/// What a list of marks means: a decision and the marks that are left; that the marks end too
-/// early; or the marks from the first one on that is another than what is taken there.
-#[derive(Debug, Drop)]
-pub(crate) enum Meant<'a> {
-    Done(Decision, &'a [Mark]),
-    More,
-    Off(&'a [Mark]),
-}
-
 /// This RCODE without records, and no mark is taken.
-pub(crate) fn bare<'a>(alloc: Global, rcode: u8, marks: &'a [Mark]) -> Meant<'a>
+pub(crate) fn bare<'a>(alloc: Global, rcode: u8, marks: &'a [Mark]) -> Meant<'a, Decision>
     requires { rcode < limits.CODE_END }
     ensures { Means (λ left. Done (decision.Reply (nothing rcode)) left) marks.now result }
 {
@@ -28,7 +20,7 @@ pub(crate) fn bare<'a>(alloc: Global, rcode: u8, marks: &'a [Mark]) -> Meant<'a>
 }
 
 /// A reply with this RCODE and no records.
-pub(crate) fn bare_reply(alloc: Global, rcode: u8) -> Decision
+pub fn bare_reply(alloc: Global, rcode: u8) -> Decision
     requires { rcode < limits.CODE_END }
     ensures { result ≡ decision.Reply (nothing rcode) }
 {

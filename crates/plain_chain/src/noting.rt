@@ -1,14 +1,10 @@
-ghost use Rattle.std.specs.Prelude.{List, IfOk};
-ghost use Rattle.outside.specs.Meanings.{Meaning, onward};
-ghost use Rattle.outside.specs.declared.mark.Mark.{Mark};
-ghost use Rattle.chain_meaning.specs.declared.decision.Decision.{Decision};
-ghost use Rattle.chain_meaning.specs.Mean.{error_noted, query_noted, take_note};
-ghost use Rattle.plain_chain.specs.Meant.{Means};
+ghost use Rattle.std.specs.Prelude.{IfOk};
+ghost use Rattle.chain_meaning.specs.Mean.{error_noted, query_noted};
+ghost use Rattle.chain_trail.specs.Trails.{Behind};
 
-use crate::meant::Meant;
 use chain_meaning::{Decision, outcome_of};
 use dns_data::{NoMemory, Query};
-use outside::Mark;
+use plain_marks::{Meant, take_note};
 use plain_plugins::{PlainPlan, error_line, log_line};
 use std::alloc::Global;
 
@@ -16,11 +12,9 @@ use std::alloc::Global;
 pub(crate) fn behind_errors<'a>(
     alloc: Global,
     query: &Query,
-    meant: Meant<'a>,
-) -> Result<Meant<'a>, NoMemory>
-    ensures { (means : List Mark → Meaning Decision) → (marks : List Mark)
-        → Means means marks meant.entry
-        → IfOk result (Means (λ some. onward (means some) (error_noted query.now)) marks) }
+    meant: Meant<'a, Decision>,
+) -> Result<Meant<'a, Decision>, NoMemory>
+    ensures { IfOk result (Behind meant.entry (error_noted query.now)) }
 {
     match meant {
         Meant::Done(decision, left) => match decision {
@@ -41,12 +35,9 @@ pub(crate) fn behind_log<'a>(
     alloc: Global,
     plan: &PlainPlan,
     query: &Query,
-    meant: Meant<'a>,
-) -> Result<Meant<'a>, NoMemory>
-    ensures { (means : List Mark → Meaning Decision) → (marks : List Mark)
-        → Means means marks meant.entry
-        → IfOk result
-        (Means (λ some. onward (means some) (query_noted plan.now query.now)) marks) }
+    meant: Meant<'a, Decision>,
+) -> Result<Meant<'a, Decision>, NoMemory>
+    ensures { IfOk result (Behind meant.entry (query_noted plan.now query.now)) }
 {
     match meant {
         Meant::Done(decision, left) => {
@@ -58,24 +49,5 @@ pub(crate) fn behind_log<'a>(
         }
         Meant::More => Ok(Meant::More),
         Meant::Off(left) => Ok(Meant::Off(left)),
-    }
-}
-
-// Takes the mark of this line, whether it went out or not.
-fn take_note<'a>(line: &[u8], decision: Decision, marks: &'a [Mark]) -> Meant<'a>
-    ensures { Means (take_note line.now decision) marks.now result }
-{
-    let Some((mark, left)) = marks.split_first() else {
-        return Meant::More;
-    };
-    match mark {
-        Mark::Noted(other, _) => {
-            if line == other.as_slice() {
-                Meant::Done(decision, left)
-            } else {
-                Meant::Off(marks)
-            }
-        }
-        _ => Meant::Off(marks),
     }
 }

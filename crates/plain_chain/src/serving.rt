@@ -1,8 +1,7 @@
 ghost use Rattle.std.specs.Prelude.{◌≡◌, IfOk};
 ghost use Rattle.corefile_blocks.specs.{IsReadable};
-ghost use Rattle.plain_chain.specs.Meant.{IsTail};
 ghost use Rattle.plain_chain.specs.Reading.{plain_behind};
-ghost use Rattle.plain_chain.specs.Serving.{AreLeft, PlainServes};
+ghost use Rattle.plain_chain.specs.Serving.{AreLeft, IsTail, PlainServes};
 
 use crate::fault::PlainFault;
 use crate::reading::plain_read;
@@ -48,7 +47,6 @@ pub fn plain_serve<M: PatternMaker>(
             Ok(Plain { reply, used })
         }
         PlainTurn::HasExtra => Err(PlainFault::HasExtra),
-        PlainTurn::HasForward => Err(PlainFault::HasForward),
         PlainTurn::More => Err(PlainFault::Short),
         PlainTurn::Off(_) => Err(PlainFault::Short),
     }

@@ -1,66 +1,154 @@
-//! What `dns64` makes of what the rest decides, once or twice.
+//! What `dns64` makes of what the rest means, once or twice.
 
-ghost use Rattle.std.specs.Prelude.{◌≡◌, ◌<◌, ◌^◌, false, true, map, IfOk, IfSome};
-ghost use Rattle.chain_build.specs.Compiled.{back_of};
-ghost use Rattle.chain_meaning.specs.Mean.{mean};
-ghost use Rattle.chain_meaning.specs.Translating.{bound_of, combined_in, dns64_means, pointed_in};
+ghost use Rattle.std.specs.Prelude.{◌≡◌, ◌<◌, ◌^◌, false, true, IfOk, IfSome};
+ghost use Rattle.chain_meaning.specs.Translating.{bound_of, combined_in, pointed_in};
+ghost use Rattle.chain_trail.specs.Trail.{second_by, traced, translated_by};
+ghost use Rattle.chain_trail.specs.Trails.{Behind, Trails};
 ghost use Rattle.dns64_plugin.specs.{translates};
-ghost use Rattle.plain_chain.specs.Meant.{IsAtOnce};
-ghost use Rattle.plain_chain.specs.Reading.{asks_upstreams};
+ghost use Rattle.outside.specs.Meanings.{Done};
 ghost use Rattle.plain_chain.specs.Steps.{plain_rest, plain_run};
+ghost use Rattle.chain_trail.specs.declared.reached.StepName.{StepName};
 
+use crate::asking::Asking;
 use crate::evaluating::decide_run;
-use chain_build::BlockChain;
+use crate::reaching::{reach, rest_of};
+use crate::rulings::Rulings;
 use chain_meaning::Decision;
+use chain_trail::{StepName, Trail};
 use dns_data::{NoMemory, Query, RecordRoom, Slot};
 use dns64_plugin::{Dns64Plan, a_query, needs_second, ptr_answer, ttl};
+use outside::Mark;
+use plain_marks::Meant;
 use std::alloc::Global;
 
-/// What a chain without extras, a cache and upstreams decides behind its steps that note.
-pub(crate) fn translate(
-    alloc: Global,
-    chain: &BlockChain,
-    query: &Query,
-) -> Result<Decision, NoMemory>
-    requires { asks_upstreams (map back_of chain.now.back) ≡ false }
-    ensures { IfOk result (IsAtOnce (mean (plain_rest chain.now) query.now)) }
+/// What a chain means behind its steps that note.
+pub(crate) fn translate<'a, R: Rulings>(
+    asking: Asking<'_>,
+    rulings: &mut R,
+    names: &[StepName],
+    marks: &'a [Mark],
+    trail: &mut Trail,
+) -> Result<Meant<'a, Decision>, NoMemory>
+    requires { R.directives rulings.old ≡ asking.chain.now.extras }
+    ensures trails { IfOk result (Trails
+        (traced (plain_rest (R.said rulings.old) asking.entry.chain.now) names.now
+        asking.entry.query.now) marks.now trail.old trail.new) }
+    ensures stays { R.said rulings.new ≡ R.said rulings.old }
+    ensures set { R.directives rulings.new ≡ R.directives rulings.old }
 {
-    let middle = chain.middle.as_slice();
-    let Some(plan) = &chain.dns64 else {
-        return decide_run(alloc, middle, chain, query);
+    let Some(plan) = &asking.chain.dns64 else {
+        let middle = asking.chain.middle.as_slice();
+        return decide_run(asking, rulings, middle, names, marks, trail);
     };
-    if plan.translates(query) {
-        return decide_twice(alloc, plan, chain, query);
+    reach(asking.alloc, names, "pass", trail)?;
+    if plan.translates(asking.query) {
+        return decide_twice(asking, rulings, plan, rest_of(names), marks, trail);
     }
-    let mut other = Query::blank(alloc);
-    if plan.ptr_query(alloc, query, &mut other)? {
-        let decision = decide_run(alloc, middle, chain, &other)?;
-        return pointed(alloc, query, &other, decision);
-    }
-    decide_run(alloc, middle, chain, query)
+    decide_pointed(asking, rulings, plan, rest_of(names), marks, trail)
 }
 
-// The rest decides, and where that doesn't stand decides again for addresses of IPv4.
-fn decide_twice(
-    alloc: Global,
+// For another query than for addresses of IPv6: the rest runs for the name of an address of IPv4,
+// or as it is. The names are those behind this step.
+fn decide_pointed<'a, R: Rulings>(
+    asking: Asking<'_>,
+    rulings: &mut R,
     plan: &Dns64Plan,
-    chain: &BlockChain,
-    query: &Query,
-) -> Result<Decision, NoMemory>
-    requires both { translates plan.now query.now ≡ true }
-    requires alone { asks_upstreams (map back_of chain.now.back) ≡ false }
-    ensures { IfOk result (IsAtOnce
-        (dns64_means (mean (plain_run chain.now.middle chain.now)) plan.now query.now)) }
+    names: &[StepName],
+    marks: &'a [Mark],
+    trail: &mut Trail,
+) -> Result<Meant<'a, Decision>, NoMemory>
+    requires once { translates plan.now asking.query.now ≡ false }
+    requires set { R.directives rulings.old ≡ asking.chain.now.extras }
+    ensures trails { (n : StepName) → IfOk result (Trails
+        (translated_by n (traced
+        (plain_run (R.said rulings.old) asking.entry.chain.now.middle asking.entry.chain.now)
+        names.now) plan.now asking.entry.query.now) marks.now trail.old trail.new) }
+    ensures stays { R.said rulings.new ≡ R.said rulings.old }
+    ensures set { R.directives rulings.new ≡ R.directives rulings.old }
 {
-    let middle = chain.middle.as_slice();
-    let first = decide_run(alloc, middle, chain, query)?;
-    let Some(bound) = bound_behind(&first) else {
-        return Ok(first);
+    let middle = asking.chain.middle.as_slice();
+    let mut other = Query::blank(asking.alloc);
+    if !plan.ptr_query(asking.alloc, asking.query, &mut other)? {
+        return decide_run(asking, rulings, middle, names, marks, trail);
+    }
+    let inner = Asking {
+        alloc: asking.alloc,
+        chain: asking.chain,
+        query: &other,
     };
-    let mut other = Query::blank(alloc);
-    a_query(query, &mut other)?;
-    let second = decide_run(alloc, middle, chain, &other)?;
-    combined(alloc, plan, bound, second)
+    let meant = decide_run(inner, rulings, middle, names, marks, trail)?;
+    pointed(asking.alloc, asking.query, &other, meant)
+}
+
+// The rest decides, and where that doesn't stand decides again for addresses of IPv4. The names are
+// those behind this step.
+fn decide_twice<'a, R: Rulings>(
+    asking: Asking<'_>,
+    rulings: &mut R,
+    plan: &Dns64Plan,
+    names: &[StepName],
+    marks: &'a [Mark],
+    trail: &mut Trail,
+) -> Result<Meant<'a, Decision>, NoMemory>
+    requires both { translates plan.now asking.query.now ≡ true }
+    requires set { R.directives rulings.old ≡ asking.chain.now.extras }
+    ensures trails { (n : StepName) → IfOk result (Trails
+        (translated_by n (traced
+        (plain_run (R.said rulings.old) asking.entry.chain.now.middle asking.entry.chain.now)
+        names.now) plan.now asking.entry.query.now) marks.now trail.old trail.new) }
+    ensures stays { R.said rulings.new ≡ R.said rulings.old }
+    ensures set { R.directives rulings.new ≡ R.directives rulings.old }
+{
+    let middle = asking.chain.middle.as_slice();
+    match decide_run(asking, rulings, middle, names, marks, trail)? {
+        Meant::Done(first, left) => {
+            let translated = Translated { asking, plan };
+            decide_again(&translated, rulings, first, names, left, trail)
+        }
+        Meant::More => Ok(Meant::More),
+        Meant::Off(left) => Ok(Meant::Off(left)),
+    }
+}
+
+// A query for addresses of IPv6.
+#[derive(Clone, Copy)]
+struct Translated<'a> {
+    asking: Asking<'a>,
+    plan: &'a Dns64Plan,
+}
+
+// A first decision stands, or the rest decides again.
+fn decide_again<'a, R: Rulings>(
+    translated: &Translated<'_>,
+    rulings: &mut R,
+    first: Decision,
+    names: &[StepName],
+    marks: &'a [Mark],
+    trail: &mut Trail,
+) -> Result<Meant<'a, Decision>, NoMemory>
+    requires { R.directives rulings.old ≡ translated.now.asking.chain.now.extras }
+    ensures trails { (n : StepName) → IfOk result (Trails
+        (second_by n (traced
+        (plain_run (R.said rulings.old) translated.now.asking.chain.now.middle
+        translated.now.asking.chain.now) names.now) translated.now.plan.now
+        translated.now.asking.query.now first (bound_of first)) marks.now trail.old trail.new) }
+    ensures stays { R.said rulings.new ≡ R.said rulings.old }
+    ensures set { R.directives rulings.new ≡ R.directives rulings.old }
+{
+    let asking = translated.asking;
+    let Some(bound) = bound_behind(&first) else {
+        return Ok(Meant::Done(first, marks));
+    };
+    let mut other = Query::blank(asking.alloc);
+    a_query(asking.query, &mut other)?;
+    let inner = Asking {
+        alloc: asking.alloc,
+        chain: asking.chain,
+        query: &other,
+    };
+    let middle = asking.chain.middle.as_slice();
+    let second = decide_run(inner, rulings, middle, names, marks, trail)?;
+    combined(asking.alloc, translated.plan, bound, second)
 }
 
 // What the first decision bounds TTLs by, where the rest decides again.
@@ -81,8 +169,28 @@ fn bound_behind(decision: &Decision) -> Option<u32>
     }
 }
 
+// What is made of what the rest means again: its decision, as the client gets it.
+fn combined<'a>(
+    alloc: Global,
+    plan: &Dns64Plan,
+    bound: u32,
+    meant: Meant<'a, Decision>,
+) -> Result<Meant<'a, Decision>, NoMemory>
+    requires { bound < 2 ^ 31 }
+    ensures { IfOk result
+        (Behind meant.entry (λ v left. Done (combined_in plan.now bound v) left)) }
+{
+    match meant {
+        Meant::Done(decision, left) => {
+            Ok(Meant::Done(combined_decision(alloc, plan, bound, decision)?, left))
+        }
+        Meant::More => Ok(Meant::More),
+        Meant::Off(left) => Ok(Meant::Off(left)),
+    }
+}
+
 // The second decision as the client gets it.
-fn combined(
+fn combined_decision(
     alloc: Global,
     plan: &Dns64Plan,
     bound: u32,
@@ -103,8 +211,27 @@ fn combined(
     }
 }
 
+// What is made of what the rest means for the name of an address of IPv4.
+fn pointed<'a>(
+    alloc: Global,
+    query: &Query,
+    inner: &Query,
+    meant: Meant<'a, Decision>,
+) -> Result<Meant<'a, Decision>, NoMemory>
+    ensures { IfOk result
+        (Behind meant.entry (λ v left. Done (pointed_in query.now inner.now v) left)) }
+{
+    match meant {
+        Meant::Done(decision, left) => {
+            Ok(Meant::Done(pointed_decision(alloc, query, inner, decision)?, left))
+        }
+        Meant::More => Ok(Meant::More),
+        Meant::Off(left) => Ok(Meant::Off(left)),
+    }
+}
+
 // The decision for the name of an address of IPv4, as the client gets it.
-fn pointed(
+fn pointed_decision(
     alloc: Global,
     query: &Query,
     inner: &Query,

@@ -7,15 +7,16 @@ ghost use Rattle.plain_chain.specs.Reading.{IsWhole};
 ghost use Rattle.plain_chain.specs.Serving.{GivesAnswer};
 ghost use Rattle.plain_chain.specs.Turning.{Turns};
 
-use crate::deciding::{asks_extra, asks_forward, decide};
-use crate::meant::Meant;
+use crate::arriving::{Arrival, arrive};
+use crate::deciding::{asks_extra, decide};
 use crate::reading::PlainRead;
-use chain_build::{header_reply, limit_of, opt_reply, query_of, reply_message, upper_code};
+use chain_build::{limit_of, opt_reply, query_of, reply_message, upper_code};
 use chain_meaning::{Decision, number};
-use dns_data::{Buffer, NoMemory, Slot, rcode};
-use dns_wire::{Asked, QueryFault, read_asked};
+use dns_data::{Buffer, NoMemory, Slot};
+use dns_wire::Asked;
 use dns_write::write_parts;
 use outside::{Datagram, Mark};
+use plain_marks::Meant;
 use std::alloc::Global;
 
 /// What a datagram means by a list of marks.
@@ -25,9 +26,6 @@ pub enum PlainTurn<'a> {
     Done(Option<Buffer>, &'a [Mark]),
     /// The block that is asked has an extra's directive, and what extras say isn't known here.
     HasExtra,
-    /// The block that is asked has no extra's directive and has one of `forward` or `cache`, and
-    /// neither is evaluated here.
-    HasForward,
     /// The marks end too early.
     More,
     /// The marks from the first one on that is another than what is taken there.
@@ -45,19 +43,11 @@ pub fn plain_turn<'a>(
     ensures { (said : Sayings) → Turns (steps_of said read.now.files.now) read.now.blocks
         datagram.now marks.now result }
 {
-    match read_asked(alloc, datagram.bytes.as_slice()) {
-        Ok(asked) => reply(alloc, read, datagram, asked, marks),
-        Err(QueryFault::Short) => Ok(PlainTurn::Done(None, marks)),
-        Err(QueryFault::Response) => Ok(PlainTurn::Done(None, marks)),
-        Err(QueryFault::NotImp(head)) => {
-            let bytes = header_reply(alloc, head, rcode::NOTIMP)?;
-            Ok(PlainTurn::Done(Some(bytes), marks))
-        }
-        Err(QueryFault::FormErr(head)) => {
-            let bytes = header_reply(alloc, head, rcode::FORMERR)?;
-            Ok(PlainTurn::Done(Some(bytes), marks))
-        }
-        Err(QueryFault::NoMemory) => Err(NoMemory),
+    match arrive(alloc, datagram)? {
+        Arrival::Short => Ok(PlainTurn::Done(None, marks)),
+        Arrival::Response => Ok(PlainTurn::Done(None, marks)),
+        Arrival::Header(bytes) => Ok(PlainTurn::Done(Some(bytes), marks)),
+        Arrival::Asks(asked) => reply(alloc, read, datagram, asked, marks),
     }
 }
 
@@ -79,9 +69,6 @@ fn reply<'a>(
     let query = query_of(datagram, asked);
     if asks_extra(read, opt, class, &query) {
         return Ok(PlainTurn::HasExtra);
-    }
-    if asks_forward(read, opt, class, &query) {
-        return Ok(PlainTurn::HasForward);
     }
     let (decision, left) = match decide(alloc, read, opt, class, &query, marks)? {
         Meant::Done(decision, left) => (decision, left),

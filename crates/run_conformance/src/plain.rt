@@ -19,8 +19,8 @@ pub struct Sources<'a> {
     pub watch: &'a [WatchMark],
 }
 
-/// How many turns of a side the plain evaluator answers otherwise. Of a block with an extra,
-/// `cache` or `forward` it says nothing.
+/// How many turns of a side the plain evaluator answers otherwise. Of a block with an extra it says
+/// nothing.
 pub fn count_differences(
     alloc: Global,
     sources: &Sources<'_>,
@@ -71,8 +71,8 @@ fn is_meant_by(
     match plain_serve(alloc, bundle, port, datagram, taken, &mut maker) {
         Ok(plain) => Ok(plain.used as usize == taken.len() && is_same(sent_in(end), &plain.reply)),
         Err(PlainFault::NoMemory) => Err(CaseFault::NoMemory),
-        // It says nothing of blocks with an extra, `cache` or `forward`.
-        Err(PlainFault::HasExtra | PlainFault::HasForward) => Ok(true),
+        // It says nothing of blocks with an extra.
+        Err(PlainFault::HasExtra) => Ok(true),
         Err(_) => Ok(false),
     }
 }

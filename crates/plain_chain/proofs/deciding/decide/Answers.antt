@@ -6,11 +6,8 @@ use Rattle.chain_meaning.specs.Serving.{block_of, chain_decides, is_known_versio
 use Rattle.chain_meaning.specs.Steps.{steps_of}
 use Rattle.chain_build.specs.Plans.{steps_in}
 use Rattle.plain_chain.proofs.Chosen.{asked-decides, both-true, is-none, none-decides, read-decides, some-extra}
-use Rattle.plain_chain.proofs.Asking.{some-forward}
-use Rattle.plain_chain.specs.Reading.{has_extra, has_forward}
-use Rattle.plugin_api.specs.{Sayings}
-use Rattle.plugin_api.specs.declared.verdict.Verdict.TheVariants as verdict
-use Rattle.plain_chain.proofs.Meaning.{meant-as, means-as}
+use Rattle.plain_chain.specs.Reading.{has_extra}
+use Rattle.plain_marks.specs.MeantLaws.{meant-as, means-as}
 use Rattle.plain_chain.proofs.deciding.decide.Goals as goal
 
 pub decide_by-requires : goal.decide_by-requires
@@ -19,14 +16,9 @@ decide_by-requires c =
     let q = c.args.query.now in
     let known : is_known_version c.args.opt ≡ true = search rules in
     let own : nat_eq c.args.class classes.IN ≡ true = search rules in
-    let pass : Sayings = λ name d q. verdict.Pass in
-    record {
-      own = is-none c.in-Some.chain.now.extras
-          (some-extra read.chains read.blocks c.requires.whole.extras (picked read.blocks q.local q.name) c.in-Some.chain.now c.in-Some.ensures
-          ∙ both-true (is_known_version c.args.opt) (nat_eq c.args.class classes.IN) (has_extra (block_of read.blocks q)) known own c.requires.own);
-      alone = some-forward pass read.files.now read.chains read.blocks (c.requires.whole.chains pass) (picked read.blocks q.local q.name) c.in-Some.chain.now c.in-Some.ensures
-          ∙ both-true (is_known_version c.args.opt) (nat_eq c.args.class classes.IN) (has_forward (block_of read.blocks q)) known own c.requires.alone;
-    }
+    is-none c.in-Some.chain.now.extras
+    (some-extra read.chains read.blocks c.requires.whole.extras (picked read.blocks q.local q.name) c.in-Some.chain.now c.in-Some.ensures
+    ∙ both-true (is_known_version c.args.opt) (nat_eq c.args.class classes.IN) (has_extra (block_of read.blocks q)) known own c.requires.own)
 
 pub returns : goal.returns
 returns c said =

@@ -1,5 +1,5 @@
-use Rattle.std.proofs.Common.{length}
+use Rattle.std.proofs.Common.{length, ◌-◌}
 use Rattle.plain_chain.proofs.evaluating.+decide_run.Given as goal
 
 abbrev pub decreases-decide_run : goal.decreases-decide_run
-decreases-decide_run l = length l.middle.now
+decreases-decide_run g l = length l.middle.now

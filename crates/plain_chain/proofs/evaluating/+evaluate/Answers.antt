@@ -1,28 +1,36 @@
-use Rattle.std.proofs.Common.{◌∙◌}
-use Rattle.outside.specs.Meanings.{onward}
-use Rattle.chain_meaning.specs.Mean.{error_noted, mean, query_noted}
-use Rattle.chain_build.specs.WalkingLaws.{front-end, front-errors, front-log}
+use Rattle.std.proofs.Common.{◌≡◌, subst}
+use Rattle.chain_meaning.specs.Mean.{error_noted, query_noted}
+use Rattle.chain_trail.specs.Trail.{head_name, tail_names, traced}
+use Rattle.chain_trail.specs.Trails.{Trails}
 use Rattle.plain_chain.specs.Steps.{plain_rest, plain_steps}
-use Rattle.plain_chain.proofs.Meaning.{done-at, meant-as}
+use Rattle.plain_chain.proofs.Traced.{front-errors, front-log}
+use Rattle.plain_chain.proofs.Trailing.{ok-noted}
 use Rattle.plain_chain.proofs.evaluating.+evaluate.Goals as goal
 
-pub returns-in_default : goal.returns-in_default
-returns-in_default t c =
-    let behind = plain_rest c.args.chain.now in
-    done-at _ c.args.marks.now _ (λ left. front-end c.args.front.now behind c.args.query.now c.in_default.ensures.cases left ∙ c.in_ok-translate.ensures left)
+pub returns-in-Errors-clause-trails : goal.returns-in-Errors-clause-trails
+returns-in-Errors-clause-trails g t c =
+    let said = g.R.Rulings.said c.args.rulings.now in
+    let chain = c.args.asking.chain.now in
+    let q = c.args.asking.query.now in
+    let names = c.args.names.now in
+    let others = c.in-Some.others.now in
+    let marks = c.args.marks.now in
+    let mid = c.reach.new.trail in
+    let after = c.evaluate.new.trail in
+    ok-noted c.behind_errors.result (head_name names) (traced (plain_steps said others chain) (tail_names names)) q (error_noted q) _ marks c.args.trail.now mid after c.in_ok-meant.meant
+    (front-errors c.in-Some.step.now others (plain_rest said chain) names q c.in-Some.ensures.cases.0 c.in-Errors.is) c.in_ok-reach.ensures
+    (subst (λ ns. Trails (traced (plain_steps said others chain) ns q) marks mid after c.in_ok-meant.meant) c.rest_of.ensures c.in_ok-meant.ensures.trails) c.behind_errors.ensures
 
-pub returns-in_ok-meant-in-Errors : goal.returns-in_ok-meant-in-Errors
-returns-in_ok-meant-in-Errors t c =
-    let behind = plain_rest c.args.chain.now in
-    let rest = mean (plain_steps c.in-Some.rest.now c.args.chain.now) c.args.query.now in
-    meant-as c.behind_errors.result (λ some. onward (rest some) (error_noted c.args.query.now)) _ c.args.marks.now
-    (front-errors c.in-Some.step.now c.in-Some.rest.now behind c.args.query.now c.in-Some.ensures.cases.0 c.in-Errors.is)
-    (c.behind_errors.ensures rest c.args.marks.now c.in_ok-meant-in-Errors.ensures)
-
-pub returns-in_ok-meant-in-Log : goal.returns-in_ok-meant-in-Log
-returns-in_ok-meant-in-Log t c =
-    let behind = plain_rest c.args.chain.now in
-    let rest = mean (plain_steps c.in-Some.rest.now c.args.chain.now) c.args.query.now in
-    meant-as c.behind_log.result (λ some. onward (rest some) (query_noted c.in-Log.plan c.args.query.now)) _ c.args.marks.now
-    (front-log c.in-Some.step.now c.in-Some.rest.now behind c.args.query.now c.in-Some.ensures.cases.0 c.in-Log.plan c.in-Log.is)
-    (c.behind_log.ensures rest c.args.marks.now c.in_ok-meant-in-Log.ensures)
+pub returns-in-Log-clause-trails : goal.returns-in-Log-clause-trails
+returns-in-Log-clause-trails g t c =
+    let said = g.R.Rulings.said c.args.rulings.now in
+    let chain = c.args.asking.chain.now in
+    let q = c.args.asking.query.now in
+    let names = c.args.names.now in
+    let others = c.in-Some.others.now in
+    let marks = c.args.marks.now in
+    let mid = c.reach.new.trail in
+    let after = c.evaluate.new.trail in
+    ok-noted c.behind_log.result (head_name names) (traced (plain_steps said others chain) (tail_names names)) q (query_noted c.in-Log.plan q) _ marks c.args.trail.now mid after c.in_ok-meant.meant
+    (front-log c.in-Some.step.now others (plain_rest said chain) names q c.in-Some.ensures.cases.0 c.in-Log.plan c.in-Log.is) c.in_ok-reach.ensures
+    (subst (λ ns. Trails (traced (plain_steps said others chain) ns q) marks mid after c.in_ok-meant.meant) c.rest_of.ensures c.in_ok-meant.ensures.trails) c.behind_log.ensures

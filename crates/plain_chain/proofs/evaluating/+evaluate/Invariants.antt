@@ -1,5 +1,5 @@
-use Rattle.std.proofs.Common.{length}
+use Rattle.std.proofs.Common.{length, ◌-◌}
 use Rattle.plain_chain.proofs.evaluating.+evaluate.Given as goal
 
 abbrev pub decreases-evaluate : goal.decreases-evaluate
-decreases-evaluate l = length l.front.now
+decreases-evaluate g l = length l.front.now

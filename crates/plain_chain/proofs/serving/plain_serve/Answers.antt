@@ -33,13 +33,6 @@ returns-in-HasExtra-clause-serves g c =
     let turn = rw c.in-HasExtra.is at (c.in_ok-reply.ensures pass) in
     record { blocks = c.in-Ok.read.blocks; accepted = reads.accepted; is = turn }
 
-pub returns-in-HasForward-clause-serves : goal.returns-in-HasForward-clause-serves
-returns-in-HasForward-clause-serves g c =
-    let pass : Sayings = λ name d q. verdict.Pass in
-    let reads = c.in-Ok.ensures.reads in
-    let turn = rw c.in-HasForward.is at (c.in_ok-reply.ensures pass) in
-    record { blocks = c.in-Ok.read.blocks; accepted = reads.accepted; is = turn }
-
 pub returns-in-More-clause-serves : goal.returns-in-More-clause-serves
 returns-in-More-clause-serves g c =
     let reads = c.in-Ok.ensures.reads in

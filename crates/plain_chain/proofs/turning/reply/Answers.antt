@@ -2,7 +2,7 @@ use Rattle.std.proofs.Common.{◌≡◌, ◌∙◌, inr, sym, subst, rules}
 use Rattle.chain_meaning.specs.Serving.{Replies, query_decides}
 use Rattle.chain_meaning.specs.Steps.{steps_of}
 use Rattle.chain_meaning.specs.declared.decision.Decision.TheVariants as decision
-use Rattle.plain_chain.specs.Meant.{Means}
+use Rattle.plain_marks.specs.Meant.{Means}
 use Rattle.plain_chain.proofs.Turned.{decides-so, stops-at, wants-more}
 use Rattle.plain_chain.proofs.turning.reply.Goals as goal
 
@@ -13,8 +13,7 @@ returns-in-More c said =
     let steps = steps_of said read.files.now in
     let q = c.query_of-query.result in
     let without = sym c.asks_extra.ensures ∙ c.if-asks_extra.false in
-    let quiet = sym c.asks_forward.ensures ∙ c.if-asks_forward.false in
-    wants-more steps read.blocks c.args.datagram.now a c.args.marks.now q c.query_of-query.ensures c.requires.asks without quiet
+    wants-more steps read.blocks c.args.datagram.now a c.args.marks.now q c.query_of-query.ensures c.requires.asks without
     (subst (Means (query_decides a.opt a.question.class steps read.blocks q) c.args.marks.now) c.in-More.is (c.in_ok-decision.ensures said))
 
 pub returns-in-Off : goal.returns-in-Off
@@ -24,8 +23,7 @@ returns-in-Off c said =
     let steps = steps_of said read.files.now in
     let q = c.query_of-query.result in
     let without = sym c.asks_extra.ensures ∙ c.if-asks_extra.false in
-    let quiet = sym c.asks_forward.ensures ∙ c.if-asks_forward.false in
-    stops-at steps read.blocks c.args.datagram.now a c.args.marks.now q c.query_of-query.ensures c.requires.asks without quiet c.in-Off.left.now
+    stops-at steps read.blocks c.args.datagram.now a c.args.marks.now q c.query_of-query.ensures c.requires.asks without c.in-Off.left.now
     (subst (Means (query_decides a.opt a.question.class steps read.blocks q) c.args.marks.now) c.in-Off.is (c.in_ok-decision.ensures said))
 
 pub returns-then-not-branch : goal.returns-then-not-branch
@@ -35,10 +33,9 @@ returns-then-not-branch c said =
     let steps = steps_of said read.files.now in
     let q = c.query_of-query.result in
     let without = sym c.asks_extra.ensures ∙ c.if-asks_extra.false in
-    let quiet = sym c.asks_forward.ensures ∙ c.if-asks_forward.false in
     let done = subst (Means (query_decides a.opt a.question.class steps read.blocks q) c.args.marks.now) c.in-Done.is (c.in_ok-decision.ensures said) in
     let dropped : c.in-Done.decision ≡ decision.Drop = search rules in
-    inr (decides-so steps read.blocks c.args.datagram.now a c.args.marks.now q c.query_of-query.ensures c.requires.asks without quiet (λ asked v. v ≡ decision.Drop) c.in-Done.decision c.in-Done.left.now done dropped)
+    inr (decides-so steps read.blocks c.args.datagram.now a c.args.marks.now q c.query_of-query.ensures c.requires.asks without (λ asked v. v ≡ decision.Drop) c.in-Done.decision c.in-Done.left.now done dropped)
 
 pub returns : goal.returns
 returns c said =
@@ -48,7 +45,6 @@ returns c said =
     let steps = steps_of said read.files.now in
     let q = c.query_of-query.result in
     let without = sym c.asks_extra.ensures ∙ c.if-asks_extra.false in
-    let quiet = sym c.asks_forward.ensures ∙ c.if-asks_forward.false in
     let done = subst (Means (query_decides a.opt a.question.class steps read.blocks q) c.args.marks.now) c.in-Done.is (c.in_ok-decision.ensures said) in
     let replies : Replies d c.in_ok-bytes.bytes a c.in-Done.decision = search rules in
-    inr (decides-so steps read.blocks d a c.args.marks.now q c.query_of-query.ensures c.requires.asks without quiet (Replies d c.in_ok-bytes.bytes) c.in-Done.decision c.in-Done.left.now done replies)
+    inr (decides-so steps read.blocks d a c.args.marks.now q c.query_of-query.ensures c.requires.asks without (Replies d c.in_ok-bytes.bytes) c.in-Done.decision c.in-Done.left.now done replies)

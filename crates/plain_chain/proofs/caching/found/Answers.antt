@@ -1,0 +1,1 @@
+use Rattle.plain_chain.proofs.caching.found.Goals as goal

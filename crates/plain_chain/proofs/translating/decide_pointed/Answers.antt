@@ -1,0 +1,1 @@
+use Rattle.plain_chain.proofs.translating.decide_pointed.Goals as goal
